@@ -1,0 +1,132 @@
+-- Laws of strokes.
+use Rattle.std.proofs.Common.{◌≡◌, ℕ, Bool, true, false, ◌&&◌, ◌||◌, Option, List, [], ◌∷◌, ◌++◌, Some, None, option_map, if◌then◌else◌, refl, ◌∙◌, ap, sym, arith}
+use Rattle.std.proofs.lemmas.Bool.Decides.{nat_tests}
+use Rattle.tui_cells.specs.declared.rect.Rect.{Rect}
+use Rattle.tui_cells.specs.Rect.{covers, is_empty}
+use Rattle.tui_cells.specs.Layers.{StayIn}
+use Rattle.tui_cells.specs.Cell.{Look, Edit, edited}
+use Rattle.tui_cells.specs.Buffer.{Screen, cell_at}
+use Rattle.tui_cells.specs.Layers.{Painted, KeptOutside, Layer, stroke, layers_at, over, edits}
+
+-- at one place, the third region is the first two together, which do not meet
+abbrev pub Joins : (r s t : Bool) → Type 0
+Joins r s t = ((r && s) ≡ false) × (t ≡ (r || s))
+
+-- two strokes of one change over one cell, not both there
+join_at : (e : Edit) (r s t : Bool) (o : Option Look) → Joins r s t →
+    option_map (λ c. if s then edited e c else c) (option_map (λ c. if r then edited e c else c) o)
+    ≡ option_map (λ c. if t then edited e c else c) o
+join_at e r s t None j = refl
+join_at e true true t (Some c) j = cc
+join_at e true false t (Some c) j = rw j.1 refl
+join_at e false true t (Some c) j = rw j.1 refl
+join_at e false false t (Some c) j = rw j.1 refl
+
+-- two strokes of one change over regions that do not meet are one
+pub Painted-join : (R S T : ℕ → ℕ → Bool) (e : Edit) (a b c : Screen) →
+    Painted (stroke R e) a b → Painted (stroke S e) b c →
+    ((x y : ℕ) → Joins (R x y) (S x y) (T x y)) → Painted (stroke T e) a c
+Painted-join R S T e a b c p q j = record {
+  area = q.area ∙ p.area;
+  cells = λ x y. q.cells x y ∙ (ap (option_map (layers_at (stroke S e) x y)) (p.cells x y) ∙ join_at e (R x y) (S x y) (T x y) (cell_at a x y) (j x y));
+}
+
+-- the layers of two lists in turn
+pub layers_at-append : (ls ms : List Layer) (x y : ℕ) (c : Look) → layers_at (ls ++ ms) x y c ≡ layers_at ms x y (layers_at ls x y c)
+layers_at-append [] ms x y c = refl
+layers_at-append (l ∷ ls) ms x y c = layers_at-append ls ms x y (if l.region x y then edited l.edit c else c)
+
+append_at : (ls ms : List Layer) (x y : ℕ) (o : Option Look) →
+    option_map (layers_at ms x y) (option_map (layers_at ls x y) o) ≡ option_map (layers_at (ls ++ ms) x y) o
+append_at ls ms x y None = refl
+append_at ls ms x y (Some c) = ap Some (sym (layers_at-append ls ms x y c))
+
+-- layers, and then others
+pub Painted-append : (ls ms : List Layer) (a b c : Screen) → Painted ls a b → Painted ms b c → Painted (ls ++ ms) a c
+Painted-append ls ms a b c p q = record {
+  area = q.area ∙ p.area;
+  cells = λ x y. q.cells x y ∙ (ap (option_map (layers_at ms x y)) (p.cells x y) ∙ append_at ls ms x y (cell_at a x y));
+}
+
+-- the same, its parts found from the facts
+pub Painted-then : {ls ms : List Layer} {a b c : Screen} → Painted ls a b → Painted ms b c → Painted (ls ++ ms) a c
+Painted-then {ls = ls} {ms = ms} {a = a} {b = b} {c = c} p q = Painted-append ls ms a b c p q
+
+pub KeptOutside-then : {region : ℕ → ℕ → Bool} {a b c : Screen} → KeptOutside region a b → KeptOutside region b c → KeptOutside region a c
+KeptOutside-then p q = record { area = q.area ∙ p.area; cells = λ x y out. q.cells x y out ∙ p.cells x y out }
+
+same_at : (ls ms : List Layer) (x y : ℕ) (o : Option Look) → ((c : Look) → layers_at ls x y c ≡ layers_at ms x y c) →
+    option_map (layers_at ls x y) o ≡ option_map (layers_at ms x y) o
+same_at ls ms x y None e = refl
+same_at ls ms x y (Some c) e = ap Some (e c)
+
+-- strokes that do the same at each place
+pub Painted-same : {ls ms : List Layer} {a b : Screen} → ((x y : ℕ) (c : Look) → layers_at ls x y c ≡ layers_at ms x y c) → Painted ls a b → Painted ms a b
+Painted-same {ls = ls} {ms = ms} {a = a} e p = record { area = p.area; cells = λ x y. p.cells x y ∙ same_at ls ms x y (cell_at a x y) (e x y) }
+
+none_at : (x y : ℕ) (o : Option Look) → o ≡ option_map (layers_at [] x y) o
+none_at x y None = refl
+none_at x y (Some c) = refl
+
+-- no stroke
+pub Painted-none : (b : Screen) → Painted [] b b
+Painted-none b = record { area = refl; cells = λ x y. none_at x y (cell_at b x y) }
+
+over_true : (R : ℕ → ℕ → Bool) (es : List Edit) (x y : ℕ) (c : Look) → R x y ≡ true → layers_at (over R es) x y c ≡ edits es c
+over_true R [] x y c e = refl
+over_true R (f ∷ es) x y c e = ap (λ (b : Bool). layers_at (over R es) x y (if b then edited f c else c)) e ∙ over_true R es x y (edited f c) e
+
+over_false : (R : ℕ → ℕ → Bool) (es : List Edit) (x y : ℕ) (c : Look) → R x y ≡ false → layers_at (over R es) x y c ≡ c
+over_false R [] x y c e = refl
+over_false R (f ∷ es) x y c e = ap (λ (b : Bool). layers_at (over R es) x y (if b then edited f c else c)) e ∙ over_false R es x y c e
+
+join_over : (R S T : ℕ → ℕ → Bool) (es : List Edit) (x y : ℕ) (r s t : Bool) → R x y ≡ r → S x y ≡ s → T x y ≡ t → Joins r s t →
+    (c : Look) → layers_at (over S es) x y (layers_at (over R es) x y c) ≡ layers_at (over T es) x y c
+join_over R S T es x y true true t p q u j c = cc
+join_over R S T es x y true false t p q u j c =
+    over_false S es x y (layers_at (over R es) x y c) q ∙ (over_true R es x y c p ∙ sym (over_true T es x y c (u ∙ j.1)))
+join_over R S T es x y false true t p q u j c =
+    ap (layers_at (over S es) x y) (over_false R es x y c p) ∙ (over_true S es x y c q ∙ sym (over_true T es x y c (u ∙ j.1)))
+join_over R S T es x y false false t p q u j c =
+    ap (layers_at (over S es) x y) (over_false R es x y c p) ∙ (over_false S es x y c q ∙ sym (over_false T es x y c (u ∙ j.1)))
+
+join_over_cell : (R S T : ℕ → ℕ → Bool) (es : List Edit) (x y : ℕ) (o : Option Look) → Joins (R x y) (S x y) (T x y) →
+    option_map (layers_at (over S es) x y) (option_map (layers_at (over R es) x y) o) ≡ option_map (layers_at (over T es) x y) o
+join_over_cell R S T es x y None j = refl
+join_over_cell R S T es x y (Some c) j = ap Some (join_over R S T es x y (R x y) (S x y) (T x y) refl refl refl j c)
+
+-- the same strokes over regions that do not meet are those strokes over both
+pub Painted-over : (R S T : ℕ → ℕ → Bool) (es : List Edit) (a b c : Screen) →
+    Painted (over R es) a b → Painted (over S es) b c →
+    ((x y : ℕ) → Joins (R x y) (S x y) (T x y)) → Painted (over T es) a c
+Painted-over R S T es a b c p q j = record {
+  area = q.area ∙ p.area;
+  cells = λ x y. q.cells x y ∙ (ap (option_map (layers_at (over S es) x y)) (p.cells x y) ∙ join_over_cell R S T es x y (cell_at a x y) (j x y));
+}
+
+-- the same strokes over regions that agree
+pub Painted-region : (R S : ℕ → ℕ → Bool) (es : List Edit) (a b : Screen) →
+    Painted (over R es) a b → ((x y : ℕ) → R x y ≡ S x y) → Painted (over S es) a b
+Painted-region R S es a b p e = Painted-same (λ x y c. region_at R S es x y (R x y) refl (e x y) c) p
+  where
+    region_at : (R S : ℕ → ℕ → Bool) (es : List Edit) (x y : ℕ) (r : Bool) → R x y ≡ r → R x y ≡ S x y → (c : Look) →
+        layers_at (over R es) x y c ≡ layers_at (over S es) x y c
+    region_at R S es x y true p e c = over_true R es x y c p ∙ sym (over_true S es x y c (sym e ∙ p))
+    region_at R S es x y false p e c = over_false R es x y c p ∙ sym (over_false S es x y c (sym e ∙ p))
+
+pub KeptOutside-weaker : {R S : ℕ → ℕ → Bool} {a b : Screen} → ((x y : ℕ) → S x y ≡ false → R x y ≡ false) → KeptOutside R a b → KeptOutside S a b
+KeptOutside-weaker e p = record { area = p.area; cells = λ x y out. p.cells x y (e x y out) }
+
+empty_covers : (clip : Rect) (x y : ℕ) → is_empty clip ≡ true → covers clip x y ≡ false
+empty_covers clip x y e = grind (arith, nat_tests)
+
+still_at : (ls : List Layer) (x y : ℕ) (o : Option Look) → ((c : Look) → layers_at ls x y c ≡ c) → o ≡ option_map (layers_at ls x y) o
+still_at ls x y None e = refl
+still_at ls x y (Some c) e = ap Some (sym (e c))
+
+-- over an empty clip strokes that stay in it do nothing
+pub Painted-empty : {ls : List Layer} (clip : Rect) (b : Screen) → StayIn (covers clip) ls → is_empty clip ≡ true → Painted ls b b
+Painted-empty {ls = ls} clip b s e = record {
+  area = refl;
+  cells = λ x y. still_at ls x y (cell_at b x y) (s.cell x y (empty_covers clip x y e));
+}

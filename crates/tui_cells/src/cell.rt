@@ -1,0 +1,132 @@
+//! Cells of a buffer.
+
+ghost use Rattle.std.specs.Prelude.{◌≡◌, ◌<◌, IsOk, IfOk, OnOk, OnErr, length, string_bytes};
+ghost use Rattle.tui_cells.specs.Attributes.{look_of};
+ghost use Rattle.tui_cells.specs.Cell.{IsLight, blank, dress, edited, put, wipe};
+
+use crate::attributes::Attributes;
+use crate::color::Color;
+use crate::content::{Content, SHORT, blank_symbol};
+use crate::memory::Mem;
+use crate::modifier::Modifier;
+use crate::style::Style;
+use arrayvec::ArrayString;
+use std::alloc::Global;
+use std::marker::Model;
+use std::rc::Rc;
+
+/// A symbol, which is a text that is not empty, with its colours and modifiers. A symbol of at most 8 bytes stands in the
+/// cell; a longer one takes memory.
+#[derive(Drop)]
+pub struct Cell {
+    alloc: Global,
+    content: Content,
+}
+
+impl Model for Cell {
+    ghost use Rattle.tui_cells.specs.Attributes.{content_look};
+    ghost use Rattle.tui_cells.specs.Cell.{Look};
+
+    ghost Value = { Look };
+
+    ghost view = { λ c. content_look c.content };
+}
+
+impl Cell {
+    /// A blank cell: one blank, both colours Reset, no modifier.
+    pub fn new(alloc: Global) -> Cell
+        ensures { result ≡ blank }
+    {
+        Cell {
+            alloc,
+            content: Content::Short(Attributes::at_rest(), blank_symbol()),
+        }
+    }
+
+    /// The symbol, which is never empty.
+    pub fn symbol(&self) -> &str
+        ensures { result.now ≡ self.now.symbol }
+    {
+        self.content.symbol()
+    }
+
+    /// The colours and the modifiers at once.
+    pub fn attributes(&self) -> Attributes
+        ensures { look_of self.now.symbol result ≡ self.now }
+    {
+        self.content.attributes()
+    }
+
+    /// The foreground.
+    pub fn fg(&self) -> Color
+        ensures { result ≡ self.now.fg }
+    {
+        self.content.attributes().fg
+    }
+
+    /// The background.
+    pub fn bg(&self) -> Color
+        ensures { result ≡ self.now.bg }
+    {
+        self.content.attributes().bg
+    }
+
+    /// The modifiers.
+    pub fn modifier(&self) -> Modifier
+        ensures { result.bits ≡ self.now.modifier }
+    {
+        self.content.attributes().modifier
+    }
+
+    /// Sets the symbol alone; the empty text gives one blank. At NoMemory the cell is as before. A text of at most 8 bytes
+    /// takes no memory.
+    pub fn set_symbol(&mut self, symbol: &str) -> Mem<()>
+        ensures ok { OnOk result (self.new ≡ edited (put symbol.now) self.old) }
+        ensures err { OnErr result (self.new ≡ self.old) }
+        ensures light { IsLight symbol.now → IsOk result }
+    {
+        self.content = Content::of(self.alloc, symbol, self.content.attributes())?;
+        Ok(())
+    }
+
+    /// Sets the colours that are given, adds the added modifiers and then takes out the removed ones.
+    pub fn set_style(&mut self, style: Style)
+        ensures { self.new ≡ edited (dress style) self.old }
+    {
+        self.content.set_style(style);
+    }
+
+    /// Makes the cell blank.
+    pub fn reset(&mut self)
+        ensures { self.new ≡ edited wipe self.old }
+    {
+        self.content = Content::Short(Attributes::at_rest(), blank_symbol());
+    }
+
+    pub(crate) fn set_short(&mut self, symbol: ArrayString<SHORT>)
+        requires { 0 < length symbol.bytes }
+        ensures { self.new ≡ edited (put symbol.bytes) self.old }
+    {
+        self.content = Content::Short(self.content.attributes(), symbol);
+    }
+
+    /// Sets a symbol that cells share.
+    pub(crate) fn set_shared(&mut self, symbol: &Rc<String>) -> Mem<()>
+        requires { 0 < length (string_bytes symbol.now.value) }
+        ensures ok { OnOk result (self.new ≡ edited (put (string_bytes symbol.now.value)) self.old) }
+        ensures err { OnErr result (self.new ≡ self.old) }
+    {
+        self.content = Content::Long(self.content.attributes(), symbol.clone()?);
+        Ok(())
+    }
+
+    /// Another cell that shows the same.
+    pub(crate) fn duplicate(&self) -> Mem<Cell>
+        ensures { IfOk result (λ cell. cell ≡ self.now) }
+    {
+        Ok(Cell {
+            alloc: self.alloc,
+            content: self.content.duplicate()?,
+        })
+    }
+}

@@ -1,0 +1,101 @@
+//! How a cell keeps what it shows.
+
+ghost use Rattle.std.specs.Prelude.{◌≡◌, ◌<◌, IsOk, IfOk, length, string_bytes};
+ghost use Rattle.std.specs.Char.{encode_utf8};
+ghost use Rattle.tui_cells.specs.Attributes.{content_look, look_of};
+ghost use Rattle.tui_cells.specs.Cell.{IsLight, dressed, space, symbol_of};
+
+use crate::attributes::Attributes;
+use crate::memory::Mem;
+use crate::style::Style;
+use arrayvec::ArrayString;
+use std::alloc::Global;
+use std::rc::Rc;
+
+/// The bytes of a symbol that stands in its cell.
+pub(crate) const SHORT: usize = 8;
+
+/// Attributes and a symbol: in place up to 8 bytes, else a text that cells share.
+#[derive(Drop)]
+pub(crate) enum Content {
+    Short(Attributes, ArrayString<SHORT>),
+    Long(Attributes, Rc<String>),
+}
+
+/// One blank in place of the empty text.
+pub(crate) fn shown(symbol: &str) -> &str
+    ensures { result.now ≡ symbol_of symbol.now }
+{
+    if symbol.is_empty() { " " } else { symbol }
+}
+
+pub(crate) fn blank_symbol() -> ArrayString<SHORT>
+    ensures { result.bytes ≡ space }
+{
+    let mut symbol = ArrayString::new();
+    symbol.push(' ');
+    symbol
+}
+
+#[tactic(auto, using(crate::proofs::Showing::char_bytes))]
+pub(crate) fn char_symbol(c: char) -> ArrayString<SHORT>
+    ensures is { result.bytes ≡ encode_utf8 c }
+    ensures some { 0 < length result.bytes }
+{
+    let mut symbol = ArrayString::new();
+    symbol.push(c);
+    symbol
+}
+
+impl Content {
+    pub(crate) fn of(alloc: Global, text: &str, attributes: Attributes) -> Mem<Content>
+        ensures ok { IfOk result (λ c. content_look c ≡ look_of (symbol_of text.now) attributes) }
+        ensures light { IsLight text.now → IsOk result }
+    {
+        let text = shown(text);
+        match ArrayString::from(text) {
+            Ok(short) => Ok(Content::Short(attributes, short)),
+            Err(_) => {
+                let text = String::from_str(alloc, text)?;
+                Ok(Content::Long(attributes, Rc::new(alloc, text)?))
+            }
+        }
+    }
+
+    pub(crate) fn attributes(&self) -> Attributes
+        ensures { look_of (content_look self.now).symbol result ≡ content_look self.now }
+    {
+        match self {
+            Content::Short(attributes, _) => *attributes,
+            Content::Long(attributes, _) => *attributes,
+        }
+    }
+
+    pub(crate) fn symbol(&self) -> &str
+        ensures { result.now ≡ (content_look self.now).symbol }
+    {
+        match self {
+            Content::Short(_, symbol) => symbol.as_str(),
+            Content::Long(_, symbol) => symbol.as_str(),
+        }
+    }
+
+    pub(crate) fn set_style(&mut self, style: Style)
+        ensures { content_look self.new ≡ dressed style (content_look self.old) }
+    {
+        match self {
+            Content::Short(attributes, _) => attributes.set_style(style),
+            Content::Long(attributes, _) => attributes.set_style(style),
+        }
+    }
+
+    /// The same content; a long symbol is shared.
+    pub(crate) fn duplicate(&self) -> Mem<Content>
+        ensures { IfOk result (λ c. content_look c ≡ content_look self.now) }
+    {
+        match self {
+            Content::Short(attributes, symbol) => Ok(Content::Short(*attributes, *symbol)),
+            Content::Long(attributes, symbol) => Ok(Content::Long(*attributes, symbol.clone()?)),
+        }
+    }
+}

@@ -1,0 +1,32 @@
+//! Cells of a terminal screen: rectangles, styles, cells, buffers of cells, and the traits of what is drawn into them.
+#![tactic(auto)]
+
+pub mod attributes;
+pub mod buffer;
+pub mod cell;
+pub mod color;
+mod content;
+pub mod error;
+pub mod memory;
+pub mod modifier;
+pub mod position;
+pub mod rect;
+mod row;
+pub mod style;
+pub mod styled;
+#[cfg(test)]
+mod tests;
+pub mod widget;
+
+pub use attributes::Attributes;
+pub use buffer::Buffer;
+pub use cell::Cell;
+pub use color::Color;
+pub use error::ParseError;
+pub use memory::{Mem, NoMemory};
+pub use modifier::Modifier;
+pub use position::Position;
+pub use rect::Rect;
+pub use style::Style;
+pub use styled::Styled;
+pub use widget::Widget;

@@ -1,0 +1,248 @@
+//! Values worked by hand, and each call once with ample memory.
+
+use crate::{Buffer, Cell, Color, Mem, Modifier, ParseError, Position, Rect, Style};
+use bitflags::Flags;
+use std::alloc::Global;
+use std::test::Fail;
+
+/// The symbols of a buffer, with a newline after each row.
+fn shown(alloc: Global, buffer: &Buffer) -> Mem<String> {
+    let mut text = String::new(alloc);
+    for y in 0..buffer.height() {
+        for cell in buffer.row_at(y) {
+            text.push_str(cell.symbol())?;
+        }
+        text.push('\n')?;
+    }
+    Ok(text)
+}
+
+fn symbol_at(buffer: &Buffer, x: u16, y: u16) -> Option<&str> {
+    buffer.cell(Position::new(x, y)).map(|cell| cell.symbol())
+}
+
+#[test]
+fn areas(rt: HostRuntime) {
+    let cut = Rect::new(65530, 65534, 10, 3);
+    assert_eq!(rt;
+        (cut.left(), cut.top(), cut.right(), cut.bottom()),
+        (65530, 65534, 65535, 65535)
+    );
+    assert_eq!(rt; (cut.width, cut.height), (5, 1));
+    let wide = Rect {
+        x: 65530,
+        y: 0,
+        width: 10,
+        height: 1,
+    };
+    assert_eq!(rt; wide.right(), 65535);
+    assert!(rt; Rect::ZERO.is_empty() && !cut.is_empty());
+    let small = Rect::new(0, 0, 3, 2);
+    let cases = [
+        (Rect::new(1, 1, 100, 100), Rect::new(1, 1, 2, 1)),
+        (Rect::new(3, 0, 5, 5), Rect::new(3, 0, 0, 2)),
+        (Rect::new(100, 0, 5, 5), Rect::new(100, 0, 0, 2)),
+    ];
+    for (area, both) in cases {
+        assert_eq!(rt; area.intersection(small), both);
+        assert_eq!(rt; small.intersection(area), both);
+    }
+    let corners = [(0, 0, true), (2, 1, true), (3, 1, false), (2, 2, false)];
+    for (x, y, inside) in corners {
+        assert_eq!(rt; small.contains(Position::new(x, y)), inside);
+    }
+}
+
+#[test]
+fn colors(rt: HostRuntime) -> Result<(), Fail> {
+    let names = [
+        (Color::Reset, "Reset"),
+        (Color::Black, "Black"),
+        (Color::Red, "Red"),
+        (Color::Green, "Green"),
+        (Color::Yellow, "Yellow"),
+        (Color::Blue, "Blue"),
+        (Color::Magenta, "Magenta"),
+        (Color::Cyan, "Cyan"),
+        (Color::Gray, "Gray"),
+        (Color::DarkGray, "DarkGray"),
+        (Color::LightRed, "LightRed"),
+        (Color::LightGreen, "LightGreen"),
+        (Color::LightYellow, "LightYellow"),
+        (Color::LightBlue, "LightBlue"),
+        (Color::LightMagenta, "LightMagenta"),
+        (Color::LightCyan, "LightCyan"),
+        (Color::White, "White"),
+        (Color::Rgb(100, 120, 140), "Rgb(100, 120, 140)"),
+        (Color::Indexed(7), "Indexed(7)"),
+    ];
+    for (color, name) in names {
+        let text = format!(in rt.alloc(); "{color:?}")?;
+        assert!(rt; text.as_str() == name, "at {text}");
+    }
+    Ok(())
+}
+
+#[test]
+fn modifiers(rt: HostRuntime) {
+    let names = [
+        ("BOLD", Modifier::BOLD, 1),
+        ("DIM", Modifier::DIM, 2),
+        ("ITALIC", Modifier::ITALIC, 4),
+        ("UNDERLINED", Modifier::UNDERLINED, 8),
+        ("SLOW_BLINK", Modifier::SLOW_BLINK, 16),
+        ("RAPID_BLINK", Modifier::RAPID_BLINK, 32),
+        ("REVERSED", Modifier::REVERSED, 64),
+        ("HIDDEN", Modifier::HIDDEN, 128),
+        ("CROSSED_OUT", Modifier::CROSSED_OUT, 256),
+    ];
+    for (name, modifier, bits) in names {
+        assert_eq!(rt; modifier.bits(), bits, "at {name}");
+        assert!(rt; Modifier::from_name(name) == Some(modifier), "at {name}");
+    }
+    let both = Modifier::BOLD.union(Modifier::ITALIC);
+    assert_eq!(rt; both.bits(), 5);
+    assert!(rt;
+        both.contains(Modifier::ITALIC) && !both.contains(Modifier::BOLD.union(Modifier::DIM))
+    );
+    assert_eq!(rt; Modifier::empty().bits(), 0);
+}
+
+#[test]
+fn styles(rt: HostRuntime) {
+    let first = Style::new()
+        .fg(Color::Red)
+        .add_modifier(Modifier::BOLD.union(Modifier::DIM));
+    let later = Style::new()
+        .bg(Color::Blue)
+        .remove_modifier(Modifier::BOLD)
+        .add_modifier(Modifier::ITALIC);
+    let both = first.patch(later);
+    assert_eq!(rt; (both.fg, both.bg), (Some(Color::Red), Some(Color::Blue)));
+    assert_eq!(rt;
+        (both.add_modifier.bits(), both.sub_modifier.bits()),
+        (6, 1)
+    );
+    let back = later.patch(first);
+    assert_eq!(rt; (back.fg, back.bg), (Some(Color::Red), Some(Color::Blue)));
+    assert_eq!(rt;
+        (back.add_modifier.bits(), back.sub_modifier.bits()),
+        (7, 0)
+    );
+    assert_eq!(rt; first.patch(first.fg(Color::Green)).fg, Some(Color::Green));
+    assert_eq!(rt; first.patch(Style::default()), first);
+}
+
+#[test]
+fn cells(rt: HostRuntime) -> Result<(), Fail> {
+    let mut cell = Cell::new(rt.alloc());
+    assert_eq!(rt; cell.symbol(), " ");
+    cell.set_symbol("\u{30b3}")?;
+    cell.set_style(
+        Style::new()
+            .fg(Color::Red)
+            .add_modifier(Modifier::BOLD.union(Modifier::DIM)),
+    );
+    cell.set_style(
+        Style::new()
+            .bg(Color::Indexed(7))
+            .remove_modifier(Modifier::DIM),
+    );
+    assert_eq!(rt; cell.symbol(), "\u{30b3}");
+    assert_eq!(rt;
+        (cell.fg(), cell.bg(), cell.modifier()),
+        (Color::Red, Color::Indexed(7), Modifier::BOLD)
+    );
+    assert_eq!(rt; cell.attributes().bg, Color::Indexed(7));
+    cell.set_symbol("")?;
+    assert_eq!(rt; cell.symbol(), " ");
+    cell.reset();
+    assert_eq!(rt;
+        (cell.fg(), cell.bg(), cell.modifier()),
+        (Color::Reset, Color::Reset, Modifier::empty())
+    );
+    assert_eq!(rt; cell.attributes(), Cell::new(rt.alloc()).attributes());
+    Ok(())
+}
+
+#[test]
+fn texts(rt: HostRuntime) -> Result<(), Fail> {
+    let alloc = rt.alloc();
+    let cases = [
+        ("ab\ncd", 2, 2, "ab\ncd\n"),
+        ("", 0, 1, "\n"),
+        ("ab\n", 2, 2, "ab\n  \n"),
+        ("a\n\n\u{30b3}bc", 3, 3, "a  \n   \n\u{30b3}bc\n"),
+    ];
+    for (text, width, height, rows) in cases {
+        let buffer = Buffer::from_rows(alloc, text)?;
+        assert_eq!(rt; buffer.area(), Rect::new(0, 0, width, height), "at {text}");
+        assert!(rt; shown(alloc, &buffer)?.as_str() == rows, "at {text}");
+    }
+    let buffer = Buffer::from_rows(alloc, "ab\ncd")?;
+    assert_eq!(rt; symbol_at(&buffer, 1, 1), Some("d"));
+    assert_eq!(rt; symbol_at(&buffer, 2, 0), None);
+    Ok(())
+}
+
+#[test]
+fn buffers(rt: HostRuntime) -> Result<(), Fail> {
+    let alloc = rt.alloc();
+    let mut cell = Cell::new(alloc);
+    cell.set_symbol("x")?;
+    let mut buffer = Buffer::filled(alloc, Rect::new(0, 0, 2, 1), &cell)?;
+    assert_eq!(rt; shown(alloc, &buffer)?.as_str(), "xx\n");
+    buffer.set_symbol(Position::new(1, 0), "yz")?;
+    buffer.set_symbol(Position::new(2, 0), "a symbol of more than 8 bytes")?;
+    buffer.set_style(Rect::new(1, 0, 9, 9), Style::new().bg(Color::Blue));
+    assert_eq!(rt; shown(alloc, &buffer)?.as_str(), "xyz\n");
+    assert_eq!(rt;
+        buffer.cell(Position::new(0, 0)).map(|cell| cell.bg()),
+        Some(Color::Reset)
+    );
+    assert_eq!(rt;
+        buffer.cell(Position::new(1, 0)).map(|cell| cell.bg()),
+        Some(Color::Blue)
+    );
+    buffer.reset(Rect::new(1, 0, 1, 1));
+    assert_eq!(rt; shown(alloc, &buffer)?.as_str(), "x \n");
+    Ok(())
+}
+
+// 31 bytes, which the cells share.
+const LONG: &str = "0123456789abcdef0123456789abcde";
+
+#[test]
+fn fills(rt: HostRuntime) -> Result<(), Fail> {
+    let alloc = rt.alloc();
+    let mut buffer = Buffer::empty(alloc, Rect::new(0, 0, 3, 2))?;
+    buffer.fill(
+        alloc,
+        Rect::new(1, 1, 100, 100),
+        LONG,
+        Style::new().fg(Color::Red),
+    )?;
+    for (x, y, symbol, fg) in [
+        (0, 0, " ", Color::Reset),
+        (0, 1, " ", Color::Reset),
+        (1, 1, LONG, Color::Red),
+        (2, 1, LONG, Color::Red),
+    ] {
+        assert_eq!(rt; symbol_at(&buffer, x, y), Some(symbol));
+        assert_eq!(rt;
+            buffer.cell(Position::new(x, y)).map(|cell| cell.fg()),
+            Some(fg)
+        );
+    }
+    buffer.fill(alloc, Rect::new(0, 0, 2, 2), "\u{30b3}", Style::new())?;
+    assert_eq!(rt; symbol_at(&buffer, 1, 1), Some("\u{30b3}"));
+    assert_eq!(rt; symbol_at(&buffer, 2, 1), Some(LONG));
+    Ok(())
+}
+
+#[test]
+fn refusals(rt: HostRuntime) -> Result<(), Fail> {
+    let text = format!(in rt.alloc(); "{}", ParseError::VariantNotFound)?;
+    assert_eq!(rt; text.as_str(), "VariantNotFound");
+    Ok(())
+}
