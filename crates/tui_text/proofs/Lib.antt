@@ -1,0 +1,5 @@
+pub mod EmptyText
+pub mod OneByte
+pub mod PartClusters
+pub mod Seams
+pub mod Texts

@@ -1,0 +1,185 @@
+//! Values from the standards, and each public call once.
+
+use crate::{Alignment, Line, Span, StyledGrapheme, Text, cell_width};
+use std::str::FromStr;
+use tui_cells::{Color, Mem, ParseError, Style};
+
+/// Texts and their graphemes, with a bar between two: samples of UAX #29, table 1a and its test
+/// file, where clusters with a control character are left out.
+const CLUSTERS: [(&str, &str); 15] = [
+    ("ab", "a|b"),
+    ("g\u{308}", "g\u{308}"),
+    ("\u{1100}\u{1161}\u{11a8}", "\u{1100}\u{1161}\u{11a8}"),
+    ("\u{ac01}\u{ac01}", "\u{ac01}|\u{ac01}"),
+    ("\u{e01}\u{e33}", "\u{e01}\u{e33}"),
+    ("\u{ba8}\u{bbf}", "\u{ba8}\u{bbf}"),
+    (
+        "\u{915}\u{94d}\u{937}\u{93f}",
+        "\u{915}\u{94d}\u{937}\u{93f}",
+    ),
+    (
+        "\u{1f1e6}\u{1f1e7}\u{1f1e8}b",
+        "\u{1f1e6}\u{1f1e7}|\u{1f1e8}|b",
+    ),
+    (
+        "\u{1f476}\u{1f3ff}\u{1f476}",
+        "\u{1f476}\u{1f3ff}|\u{1f476}",
+    ),
+    (
+        "\u{1f6d1}\u{200d}\u{1f6d1}a",
+        "\u{1f6d1}\u{200d}\u{1f6d1}|a",
+    ),
+    ("a\u{200d}\u{1f6d1}", "a\u{200d}|\u{1f6d1}"),
+    ("a\u{200b}b", "a|\u{200b}|b"),
+    ("a\r\nb\u{308}", "a|b\u{308}"),
+    ("\u{7f}a\tb\u{9f}", "a|b"),
+    ("a\u{a0}b", "a|\u{a0}|b"),
+];
+
+#[test]
+fn graphemes_are_extended_clusters(rt: HostRuntime) -> Mem<()> {
+    for (text, clusters) in CLUSTERS {
+        let line = Line::raw(rt.alloc(), text)?;
+        let mut shown = String::new(rt.alloc());
+        for grapheme in line.styled_graphemes(Style::new()) {
+            if !shown.is_empty() {
+                shown.push('|')?;
+            }
+            shown.push_str(grapheme.symbol)?;
+        }
+        assert!(&rt; shown.as_str() == clusters, "in {text:?}");
+    }
+    Ok(())
+}
+
+/// Texts, their columns, and those where ambiguous characters are wide: categories of UAX #11.
+const WIDTHS: [(&str, u16, usize); 10] = [
+    ("", 0, 0),
+    ("a", 1, 1),
+    ("~", 1, 1),
+    ("\u{4e00}", 2, 2),
+    ("\u{ff21}", 2, 2),
+    ("\u{ff71}", 1, 1),
+    ("\u{a1}", 1, 2),
+    ("e\u{301}", 1, 1),
+    ("\u{200b}", 0, 0),
+    ("\u{1f1e9}\u{1f1ea}", 2, 2),
+];
+
+#[test]
+fn widths_are_columns(rt: HostRuntime) {
+    for (text, width, width_cjk) in WIDTHS {
+        assert_eq!(&rt; cell_width(text), width, "of {text:?}");
+        assert_eq!(&rt; Span::raw(text).width(), usize::from(width), "of {text:?}");
+        assert_eq!(&rt; Span::raw(text).width_cjk(), width_cjk, "of {text:?}");
+    }
+    assert_eq!(&rt; Span::raw("a\tb\u{4e00}\r\n").width(), 4);
+}
+
+#[test]
+fn blanks_are_white_space(rt: HostRuntime) {
+    for (symbol, is_blank) in [
+        ("", true),
+        (" ", true),
+        ("\u{3000}", true),
+        ("\u{200b}", true),
+        ("\u{a0}", false),
+        ("a", false),
+        (" \u{301}", false),
+    ] {
+        let grapheme = StyledGrapheme {
+            symbol,
+            style: Style::new(),
+        };
+        assert_eq!(&rt; grapheme.is_whitespace(), is_blank, "at {symbol:?}");
+    }
+}
+
+/// Texts and their lines, with a bar between two.
+const LINES: [(&str, &str); 9] = [
+    ("", ""),
+    ("a", "a"),
+    ("a\n", "a"),
+    ("\n", ""),
+    ("\n\n", "|"),
+    ("a\r\n\nb", "a||b"),
+    ("a\r\r\nb", "a\r|b"),
+    ("a\r", "a\r"),
+    ("a\rb\n\r", "a\rb|\r"),
+];
+
+#[test]
+fn texts_end_lines_at_newlines(rt: HostRuntime) -> Mem<()> {
+    for (content, lines) in LINES {
+        let text = Text::raw(rt.alloc(), content)?;
+        let mut cut = String::new(rt.alloc());
+        for (i, line) in text.lines().iter().enumerate() {
+            if i > 0 {
+                cut.push('|')?;
+            }
+            for span in line.spans() {
+                cut.push_str(span.content)?;
+            }
+        }
+        assert!(&rt; cut.as_str() == lines, "in {content:?}");
+    }
+    Ok(())
+}
+
+#[test]
+fn lines_are_built(rt: HostRuntime) -> Mem<()> {
+    let red = Style::new().fg(Color::Red);
+    let blue = Style::new().bg(Color::Blue);
+    let mut line = Line::new(rt.alloc())
+        .style(blue)
+        .alignment(Alignment::Right);
+    line.push_span(Span::styled("e", red))?;
+    line.push_span(Span::raw("\u{301}\u{a1}"))?;
+    assert_eq!(&rt; line.width(), 2);
+    assert_eq!(&rt; line.width_cjk(), 3);
+    assert!(&rt; line.line_style() == blue);
+    assert!(&rt; line.line_alignment() == Some(Alignment::Right));
+    assert!(&rt; line == line.clone()?);
+    let mut graphemes = line.styled_graphemes(Style::new());
+    let first = StyledGrapheme {
+        symbol: "e",
+        style: red.bg(Color::Blue),
+    };
+    assert!(&rt; graphemes.next() == Some(first));
+    let styled = Line::styled(rt.alloc(), "a", red)?;
+    assert!(&rt; styled.line_alignment().is_none());
+    assert!(&rt; styled != Line::raw(rt.alloc(), "a")?);
+    Ok(())
+}
+
+#[test]
+fn texts_are_built(rt: HostRuntime) -> Mem<()> {
+    let red = Style::new().fg(Color::Red);
+    let mut text = Text::new(rt.alloc())
+        .style(red)
+        .alignment(Alignment::Center);
+    assert_eq!(&rt; text.width(), 0);
+    text.push_line(Line::raw(rt.alloc(), "a")?)?;
+    text.push_line(Line::raw(rt.alloc(), "\u{4e00}")?)?;
+    assert_eq!(&rt; text.height(), 2);
+    assert_eq!(&rt; text.width(), 2);
+    assert!(&rt; text.text_style() == red);
+    assert!(&rt; text.text_alignment() == Some(Alignment::Center));
+    assert!(&rt; text == text.clone()?);
+    Ok(())
+}
+
+#[test]
+fn alignments_have_names(rt: HostRuntime) -> Mem<()> {
+    for (alignment, name) in [
+        (Alignment::Left, "Left"),
+        (Alignment::Center, "Center"),
+        (Alignment::Right, "Right"),
+    ] {
+        assert!(&rt; Alignment::from_str(name) == Ok(alignment));
+        assert!(&rt; format!(in rt.alloc(); "{alignment}")?.as_str() == name);
+    }
+    assert!(&rt; Alignment::from_str("left") == Err(ParseError::VariantNotFound));
+    assert!(&rt; Alignment::default() == Alignment::Left);
+    Ok(())
+}
