@@ -1,0 +1,10 @@
+//! What surrounds and covers widgets: areas made blank, and areas filled.
+#![tactic(auto)]
+
+pub mod clear;
+pub mod fill;
+#[cfg(test)]
+mod tests;
+
+pub use clear::Clear;
+pub use fill::Fill;
