@@ -1,0 +1,24 @@
+//! Wraps a text to 16 columns, centred, and prints the rows.
+#![tactic(auto)]
+
+use tui_cells::{Buffer, Rect, Widget};
+use tui_para::{Paragraph, Wrap};
+use tui_text::Text;
+
+fn main(rt: HostRuntime) -> anyhow::Result<()> {
+    let alloc = rt.alloc();
+    let text = Text::raw(alloc, "The quick brown fox jumps over the lazy dog.")?;
+    let paragraph = Paragraph::new(text).wrap(Wrap { trim: true }).centered();
+
+    let area = Rect::new(0, 0, 16, 3);
+    let mut buffer = Buffer::empty(alloc, area)?;
+    paragraph.render(alloc, area, &mut buffer)?;
+
+    for row in 0..buffer.height() {
+        for cell in buffer.row_at(row) {
+            print!(rt; "{}", cell.symbol())?;
+        }
+        println!(rt; "")?;
+    }
+    Ok(())
+}

@@ -1,0 +1,5 @@
+use Rattle.tui_para.proofs.TextCut.{text_wraps_once}
+use Rattle.tui_para.proofs.laws.text_wraps_exactly_once.Goals as goal
+
+pub returns : goal.returns
+returns c = λ w trim alignment text some. text_wraps_once w trim alignment text

@@ -1,0 +1,81 @@
+-- How the lines of graphemes that are read one by one are counted, with numbers alone.
+use Rattle.std.specs.Prelude.{ℕ, ◌+◌, Bool, true, false, cond, not, ◌&&◌, nat_lt, List, [], ◌∷◌, length, sum_by}
+use Rattle.tui_cells.specs.declared.style.Style.{Style}
+use Rattle.tui_para.specs.Places.{wrap}
+use Rattle.tui_text.specs.Grapheme.{glyph_blank, glyph_width}
+use Rattle.tui_text.specs.Graphemes.{line_graphemes}
+use Rattle.tui_text.specs.Line.{LineData}
+use Rattle.tui_text.specs.Text.{TextData}
+use Rattle.tui_text.specs.Width.{saturated}
+use Rattle.tui_para.specs.declared.counter.Counter.{Counter}
+
+-- nothing is read
+abbrev pub no_lines : Counter
+no_lines = record { lines = 0; some = false; begun = false; in_word = false; line = 0; blanks = 0; word = 0 }
+
+-- the line has one word more
+abbrev pub end_word : Counter → Counter
+end_word c = record c { begun = true; in_word = false; line = c.line + c.blanks + c.word; blanks = 0; word = 0 }
+
+-- the line ends, and nothing stands after it
+abbrev pub end_line : Counter → Counter
+end_line c = record no_lines { lines = c.lines + 1 }
+
+-- the line ends before the word that is under way
+abbrev pub take_word_along : Counter → Counter
+take_word_along c = record c { lines = c.lines + 1; some = true; begun = false; line = 0; blanks = 0 }
+
+-- a blank that the line takes, and one that a line's beginning leaves out
+abbrev pub add_blank : Counter → ℕ → Counter
+add_blank c s = record c { some = true; blanks = c.blanks + s }
+
+abbrev pub skip_blank : Counter → Counter
+skip_blank c = record c { some = true }
+
+-- a grapheme more of the word under way
+abbrev pub add_letter : Counter → ℕ → Counter
+add_letter c s = record c { some = true; in_word = true; word = c.word + s }
+
+-- the line has no room for a width s
+abbrev pub overflows : ℕ → Counter → ℕ → Bool
+overflows w c s = nat_lt w (c.line + c.blanks + c.word + s)
+
+-- where a blank comes: the word under way ends
+abbrev pub after_word : Counter → Counter
+after_word c = cond c.in_word (end_word c) c
+
+-- and the blank is left out, ends the line, or is taken
+abbrev pub on_blank : ℕ → Bool → Counter → ℕ → Counter
+on_blank w trim c s = cond (trim && not c.begun) (skip_blank c) (cond (overflows w c s) (end_line c) (add_blank c s))
+
+-- where a letter comes that has no room: the line ends before its word, if another word has ended in it
+abbrev pub soft : ℕ → Counter → ℕ → Counter
+soft w c s = cond (c.begun && overflows w c s) (take_word_along c) c
+
+-- or else within the word
+abbrev pub hard : ℕ → Counter → ℕ → Counter
+hard w c s = cond (overflows w c s) (end_line c) c
+
+-- one grapheme more, of a width, a blank or not
+abbrev pub step : ℕ → Bool → Counter → ℕ → Bool → Counter
+step w trim c s is_blank = cond is_blank (on_blank w trim (after_word c) s) (add_letter (hard w (soft w c s) s) s)
+
+abbrev pub steps : {A : Type 0} → (A → Bool) → (A → ℕ) → ℕ → Bool → Counter → List A → Counter
+steps blank size w trim c [] = c
+steps blank size w trim c (x ∷ xs) = steps blank size w trim (step w trim c (size x) (blank x)) xs
+
+-- the lines, with the one that is under way
+abbrev pub counted : Counter → ℕ
+counted c = c.lines + cond c.some 1 0
+
+-- the same numbers, with the lines cut at the greatest number of 64 bits
+abbrev pub cut_count : Counter → Counter
+cut_count c = record c { lines = saturated c.lines }
+
+-- the lines into which a text line is wrapped
+abbrev pub wrapped_len : ℕ → Bool → Style → LineData → ℕ
+wrapped_len w trim base line = length (wrap glyph_blank glyph_width w trim (line_graphemes base line))
+
+-- the lines into which the text's lines are wrapped together
+abbrev pub wrapped_text_len : ℕ → Bool → TextData → ℕ
+wrapped_text_len w trim text = sum_by (wrapped_len w trim text.style) text.lines

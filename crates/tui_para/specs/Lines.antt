@@ -1,0 +1,60 @@
+-- Lines of graphemes, and how text lines are cut into them.
+use Rattle.std.specs.Prelude.{◌≡◌, ◌⊎◌, ◌<◌, ℕ, Bool, true, false, List, [], ◌∷◌, ◌++◌, map, flat_map, Option, Some, None}
+use Rattle.tui_text.specs.Grapheme.{Glyph, glyph_blank, glyph_width}
+use Rattle.tui_text.specs.declared.alignment.Alignment.{Alignment}
+use Rattle.tui_text.specs.declared.alignment.Alignment.TheVariants.{Left, Center, Right}
+use Rattle.tui_para.specs.Truncated.{Truncated}
+use Rattle.tui_para.specs.Wrapped.{Wrapped}
+
+-- a line: its graphemes and its alignment
+pub record Strip : Type 0 where
+  pub glyphs : List Glyph
+  pub alignment : Alignment
+
+abbrev pub strip : Alignment → List Glyph → Strip
+strip alignment glyphs = record { glyphs = glyphs; alignment = alignment }
+
+-- each line is cut into parts as R says, and these follow one another with its alignment
+abbrev pub CutAll : (Strip → List (List Glyph) → Type 0) → List Strip → List Strip → Type 0
+CutAll R [] lines = lines ≡ []
+CutAll R (t ∷ ts) lines = (parts : List (List Glyph)) × R t parts × ((rest : List Strip) × CutAll R ts rest × (lines ≡ map (strip t.alignment) parts ++ rest))
+
+-- the same where a function gives the parts
+abbrev pub cut_all : (Strip → List (List Glyph)) → List Strip → List Strip
+cut_all f ts = flat_map (λ t. map (strip t.alignment) (f t)) ts
+
+-- it is wrapped
+abbrev pub WrapsLine : ℕ → Bool → Strip → List (List Glyph) → Type 0
+WrapsLine w trim t parts = Wrapped glyph_blank glyph_width w trim t.glyphs parts
+
+abbrev pub is_left : Alignment → Bool
+is_left Left = true
+is_left Center = false
+is_left Right = false
+
+-- it is cut to one line, the offset being left out of Left lines
+abbrev pub TruncatesLine : ℕ → ℕ → Strip → List (List Glyph) → Type 0
+TruncatesLine w offset t parts = (line : List Glyph) × Truncated glyph_width w (is_left t.alignment) offset t.glyphs line × (parts ≡ line ∷ [])
+
+-- lines of a width above 0 into which one of the lists of text lines is cut; none at width 0
+abbrev pub LinesOf : (List Strip → Type 0) → (Strip → List (List Glyph) → Type 0) → ℕ → List Strip → Type 0
+LinesOf texts R w lines = ((w ≡ 0) × (lines ≡ [])) ⊎ ((0 < w) × ((ts : List Strip) × texts ts × CutAll R ts lines))
+
+-- the same with the parts that are left of a text line that was begun, in front
+abbrev pub LinesLeft : (List Strip → Type 0) → (Strip → List (List Glyph) → Type 0) → (List (List Glyph) → Type 0) → ℕ → Alignment → List Strip → Type 0
+LinesLeft texts R P w alignment lines = ((w ≡ 0) × (lines ≡ [])) ⊎
+    ((0 < w) × ((parts : List (List Glyph)) × P parts × ((ts : List Strip) × texts ts × ((rest : List Strip) × CutAll R ts rest × (lines ≡ map (strip alignment) parts ++ rest)))))
+
+-- no list but the empty one, where there is no more
+abbrev pub UnlessDone : Bool → (List Strip → Type 0) → List Strip → Type 0
+UnlessDone done texts ts = ((done ≡ true) × (ts ≡ [])) ⊎ ((done ≡ false) × texts ts)
+
+-- one is taken from the front of each list, or none is left: each list of Q with it in front is one of P
+abbrev pub LendsFirst : {A : Type 0} → (List A → Type 0) → Option A → (List A → Type 0) → Type 0
+LendsFirst P None Q = P []
+LendsFirst {A} P (Some x) Q = (xs : List A) → Q xs → P (x ∷ xs)
+
+-- and each list of P has it in front, with one of Q after it; where none is left, none is later
+abbrev pub TakesFirst : {A : Type 0} → (List A → Type 0) → Option A → (List A → Type 0) → Type 0
+TakesFirst {A} P None Q = (xs : List A) → P xs → (xs ≡ []) × Q []
+TakesFirst {A} P (Some x) Q = (xs : List A) → P xs → (rest : List A) × (xs ≡ x ∷ rest) × Q rest

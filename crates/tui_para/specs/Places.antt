@@ -1,0 +1,57 @@
+-- Where a line stands among graphemes, in numbers of graphemes, and the lines of a list as a function.
+use Rattle.std.specs.Prelude.{ℕ, zero, suc, ◌-◌, Bool, false, cond, not, ◌&&◌, nat_le, nat_lt, List, [], ◌∷◌, length, take, drop, sum_by}
+use Rattle.tui_para.specs.Wrapped.{after_break, line_start, kept}
+
+-- the blanks at the front
+abbrev pub blanks_len : {A : Type 0} → (A → Bool) → List A → ℕ
+blanks_len blank [] = 0
+blanks_len blank (x ∷ xs) = cond (blank x) (suc (blanks_len blank xs)) 0
+
+-- the blanks before the start of a line
+abbrev pub start_len : {A : Type 0} → (A → Bool) → Bool → List A → ℕ
+start_len blank trim xs = cond trim (blanks_len blank xs) 0
+
+-- the blanks that are left out after a break which leaves some room
+abbrev pub dropped_len : {A : Type 0} → (A → Bool) → (A → ℕ) → ℕ → List A → ℕ
+dropped_len blank size room [] = 0
+dropped_len blank size room (x ∷ xs) = cond (blank x) (suc (cond (nat_le (size x) room) (dropped_len blank size (room - size x) xs) 0)) 0
+
+-- the line that goes on for n graphemes so far, of which the first `words` end with the last word that a blank follows,
+-- and which leaves some room: where a grapheme doesn't fit it ends after these words, or where it is if there are none
+abbrev pub goes_on_for : {A : Type 0} → (A → Bool) → (A → ℕ) → Bool → ℕ → ℕ → ℕ → List A → ℕ
+goes_on_for blank size in_word words n room [] = n
+goes_on_for blank size in_word words n room (x ∷ xs) =
+    let ended = cond (in_word && blank x) n words in
+    cond (nat_le (size x) room) (goes_on_for blank size (not (blank x)) ended (suc n) (room - size x) xs) (cond (nat_lt 0 ended) ended n)
+
+-- the line at the front
+abbrev pub line_len : {A : Type 0} → (A → Bool) → (A → ℕ) → ℕ → List A → ℕ
+line_len blank size w xs = goes_on_for blank size false 0 0 w xs
+
+-- the lines of graphemes, n at most
+abbrev pub lines_of : {A : Type 0} → (A → Bool) → (A → ℕ) → ℕ → Bool → ℕ → List A → List (List A)
+lines_of blank size w trim zero xs = []
+lines_of blank size w trim (suc n) [] = []
+lines_of blank size w trim (suc n) (x ∷ xs) =
+    let s = line_start blank trim (x ∷ xs) in
+    let k = line_len blank size w s in
+    take k s ∷ lines_of blank size w trim n (after_break blank size (w - sum_by size (take k s)) (drop k s))
+
+-- the same where none is wider than w: one empty line where there is no grapheme
+abbrev pub wrap_kept : {A : Type 0} → (A → Bool) → (A → ℕ) → ℕ → Bool → List A → List (List A)
+wrap_kept blank size w trim [] = [] ∷ []
+wrap_kept blank size w trim (x ∷ xs) = lines_of blank size w trim (length (x ∷ xs)) (x ∷ xs)
+
+-- the lines into which graphemes are wrapped: the one list that `Wrapped` admits
+abbrev pub wrap : {A : Type 0} → (A → Bool) → (A → ℕ) → ℕ → Bool → List A → List (List A)
+wrap blank size w trim xs = wrap_kept blank size w trim (kept size w xs)
+
+-- the graphemes at the front that fit a room
+abbrev pub fitting_len : {A : Type 0} → (A → ℕ) → ℕ → List A → ℕ
+fitting_len size room [] = 0
+fitting_len size room (x ∷ xs) = cond (nat_le (size x) room) (suc (fitting_len size (room - size x) xs)) 0
+
+-- those at the front that an offset passes
+abbrev pub passed_len : {A : Type 0} → (A → ℕ) → ℕ → List A → ℕ
+passed_len size offset [] = 0
+passed_len size offset (x ∷ xs) = cond (nat_lt 0 offset && nat_le (size x) offset) (suc (passed_len size (offset - size x) xs)) 0

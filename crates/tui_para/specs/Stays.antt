@@ -1,0 +1,46 @@
+-- The strokes of a paragraph stay in its clip.
+use Rattle.std.specs.Prelude.{◌≡◌, ℕ, ◌+◌, Bool, true, false, List, [], ◌∷◌, ◌++◌, ◌&&◌, ◌==◌, nat_lt, if◌then◌else◌, drop, sum_by}
+use Rattle.std.proofs.Common.{◌∙◌, ap, refl, sym}
+use Rattle.std.proofs.lemmas.Bool.{eqb-true, and_parts, false_from_ne_true, false≢true}
+use Rattle.tui_cells.specs.declared.rect.Rect.{Rect}
+use Rattle.tui_cells.specs.Rect.{covers}
+use Rattle.tui_cells.specs.Cell.{Look, put, dress}
+use Rattle.tui_cells.specs.Layers.{StayIn, at_place, layers_at, stroke}
+use Rattle.tui_cells.specs.Stays.{StayIn-none, StayIn-append, StayIn-stroke}
+use Rattle.tui_text.specs.Grapheme.{Glyph, glyph_width}
+use Rattle.tui_para.specs.Lines.{Strip}
+use Rattle.tui_para.specs.Paragraph.{ParagraphData}
+use Rattle.tui_para.specs.Rendering.{paragraph_layers, paragraph_lines}
+use Rattle.tui_para.specs.Strokes.{run_layers, start_of, strip_layers, strips_layers}
+
+-- a position inside is none outside
+at_outside : (clip : Rect) (x y a b : ℕ) → covers clip x y ≡ true → covers clip a b ≡ false → at_place x y a b ≡ false
+at_outside clip x y a b inside out = false_from_ne_true (at_place x y a b)
+    (λ t. false≢true (sym out ∙ (ap (λ n. covers clip n b) (eqb-true a x (and_parts (a == x) (b == y) t).0) ∙ (ap (λ n. covers clip x n) (eqb-true b y (and_parts (a == x) (b == y) t).1) ∙ inside))))
+
+one_stays : (clip : Rect) (x y : ℕ) (g : Glyph) (wide inside : Bool) → covers clip x y ≡ inside →
+    StayIn (covers clip) (if wide && inside then stroke (at_place x y) (put g.text) ++ stroke (at_place x y) (dress g.style) else [])
+one_stays clip x y g false inside e = StayIn-none
+one_stays clip x y g true false e = StayIn-none
+one_stays clip x y g true true e =
+    StayIn-append (StayIn-stroke (at_place x y) (put g.text) (λ a b. at_outside clip x y a b e)) (StayIn-stroke (at_place x y) (dress g.style) (λ a b. at_outside clip x y a b e))
+
+run_stays : (clip : Rect) (x y : ℕ) (gs : List Glyph) → StayIn (covers clip) (run_layers clip x y gs)
+unfolding run_layers
+run_stays clip x y [] = StayIn-none
+run_stays clip x y (g ∷ gs) = StayIn-append (one_stays clip x y g (nat_lt 0 (glyph_width g)) (covers clip x y) refl) (run_stays clip (x + glyph_width g) y gs)
+
+strip_stays : (rect : Rect) (y : ℕ) (s : Strip) → StayIn (covers rect) (strip_layers rect y s)
+unfolding strip_layers
+strip_stays rect y s = run_stays rect (rect.x + start_of s.alignment rect.width (sum_by glyph_width s.glyphs)) y s.glyphs
+
+strips_stay : (rect : Rect) (y : ℕ) (ss : List Strip) → StayIn (covers rect) (strips_layers rect y ss)
+strips_stay rect y [] = StayIn-none
+strips_stay rect y (s ∷ ss) = StayIn-append (strip_stays rect y s) (strips_stay rect (y + 1) ss)
+
+pub paragraph_stay : (p : ParagraphData) (clip : Rect) → StayIn (covers clip) (paragraph_layers p clip)
+unfolding paragraph_layers
+paragraph_stay p clip = StayIn-append (StayIn-stroke (covers clip) (dress p.style) (λ x y out. out)) (strips_stay clip clip.y (drop p.scroll_y (paragraph_lines p clip.width)))
+
+pub paragraph_stays : (p : ParagraphData) (clip : Rect) (x y : ℕ) → covers clip x y ≡ false → (c : Look) → layers_at (paragraph_layers p clip) x y c ≡ c
+paragraph_stays p clip = (paragraph_stay p clip).cell

@@ -1,0 +1,41 @@
+-- The line of a text line that is not wrapped. `size` is a grapheme's width.
+use Rattle.std.specs.Prelude.{◌≡◌, ◌≢◌, ◌<◌, ◌≤◌, ℕ, ◌-◌, Bool, true, false, cond, ◌&&◌, nat_le, nat_lt, List, [], ◌∷◌, ◌++◌, length, sum_by}
+use Rattle.tui_para.specs.Wrapped.{kept}
+
+-- the longest front of the list that P holds of, and what stands after it
+pub record IsLongestFront {A : Type 0} (P : List A → Type 0) (xs front after : List A) : Type 0 where
+  pub joined : xs ≡ front ++ after
+  pub holds : P front
+  pub longest : (other more : List A) → xs ≡ other ++ more → P other → length other ≤ length front
+
+-- it is not wider than the room
+abbrev pub FitsIn : {A : Type 0} → (A → ℕ) → ℕ → List A → Type 0
+FitsIn size room front = sum_by size front ≤ room
+
+-- it is not wider than the offset, and each strictly shorter front of it is narrower than the offset
+pub record IsPassedBy {A : Type 0} (size : A → ℕ) (offset : ℕ) (front : List A) : Type 0 where
+  pub fits : sum_by size front ≤ offset
+  pub needed : (shorter more : List A) → front ≡ shorter ++ more → more ≢ [] → sum_by size shorter < offset
+
+-- of the graphemes not wider than w, on the left without those that the offset passes, as many as fit the width
+pub record Truncated {A : Type 0} (size : A → ℕ) (w : ℕ) (left : Bool) (offset : ℕ) (xs line : List A) : Type 0 where
+  pub shown : List A
+  pub rest : List A
+  pub passed : List A
+  pub passes : left ≡ true → IsLongestFront (IsPassedBy size offset) (kept size w xs) passed shown
+  pub stays : left ≡ false → shown ≡ kept size w xs
+  pub fits : IsLongestFront (FitsIn size w) shown line rest
+
+-- the same as functions: the graphemes that fit a room
+abbrev pub fitting_front : {A : Type 0} → (A → ℕ) → ℕ → List A → List A
+fitting_front size room [] = []
+fitting_front size room (x ∷ xs) = cond (nat_le (size x) room) (x ∷ fitting_front size (room - size x) xs) []
+
+-- those that the offset leaves
+abbrev pub left_by : {A : Type 0} → (A → ℕ) → ℕ → List A → List A
+left_by size offset [] = []
+left_by size offset (x ∷ xs) = cond (nat_lt 0 offset && nat_le (size x) offset) (left_by size (offset - size x) xs) (x ∷ xs)
+
+-- the line: the one that `Truncated` admits
+abbrev pub truncate : {A : Type 0} → (A → ℕ) → ℕ → Bool → ℕ → List A → List A
+truncate size w left offset xs = fitting_front size w (cond left (left_by size offset (kept size w xs)) (kept size w xs))

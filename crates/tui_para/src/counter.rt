@@ -1,0 +1,141 @@
+//! Counting the lines of one text line from numbers alone.
+
+ghost use Rattle.std.specs.Prelude.{◌≡◌, ◌+◌, ◌≤◌, ◌<◌, ◌^◌};
+ghost use Rattle.tui_text.specs.Width.{saturated};
+ghost use Rattle.tui_para.specs.Counting.{
+  add_letter,
+  after_word,
+  counted,
+  cut_count,
+  end_line,
+  hard,
+  no_lines,
+  on_blank,
+  soft,
+  step,
+  take_word_along,
+};
+
+/// The lines of the graphemes that were read, and how the last of them goes on.
+#[derive(Clone, Copy, Debug)]
+pub(crate) struct Counter {
+    /// The lines that have ended, cut at the greatest number of 64 bits.
+    lines: usize,
+    /// A grapheme stands behind the last line that has ended.
+    some: bool,
+    /// A word has ended in the line under way.
+    begun: bool,
+    /// A word is under way.
+    in_word: bool,
+    /// The width of the line up to the end of its last word.
+    line: usize,
+    /// The width of the blanks since.
+    blanks: usize,
+    /// The width of the word since.
+    word: usize,
+}
+
+impl Counter {
+    pub(crate) fn new() -> Counter
+        ensures { result ≡ no_lines }
+    {
+        Counter {
+            lines: 0,
+            some: false,
+            begun: false,
+            in_word: false,
+            line: 0,
+            blanks: 0,
+            word: 0,
+        }
+    }
+
+    /// Reads one grapheme more, which is not wider than a line.
+    pub(crate) fn read(&mut self, size: usize, is_blank: bool, width: usize, trim: bool)
+        requires width { width < 2 ^ 16 }
+        requires small { size ≤ width }
+        requires fits { self.old.line + self.old.blanks + self.old.word ≤ width }
+        ensures step { cut_count self.new ≡ cut_count (step width trim self.old size is_blank) }
+        ensures fits { self.new.line + self.new.blanks + self.new.word ≤ width }
+    {
+        if is_blank {
+            self.end_word();
+            self.read_blank(size, width, trim);
+        } else {
+            self.read_letter(size, width);
+        }
+    }
+
+    /// The lines, with the one that is under way.
+    pub(crate) fn count(self) -> usize
+        ensures { result ≡ saturated (counted self) }
+    {
+        if self.some {
+            self.lines.saturating_add(1)
+        } else {
+            self.lines
+        }
+    }
+
+    fn end_word(&mut self)
+        requires { self.old.line + self.old.blanks + self.old.word < 2 ^ 64 }
+        ensures { self.new ≡ after_word self.old }
+    {
+        if self.in_word {
+            self.line = self.line + self.blanks + self.word;
+            self.blanks = 0;
+            self.word = 0;
+            self.in_word = false;
+            self.begun = true;
+        }
+    }
+
+    fn end_line(&mut self)
+        ensures { self.new ≡ cut_count (end_line self.old) }
+    {
+        *self = Counter {
+            lines: self.lines.saturating_add(1),
+            ..Counter::new()
+        };
+    }
+
+    fn read_blank(&mut self, size: usize, width: usize, trim: bool)
+        requires fits { self.old.line + self.old.blanks + self.old.word + size < 2 ^ 64 }
+        ensures { cut_count self.new ≡ cut_count (on_blank width trim self.old size) }
+    {
+        if trim && !self.begun {
+            self.some = true;
+        } else if self.line + self.blanks + self.word + size > width {
+            self.end_line();
+        } else {
+            self.blanks += size;
+            self.some = true;
+        }
+    }
+
+    fn read_letter(&mut self, size: usize, width: usize)
+        requires fits { self.old.line + self.old.blanks + self.old.word + size < 2 ^ 64 }
+        ensures { cut_count self.new ≡ cut_count (add_letter (hard width (soft width self.old size) size) size) }
+    {
+        if self.begun && self.line + self.blanks + self.word + size > width {
+            self.take_word_along();
+        }
+        if self.line + self.blanks + self.word + size > width {
+            self.end_line();
+        }
+        self.word += size;
+        self.in_word = true;
+        self.some = true;
+    }
+
+    /// Ends the line before the word that is under way.
+    fn take_word_along(&mut self)
+        ensures { self.new ≡ cut_count (take_word_along self.old) }
+    {
+        self.lines = self.lines.saturating_add(1);
+        self.some = true;
+        self.begun = false;
+        self.line = 0;
+        self.blanks = 0;
+    }
+}

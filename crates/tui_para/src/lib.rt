@@ -1,0 +1,35 @@
+//! Paragraphs.
+#![tactic(auto)]
+
+mod breaking;
+pub mod composer;
+mod counter;
+mod counting;
+mod front;
+mod laws;
+#[cfg(test)]
+mod line_tests;
+mod mark;
+mod marked;
+mod painting;
+pub mod paragraph;
+mod part;
+#[cfg(test)]
+mod tests;
+mod text_line;
+mod text_lines;
+mod truncating;
+pub mod truncator;
+pub mod wrap;
+pub mod wrapper;
+
+pub use composer::{LineComposer, WrappedLine};
+pub use laws::{
+    text_truncates_exactly_once, text_wraps_exactly_once, truncates_exactly_once,
+    truncator_lends_some, truncator_lends_what_is_known, wrapper_lends_some,
+    wrapper_lends_what_is_known, wraps_exactly_once,
+};
+pub use paragraph::Paragraph;
+pub use truncator::LineTruncator;
+pub use wrap::Wrap;
+pub use wrapper::WordWrapper;

@@ -1,0 +1,164 @@
+//! Worked lines, by the calls of both composers and by drawing.
+
+use crate::composer::LineComposer;
+use crate::text_lines::TextLines;
+use crate::{LineTruncator, Paragraph, WordWrapper, Wrap};
+use std::alloc::Global;
+use tui_cells::{Buffer, Mem, Position, Rect, Widget};
+use tui_text::{Alignment, Text};
+
+/// More lines than any text here has.
+const ENOUGH: usize = 100;
+
+/// Puts the next line at the end, with a bar behind it. False where none is left.
+fn put_line<'a, C: LineComposer<'a>>(lines: &mut String, composer: &mut C) -> Mem<bool>
+    requires { C.can_lend composer.old }
+{
+    match composer.next_line()? {
+        None => Ok(false),
+        Some(line) => {
+            for grapheme in line.graphemes {
+                lines.push_str(grapheme.symbol)?;
+            }
+            lines.push('|')?;
+            Ok(true)
+        }
+    }
+}
+
+fn wrapped(alloc: Global, text: &Text<'_>, width: u16, trim: bool) -> Mem<String> {
+    let mut lines = String::new(alloc);
+    let texts = TextLines::new(text.lines(), text.text_style(), Alignment::Left);
+    let mut wrapper = WordWrapper::new(alloc, texts, width, trim);
+    for _i in 0..ENOUGH {
+        if !put_line(&mut lines, &mut wrapper)? {
+            break;
+        }
+    }
+    Ok(lines)
+}
+
+/// Texts, widths, `trim` and the lines.
+const WRAPPED: [(&str, u16, bool, &str); 16] = [
+    ("aaa bbbbbb", 5, true, "aaa|bbbbb|b|"),
+    ("aaaa  ", 5, true, "aaaa|"),
+    ("   abc", 5, false, "   ab|c|"),
+    ("   abc", 5, true, "abc|"),
+    (
+        "a                                                                     ",
+        20,
+        true,
+        "a||",
+    ),
+    (
+        "a                                                                     ",
+        20,
+        false,
+        "a|                    |                    |       |",
+    ),
+    (
+        "                                                                      ",
+        20,
+        true,
+        "|",
+    ),
+    (
+        "                                                                      ",
+        20,
+        false,
+        "                    |                    |                    |       |",
+    ),
+    ("ab c\u{30b3}", 5, true, "ab|c\u{30b3}|"),
+    ("aaaa\u{30b3}", 5, true, "aaaa|\u{30b3}|"),
+    ("foo\u{200b}bar", 3, true, "foo|bar|"),
+    ("\u{30b3}a", 1, true, "a|"),
+    ("a b", 1, true, "a|b|"),
+    ("a", 0, true, ""),
+    ("", 5, true, "|"),
+    ("a\n\nb c", 5, true, "a||b c|"),
+];
+
+#[test]
+fn text_is_wrapped_at_blanks(rt: HostRuntime) -> Mem<()> {
+    for (content, width, trim, lines) in WRAPPED {
+        let text = Text::raw(rt.alloc(), content)?;
+        let shown = wrapped(rt.alloc(), &text, width, trim)?;
+        assert!(&rt;
+            shown.as_str() == lines,
+            "of {content:?} at {width}, trim {trim}: {shown}"
+        );
+    }
+    Ok(())
+}
+
+fn truncated(
+    alloc: Global,
+    text: &Text<'_>,
+    alignment: Alignment,
+    offset: u16,
+    width: u16,
+) -> Mem<String> {
+    let mut lines = String::new(alloc);
+    let texts = TextLines::new(text.lines(), text.text_style(), alignment);
+    let mut truncator = LineTruncator::new(alloc, texts, width);
+    truncator.set_horizontal_offset(offset);
+    for _i in 0..ENOUGH {
+        if !put_line(&mut lines, &mut truncator)? {
+            break;
+        }
+    }
+    Ok(lines)
+}
+
+/// Texts, alignments, offsets, widths and the lines.
+const TRUNCATED: [(&str, Alignment, u16, u16, &str); 7] = [
+    ("\u{30b3}ab", Alignment::Left, 1, 3, "\u{30b3}a|"),
+    ("\u{30b3}ab", Alignment::Left, 2, 3, "ab|"),
+    ("\u{30b3}ab", Alignment::Center, 2, 3, "\u{30b3}a|"),
+    ("\u{30b3}ab", Alignment::Left, 0, 1, "a|"),
+    ("ab\n\ncd", Alignment::Right, 0, 1, "a||c|"),
+    ("ab", Alignment::Left, 5, 3, "|"),
+    ("ab", Alignment::Left, 0, 0, ""),
+];
+
+#[test]
+fn text_is_cut_at_the_width(rt: HostRuntime) -> Mem<()> {
+    for (content, alignment, offset, width, lines) in TRUNCATED {
+        let text = Text::raw(rt.alloc(), content)?;
+        let shown = truncated(rt.alloc(), &text, alignment, offset, width)?;
+        assert!(&rt;
+            shown.as_str() == lines,
+            "of {content:?} at {width} from {offset}: {shown}"
+        );
+    }
+    Ok(())
+}
+
+/// The symbols of a buffer of this size after drawing, with a bar behind each row.
+fn drawn(alloc: Global, paragraph: &Paragraph<'_>, width: u16, height: u16) -> Mem<String> {
+    let area = Rect::new(0, 0, width, height);
+    let mut buffer = Buffer::empty(alloc, area)?;
+    paragraph.render(alloc, area, &mut buffer)?;
+    let mut shown = String::new(alloc);
+    for y in 0..height {
+        for x in 0..width {
+            if let Some(cell) = buffer.cell(Position::new(x, y)) {
+                shown.push_str(cell.symbol())?;
+            }
+        }
+        shown.push('|')?;
+    }
+    Ok(shown)
+}
+
+#[test]
+fn paragraphs_show_their_lines(rt: HostRuntime) -> Mem<()> {
+    let text = Text::raw(rt.alloc(), "hello world foo")?;
+    let wrapping = Paragraph::new(text).wrap(Wrap { trim: true });
+    assert!(&rt; drawn(rt.alloc(), &wrapping, 5, 3)?.as_str() == "hello|world|foo  |");
+    let scrolled = wrapping.scroll((1, 0));
+    assert!(&rt; drawn(rt.alloc(), &scrolled, 5, 3)?.as_str() == "world|foo  |     |");
+    let centered = Paragraph::new(Text::raw(rt.alloc(), "ab")?).centered();
+    assert!(&rt; drawn(rt.alloc(), &centered, 5, 1)?.as_str() == " ab  |");
+    Ok(())
+}

@@ -1,0 +1,159 @@
+//! Paragraphs.
+
+ghost use Rattle.std.specs.Prelude.{◌≡◌, ◌<◌, List, length, None, Some, Ok, All, IsOk, IfOk, IsSome, IfSome, ℕ, false, sum_by};
+ghost use Rattle.tui_para.specs.Paragraph.{paragraph_data, paragraph_of};
+ghost use Rattle.tui_para.specs.Division.{IsFewest};
+ghost use Rattle.tui_para.specs.Lines.{Strip};
+ghost use Rattle.tui_para.specs.WrappedText.{IsTextOf, WrappedText};
+ghost use Rattle.tui_text.specs.Grapheme.{Glyph, glyph_width};
+ghost use Rattle.tui_text.specs.Line.{LineData};
+ghost use Rattle.tui_text.specs.Text.{text_data};
+ghost use Rattle.tui_text.specs.declared.alignment.Alignment.TheVariants.{Left, Center, Right};
+ghost use Rattle.tui_text.specs.Width.{text_width, saturated};
+
+mod rendering;
+
+use crate::counting::wrapped_count;
+use crate::wrap::Wrap;
+use std::alloc::Global;
+use tui_cells::{Mem, Position, Style, Styled};
+use tui_text::{Alignment, Text};
+
+/// A text shown in rows. Without a wrap each line of the text has one row and is cut at the
+/// edges; with one it is broken into rows of the width that there is.
+#[derive(Debug, PartialEq, Eq, Hash, Drop)]
+pub struct Paragraph<'a> {
+    text: Text<'a>,
+    style: Style,
+    wrap: Option<Wrap>,
+    scroll: Position,
+    alignment: Alignment,
+}
+
+impl<'a> Paragraph<'a> {
+    /// A paragraph of a text, not wrapped and not scrolled. It is aligned as the text is, and to
+    /// the left where the text has no alignment.
+    pub fn new(text: Text<'a>) -> Paragraph<'a>
+        ensures { paragraph_data result ≡ paragraph_of (text_data text.entry) }
+    {
+        let alignment = text.text_alignment().unwrap_or(Alignment::Left);
+        Paragraph {
+            text,
+            style: Style::new(),
+            wrap: None,
+            scroll: Position::new(0, 0),
+            alignment,
+        }
+    }
+
+    /// Sets the style under the text's style.
+    pub fn style(self, style: Style) -> Paragraph<'a>
+        ensures { paragraph_data result ≡ record (paragraph_data self.entry) { style = style } }
+    {
+        Paragraph { style, ..self }
+    }
+
+    pub fn wrap(self, wrap: Wrap) -> Paragraph<'a>
+        ensures { paragraph_data result ≡ record (paragraph_data self.entry) { wrap = Some wrap } }
+    {
+        Paragraph {
+            wrap: Some(wrap),
+            ..self
+        }
+    }
+
+    /// Sets the first row that is shown, and the columns that are left out at the left of each
+    /// line that is not wrapped and is aligned to the left.
+    pub fn scroll(self, scroll: (u16, u16)) -> Paragraph<'a>
+        ensures { paragraph_data result ≡ record (paragraph_data self.entry) { scroll_y = scroll.0; scroll_x = scroll.1 } }
+    {
+        let (y, x) = scroll;
+        Paragraph {
+            scroll: Position::new(x, y),
+            ..self
+        }
+    }
+
+    /// Sets the alignment of the lines that have none of their own.
+    pub fn alignment(self, alignment: Alignment) -> Paragraph<'a>
+        ensures { paragraph_data result ≡ record (paragraph_data self.entry) { alignment = alignment } }
+    {
+        Paragraph { alignment, ..self }
+    }
+
+    pub fn left_aligned(self) -> Paragraph<'a>
+        ensures { paragraph_data result ≡ record (paragraph_data self.entry) { alignment = Left } }
+    {
+        self.alignment(Alignment::Left)
+    }
+
+    pub fn centered(self) -> Paragraph<'a>
+        ensures { paragraph_data result ≡ record (paragraph_data self.entry) { alignment = Center } }
+    {
+        self.alignment(Alignment::Center)
+    }
+
+    pub fn right_aligned(self) -> Paragraph<'a>
+        ensures { paragraph_data result ≡ record (paragraph_data self.entry) { alignment = Right } }
+    {
+        self.alignment(Alignment::Right)
+    }
+
+    /// An equal paragraph of its own.
+    pub fn clone(&self) -> Mem<Paragraph<'a>>
+        ensures { IfOk result (λ paragraph. paragraph_data paragraph ≡ paragraph_data self.now) }
+    {
+        Ok(Paragraph {
+            text: self.text.clone()?,
+            style: self.style,
+            wrap: self.wrap,
+            scroll: self.scroll,
+            alignment: self.alignment,
+        })
+    }
+
+    /// The number of lines at a width, cut at the greatest number of 64 bits. It is 0 at width 0.
+    /// Without a wrap it is the number of the text's lines. It takes no memory.
+    pub fn line_count(&self, _alloc: Global, width: u16) -> Mem<usize>
+        ensures ok { IsOk result }
+        ensures nothing { width ≡ 0 → result ≡ Ok 0 }
+        ensures unwrapped { 0 < width → (paragraph_data self.now).wrap ≡ None → result ≡ Ok (length (paragraph_data self.now).text.lines) }
+        ensures wrapped { 0 < width → IfSome (paragraph_data self.now).wrap (λ wrap. (lines : List Strip)
+            → WrappedText width wrap.trim (paragraph_data self.now).alignment (paragraph_data self.now).text lines → result ≡ Ok (saturated (length lines))) }
+
+        // Where each line of the text is words with single blanks between them, no division of the words has fewer lines.
+        ensures fewest { 0 < width → IsSome (paragraph_data self.now).wrap → (words : LineData → List (List Glyph))
+            → IsTextOf words width (paragraph_data self.now).text → (counts : LineData → ℕ)
+            × All (λ line. IsFewest glyph_width (words line) width (counts line)) (paragraph_data self.now).text.lines
+            × (result ≡ Ok (saturated (sum_by counts (paragraph_data self.now).text.lines))) }
+    {
+        if width == 0 {
+            return Ok(0);
+        }
+        match self.wrap {
+            None => Ok(self.text.height()),
+            Some(wrap) => Ok(wrapped_count(&self.text, usize::from(width), wrap.trim)),
+        }
+    }
+
+    /// The columns of the widest line of the text.
+    pub fn line_width(&self) -> usize
+        ensures { result ≡ saturated (text_width (paragraph_data self.now).text) }
+    {
+        self.text.width()
+    }
+}
+
+impl<'a> Styled for Paragraph<'a> {
+    ghost style_of = { λ paragraph. paragraph.style };
+
+    ghost with_style = { λ paragraph style. record paragraph { style = style } };
+
+    fn style(&self) -> Style {
+        self.style
+    }
+
+    fn set_style(self, style: Style) -> Paragraph<'a> {
+        Paragraph { style, ..self }
+    }
+}

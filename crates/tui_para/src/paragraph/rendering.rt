@@ -1,0 +1,71 @@
+//! How a paragraph is drawn.
+
+ghost use Rattle.std.specs.Prelude.{◌≡◌, ◌<◌, ℕ, false, drop, IsOk, IsTrue, OnErr, OnOk};
+ghost use Rattle.tui_cells.specs.Layers.{KeptOutside, Painted};
+ghost use Rattle.tui_cells.specs.Rect.{covers, intersection_of, is_empty};
+ghost use Rattle.tui_para.specs.Stays.{paragraph_stays};
+ghost use Rattle.tui_para.specs.Paragraph.{paragraph_data};
+ghost use Rattle.tui_para.specs.Rendering.{ParagraphShows, paragraph_layers, paragraph_lines};
+ghost use Rattle.tui_para.specs.Strokes.{strips_layers};
+
+use crate::painting::paint_lines;
+use crate::paragraph::Paragraph;
+use crate::text_lines::TextLines;
+use crate::truncator::LineTruncator;
+use crate::wrapper::WordWrapper;
+use std::alloc::Global;
+use tui_cells::{Buffer, Mem, Rect, Widget};
+
+impl<'a> Paragraph<'a> {
+    /// Paints the lines from the scroll line on, one in each row.
+    fn paint_text(&self, alloc: Global, buf: &mut Buffer, clip: Rect) -> Mem<()>
+        requires { 0 < clip.width }
+        ensures ok { OnOk result (Painted (strips_layers clip clip.y (drop (paragraph_data self.now).scroll_y (paragraph_lines (paragraph_data self.now) clip.width))) buf.old buf.new) }
+        ensures kept { KeptOutside (covers clip) buf.old buf.new }
+    {
+        let lines = TextLines::new(self.text.lines(), self.text.text_style(), self.alignment);
+        match self.wrap {
+            Some(wrap) => {
+                let mut wrapper = WordWrapper::new(alloc, lines, clip.width, wrap.trim);
+                paint_lines(buf, clip, &mut wrapper, self.scroll.y)
+            }
+            None => {
+                let mut truncator = LineTruncator::new(alloc, lines, clip.width);
+                truncator.set_horizontal_offset(self.scroll.x);
+                paint_lines(buf, clip, &mut truncator, self.scroll.y)
+            }
+        }
+    }
+
+    /// Sets the style on the clip, and paints the lines.
+    fn paint_in(&self, alloc: Global, buf: &mut Buffer, clip: Rect) -> Mem<()>
+        ensures ok { OnOk result (Painted (paragraph_layers (paragraph_data self.now) clip) buf.old buf.new) }
+        ensures kept { KeptOutside (covers clip) buf.old buf.new }
+        ensures empty { IsTrue (is_empty clip) → IsOk result }
+    {
+        if clip.is_empty() {
+            return Ok(());
+        }
+        buf.set_style(clip, self.style);
+        self.paint_text(alloc, buf, clip)
+    }
+}
+
+impl<'a> Widget for Paragraph<'a> {
+    ghost layers = { λ paragraph clip. paragraph_layers (paragraph_data paragraph) clip };
+
+    ghost footprint = { λ _ clip. covers clip };
+
+    /// Draws. Besides what every widget promises: the clip shows the paragraph's lines from the scroll line on.
+    fn render(&self, alloc: Global, area: Rect, buf: &mut Buffer) -> Mem<()>
+        ensures ok { OnOk result (Painted (paragraph_layers (paragraph_data self.now) (intersection_of area buf.old.area)) buf.old buf.new) }
+        ensures err { OnErr result (KeptOutside (covers (intersection_of area buf.old.area)) buf.old buf.new) }
+        ensures empty { IsTrue (is_empty (intersection_of area buf.old.area)) → IsOk result }
+        ensures shows { OnOk result (ParagraphShows (paragraph_data self.now) (intersection_of area buf.old.area) buf.old buf.new) }
+    {
+        let clip = area.intersection(buf.area());
+        self.paint_in(alloc, buf, clip)
+    }
+
+    ghost stays = { λ paragraph clip. paragraph_stays (paragraph_data paragraph) clip };
+}
