@@ -1,0 +1,9 @@
+pub mod Arrays
+pub mod Dressing
+pub mod Equality
+pub mod Gathering
+pub mod Numbered
+pub mod Outside
+pub mod RowLemmas
+pub mod RunLemmas
+pub mod Unique

@@ -1,0 +1,9 @@
+use Rattle.std.proofs.Common.{take, flat_map}
+use Rattle.tui_port.specs.Gathers.{Gathers}
+use Rattle.tui_port.specs.Print.{row_line}
+use Rattle.tui_port.proofs.print.rows.put_rows.Given as goal
+
+abbrev pub invariant-rows : goal.invariant-rows
+invariant-rows g l =
+    let k = g.K.Sink in
+    Gathers (k.held l.fn.sink) (k.held l.sink) (k.faults l.fn.sink) (k.faults l.sink) l.fn.gather l.gather (flat_map row_line (take l.number l.buf.rows))

@@ -1,0 +1,16 @@
+use Rattle.std.proofs.Common.{length, ◌-◌, ◌≤◌, List, flat_map}
+use Rattle.tui_port.specs.Gathers.{Gathers}
+use Rattle.tui_port.specs.Print.{run_line}
+use Rattle.tui_port.specs.Runs.{StyleRun}
+use Rattle.tui_port.proofs.RunLemmas.{RunsBefore}
+use Rattle.tui_port.proofs.print.runs.put_row_runs.Given as goal
+
+abbrev pub invariant-loop-start : goal.invariant-loop-start
+invariant-loop-start g l =
+    let k = g.K.Sink in
+    (l.start ≤ length l.row)
+    × ((runs : List StyleRun) × RunsBefore l.row l.start runs
+    × Gathers (k.held l.fn.sink) (k.held l.sink) (k.faults l.fn.sink) (k.faults l.sink) l.fn.gather l.gather (flat_map (run_line l.number) runs))
+
+abbrev pub decreases-loop-start : goal.decreases-loop-start
+decreases-loop-start g l = length l.row - l.start

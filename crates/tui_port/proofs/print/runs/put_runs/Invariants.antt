@@ -1,0 +1,11 @@
+use Rattle.std.proofs.Common.{ℕ, List, ◌++◌, drop}
+use Rattle.tui_port.specs.Gathers.{Gathers}
+use Rattle.tui_port.specs.Print.{AreRunLines}
+use Rattle.tui_port.proofs.print.runs.put_runs.Given as goal
+
+abbrev pub invariant-rows : goal.invariant-rows
+invariant-rows g l =
+    let k = g.K.Sink in
+    (done : List ℕ)
+    × ((rest : List ℕ) → AreRunLines l.number (drop l.number l.buf.rows) rest → AreRunLines 0 l.buf.rows (done ++ rest))
+    × Gathers (k.held l.fn.sink) (k.held l.sink) (k.faults l.fn.sink) (k.faults l.sink) l.fn.gather l.gather done

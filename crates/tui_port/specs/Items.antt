@@ -1,0 +1,41 @@
+-- Items: their fields in order, the first whose test fails being the refusal.
+pub mod Fill
+pub mod Paragraph
+pub mod Names
+use Rattle.std.specs.Prelude.{ℕ, ◌+◌, List, [], ◌∷◌, Option, Some, None, Result, Ok, Err}
+use Rattle.serde_json.specs.Data.{Data, Items, no_items, item}
+use Rattle.tui_scene.specs.Item.{ItemData, clear, fill, paragraph, PlacedData}
+use Rattle.tui_port.specs.declared.field.Field.TheVariants as fields
+use Rattle.tui_port.specs.declared.items.widget.Widget.{Widget}
+use Rattle.tui_port.specs.declared.items.widget.Widget.TheVariants as widgets
+use Rattle.tui_port.specs.Items.Fill.{fill_of}
+use Rattle.tui_port.specs.Items.Paragraph.{paragraph_of}
+use Rattle.tui_port.specs.Items.Names.{widget_of}
+use Rattle.tui_port.specs.Kinds.Area.{area_of}
+use Rattle.tui_port.specs.Refusals.{Refusal, ◌>>=◌, required}
+
+-- the fields of a widget
+abbrev pub shown_of : Widget → Option ℕ → Data → Result ItemData Refusal
+shown_of widgets.Clear i d = Ok clear
+shown_of widgets.Fill i d = do
+  x ← fill_of i d
+  Ok (fill x)
+shown_of widgets.Paragraph i d = do
+  x ← paragraph_of i d
+  Ok (paragraph x)
+
+-- the item of number i
+unfoldable pub item_of : ℕ → Data → Result PlacedData Refusal
+item_of i d = do
+  widget ← required widget_of (Some i) fields.Widget d
+  area ← required area_of (Some i) fields.Area d
+  shown ← shown_of widget (Some i) d
+  Ok (record { area = area; item = shown })
+
+-- the items from number i on
+unfoldable pub items_of : ℕ → Items → Result (List PlacedData) Refusal
+items_of i no_items = Ok []
+items_of i (item d ds) = do
+  first ← item_of i d
+  rest ← items_of (i + 1) ds
+  Ok (first ∷ rest)

@@ -1,0 +1,17 @@
+-- The names of widgets. A name that is not here is refused.
+use Rattle.std.specs.Prelude.{ℕ, List, [], ◌∷◌, Option, Some, None, option_and_then, codes}
+use Rattle.serde_json.specs.Data.{Data}
+use Rattle.serde_json.specs.Find.{as_str}
+use Rattle.tui_port.specs.declared.items.widget.Widget.{Widget}
+use Rattle.tui_port.specs.declared.items.widget.Widget.TheVariants.{Clear, Fill, Paragraph}
+use Rattle.tui_port.specs.Kinds.Members.{named}
+
+abbrev pub widget_names : List (List ℕ × Widget)
+widget_names = (codes "clear", Clear) ∷ (codes "fill", Fill) ∷ (codes "paragraph", Paragraph) ∷ []
+
+unfoldable pub widget_of : Data → Option Widget
+widget_of d = option_and_then (named widget_names) (as_str d)
+
+-- the kind of a field that is not built: only absent or null is right
+abbrev pub not_built : Data → Option (Unit {0})
+not_built d = None

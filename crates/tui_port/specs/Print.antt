@@ -1,0 +1,82 @@
+-- The print of a screen, in bytes.
+use Rattle.std.specs.Prelude.{◌≡◌, ℕ, zero, suc, ◌+◌, ◌-◌, ◌/◌, ◌%◌, max, List, [], ◌∷◌, ◌++◌, codes, decimal, flat_map, slice_index_or}
+use Rattle.tui_cells.specs.declared.color.Color.{Color}
+use Rattle.tui_cells.specs.declared.color.Color.TheVariants as colors
+use Rattle.tui_cells.specs.Cell.{Look}
+use Rattle.tui_cells.specs.Buffer.{Screen}
+use Rattle.tui_text.specs.Grapheme.{width_of}
+use Rattle.tui_scene.specs.Item.{PlacedData}
+use Rattle.tui_port.specs.Runs.{StyleRun, AreStyleRuns}
+
+-- the end of a line
+abbrev pub newline : List ℕ
+newline = 10 ∷ []
+
+-- the columns from a cell that shows to the next one: its width, but at least one
+unfoldable pub step_of : List ℕ → ℕ
+step_of symbol = max (width_of symbol) 1
+
+-- the symbols of the cells that show, where the first so many cells are hidden behind a wide symbol
+unfoldable pub symbols_of : ℕ → List Look → List ℕ
+symbols_of hidden [] = []
+symbols_of zero (c ∷ cs) = c.symbol ++ symbols_of (step_of c.symbol - 1) cs
+symbols_of (suc hidden) (c ∷ cs) = symbols_of hidden cs
+
+-- the line of a row
+unfoldable pub row_line : List Look → List ℕ
+row_line row = codes "r " ++ (symbols_of 0 row ++ newline)
+
+-- a hexadecimal digit, and the two digits of a byte
+abbrev pub hex_digit : ℕ → ℕ
+hex_digit n = slice_index_or (codes "0123456789abcdef") n 0
+
+abbrev pub hex_byte : ℕ → List ℕ
+hex_byte n = hex_digit (n / 16) ∷ hex_digit (n % 16) ∷ []
+
+-- a colour's name, its red, green and blue in hexadecimal, or its index
+unfoldable pub color_text : Color → List ℕ
+color_text colors.Reset = codes "reset"
+color_text colors.Black = codes "black"
+color_text colors.Red = codes "red"
+color_text colors.Green = codes "green"
+color_text colors.Yellow = codes "yellow"
+color_text colors.Blue = codes "blue"
+color_text colors.Magenta = codes "magenta"
+color_text colors.Cyan = codes "cyan"
+color_text colors.Gray = codes "gray"
+color_text colors.DarkGray = codes "darkgray"
+color_text colors.LightRed = codes "lightred"
+color_text colors.LightGreen = codes "lightgreen"
+color_text colors.LightYellow = codes "lightyellow"
+color_text colors.LightBlue = codes "lightblue"
+color_text colors.LightMagenta = codes "lightmagenta"
+color_text colors.LightCyan = codes "lightcyan"
+color_text colors.White = codes "white"
+color_text (colors.Rgb red green blue) = codes "#" ++ (hex_byte red ++ (hex_byte green ++ hex_byte blue))
+color_text (colors.Indexed n) = decimal n
+
+-- the line of a run in a row: `s`, the row, the first column, the number of cells, the colours and the bits of the modifiers
+unfoldable pub run_line : ℕ → StyleRun → List ℕ
+run_line row run = codes "s " ++ (decimal row
+    ++ (codes " " ++ (decimal run.start
+    ++ (codes " " ++ (decimal run.len
+    ++ (codes " " ++ (color_text run.attributes.fg
+    ++ (codes " " ++ (color_text run.attributes.bg
+    ++ (codes " " ++ (decimal run.attributes.modifier.bits ++ newline)))))))))))
+
+-- The lines of the runs of rows, which are numbered from the first one's number on.
+abbrev pub AreRunLines : ℕ → List (List Look) → List ℕ → Type 0
+AreRunLines number [] text = text ≡ []
+AreRunLines number (row ∷ rows) text =
+    (runs : List StyleRun) × (rest : List ℕ) × AreStyleRuns row runs × AreRunLines (number + 1) rows rest
+    × (text ≡ flat_map (run_line number) runs ++ rest)
+
+-- the lines of the widgets' states: no widget so far has a state
+abbrev pub state_lines : List PlacedData → List ℕ
+state_lines placed = []
+
+-- The print of a buffer and of the widgets that were drawn: the rows, the runs of the rows, and the states.
+pub record IsPrint (screen : Screen) (placed : List PlacedData) (text : List ℕ) : Type 0 where
+  pub runs : List ℕ
+  pub are_runs : AreRunLines 0 screen.rows runs
+  pub parts : text ≡ flat_map row_line screen.rows ++ (runs ++ state_lines placed)

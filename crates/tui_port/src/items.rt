@@ -1,0 +1,53 @@
+//! Items: a widget and its area, each widget read by the fields of its table in order.
+
+mod fill;
+mod paragraph;
+mod unbuilt;
+mod widget;
+
+ghost use Rattle.serde_json.specs.View.{view};
+ghost use Rattle.tui_scene.specs.Item.{item_data, placed_data};
+ghost use Rattle.tui_port.specs.Items.{item_of, shown_of};
+ghost use Rattle.tui_port.specs.Refusals.{Gives};
+
+use crate::error::SceneError;
+use crate::field::Field;
+use crate::items::fill::read_fill;
+use crate::items::paragraph::read_paragraph;
+use crate::items::widget::Widget;
+use crate::table::required;
+use serde_json::Value;
+use std::alloc::Global;
+use tui_frames::Clear;
+use tui_scene::{Item, Placed};
+
+fn read_shown<'v>(
+    alloc: Global,
+    widget: Widget,
+    item: Option<usize>,
+    value: &'v Value,
+) -> Result<Item<'v>, SceneError>
+    ensures { Gives item_data result (shown_of widget item (view value.now)) }
+{
+    Ok(match widget {
+        Widget::Clear => Item::Clear(Clear),
+        Widget::Fill => Item::Fill(read_fill(alloc, item, value)?),
+        Widget::Paragraph => Item::Paragraph(read_paragraph(alloc, item, value)?),
+    })
+}
+
+/// The item of this number, from 0.
+#[tactic(auto, unfolding(crate::specs::Items::item_of))]
+pub(crate) fn read_item<'v>(
+    alloc: Global,
+    item: usize,
+    value: &'v Value,
+) -> Result<Placed<'v>, SceneError>
+    ensures { Gives placed_data result (item_of item (view value.now)) }
+{
+    let item = Some(item);
+    let widget = required(alloc, item, Field::Widget, value)?;
+    let area = required(alloc, item, Field::Area, value)?;
+    let item = read_shown(alloc, widget, item, value)?;
+    Ok(Placed { area, item })
+}

@@ -1,0 +1,34 @@
+//! The names of widgets.
+
+use crate::kinds::{Kind, KindError};
+use serde_json::Value;
+use std::alloc::Global;
+
+/// The widgets that are built.
+#[derive(Clone, Copy, Debug, PartialEq, Eq)]
+pub(crate) enum Widget {
+    Clear,
+    Fill,
+    Paragraph,
+}
+
+impl<'v> Kind<'v> for Widget {
+    ghost use Rattle.tui_port.specs.declared.items.widget.Widget.{Widget};
+    ghost use Rattle.tui_port.specs.Items.Names.{widget_of};
+
+    ghost Seen = { Widget };
+
+    ghost seen = { λ widget. widget };
+
+    ghost kind = { widget_of };
+
+    #[tactic(auto, unfolding(crate::specs::Items::Names::widget_of))]
+    fn read(_alloc: Global, value: &'v Value) -> Result<Widget, KindError> {
+        match value.as_str() {
+            Some("clear") => Ok(Widget::Clear),
+            Some("fill") => Ok(Widget::Fill),
+            Some("paragraph") => Ok(Widget::Paragraph),
+            _ => Err(KindError::WrongKind),
+        }
+    }
+}

@@ -1,0 +1,21 @@
+//! The kinds of value that the schema names, each read from JSON in one way.
+
+mod alignment;
+mod area;
+mod array;
+mod color;
+mod kind;
+mod line;
+mod member;
+mod modifier;
+mod number;
+mod span;
+mod style;
+mod symbol;
+mod text;
+mod wrap;
+
+pub(crate) use array::elements;
+pub(crate) use kind::{Kind, KindError};
+pub(crate) use member::{member, optional_member};
+pub(crate) use symbol::Symbol;

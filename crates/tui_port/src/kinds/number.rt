@@ -1,0 +1,54 @@
+//! Whole numbers and truth values.
+
+use crate::kinds::kind::{Kind, KindError};
+use serde_json::Value;
+use std::alloc::Global;
+
+impl<'v> Kind<'v> for u64 {
+    ghost use Rattle.std.specs.Prelude.{ℕ};
+    ghost use Rattle.tui_port.specs.Kinds.Number.{u64_of};
+
+    ghost Seen = { ℕ };
+
+    ghost seen = { λ n. n };
+
+    ghost kind = { u64_of };
+
+    fn read(_alloc: Global, value: &'v Value) -> Result<u64, KindError> {
+        value.as_u64().ok_or(KindError::WrongKind)
+    }
+}
+
+impl<'v> Kind<'v> for u16 {
+    ghost use Rattle.std.specs.Prelude.{ℕ};
+    ghost use Rattle.tui_port.specs.Kinds.Number.{u16_of};
+
+    ghost Seen = { ℕ };
+
+    ghost seen = { λ n. n };
+
+    ghost kind = { u16_of };
+
+    #[tactic(auto, unfolding(crate::specs::Kinds::Number::u16_of))]
+    fn read(_alloc: Global, value: &'v Value) -> Result<u16, KindError> {
+        match value.as_u64() {
+            Some(number) if number < 65536 => Ok(number as u16),
+            _ => Err(KindError::WrongKind),
+        }
+    }
+}
+
+impl<'v> Kind<'v> for bool {
+    ghost use Rattle.std.specs.Prelude.{Bool};
+    ghost use Rattle.serde_json.specs.Find.{as_bool};
+
+    ghost Seen = { Bool };
+
+    ghost seen = { λ b. b };
+
+    ghost kind = { as_bool };
+
+    fn read(_alloc: Global, value: &'v Value) -> Result<bool, KindError> {
+        value.as_bool().ok_or(KindError::WrongKind)
+    }
+}

@@ -1,0 +1,44 @@
+//! The print of a screen: the rows, the styles and the states.
+
+ghost use Rattle.std.specs.Prelude.{List, ℕ, true};
+ghost use Rattle.tui_port.specs.Causes.{Puts, Writes};
+ghost use Rattle.tui_port.specs.Print.{IsPrint};
+
+mod rows;
+mod runs;
+mod steps;
+mod words;
+
+use crate::gather::Gather;
+use crate::sink::{Sink, WriteFault};
+use tui_cells::Buffer;
+use tui_scene::Scene;
+
+/// Writes the print of a buffer and of the scene that was drawn into it: a line `r` and the symbols for each row, a line
+/// `s row column cells foreground background modifiers` for each run of neighbouring cells that have equal colours and
+/// modifiers, and a line `t` for each state. `WriteFault`: the sink has taken the first bytes, but not all of them. Takes
+/// no memory.
+pub fn write_screen<K: Sink>(
+    buf: &Buffer,
+    scene: &Scene<'_>,
+    sink: &mut K,
+) -> Result<(), WriteFault>
+    ensures { (text : List ℕ) × IsPrint buf.now scene.now text
+        × Writes (K.held sink.old) (K.held sink.new) (K.faults sink.old) (K.faults sink.new) result text }
+{
+    if put_screen(buf, scene, sink) {
+        Ok(())
+    } else {
+        Err(WriteFault)
+    }
+}
+
+fn put_screen<K: Sink>(buf: &Buffer, _scene: &Scene<'_>, sink: &mut K) -> bool
+    ensures { (text : List ℕ) × IsPrint buf.now _scene.now text
+        × Puts (K.held sink.old) (K.held sink.new) (K.faults sink.old) (K.faults sink.new) true result text }
+{
+    let mut gather = Gather::new();
+    rows::put_rows(&mut gather, buf, sink);
+    runs::put_runs(&mut gather, buf, sink);
+    gather.end(sink)
+}

@@ -1,0 +1,118 @@
+//! The styles of the print.
+
+ghost use Rattle.std.specs.Prelude.{◌≡◌, ◌≢◌, ◌<◌, ◌≤◌, ◌↔◌, ◌⊎◌, ℕ, List, [], length, Some, IsTrue, flat_map};
+ghost use Rattle.tui_port.specs.Gathers.{Gathers};
+ghost use Rattle.tui_port.specs.Print.{AreRunLines, run_line};
+ghost use Rattle.tui_port.specs.Runs.{AreStyleRuns, StyleRun, at_rest, attributes_at};
+
+use crate::gather::Gather;
+use crate::print::words::{put_color, put_number};
+use crate::sink::Sink;
+use tui_cells::{Attributes, Buffer, Cell, Color};
+
+/// Adds the lines of the runs of each row.
+pub(crate) fn put_runs<K: Sink>(gather: &mut Gather, buf: &Buffer, sink: &mut K)
+    ensures { (text : List ℕ) × AreRunLines 0 buf.now.rows text
+        × Gathers (K.held sink.old) (K.held sink.new) (K.faults sink.old) (K.faults sink.new) gather.old gather.new text }
+{
+    'rows: for number in 0..buf.height() {
+        put_row_runs(gather, number, buf.row_at(number), sink);
+    }
+}
+
+fn put_row_runs<K: Sink>(gather: &mut Gather, number: usize, row: &[Cell], sink: &mut K)
+    ensures { (runs : List StyleRun) × AreStyleRuns row.now runs
+        × Gathers (K.held sink.old) (K.held sink.new) (K.faults sink.old) (K.faults sink.new)
+        gather.old gather.new (flat_map (run_line number) runs) }
+{
+    let mut start = 0;
+    while start < row.len() {
+        let attributes = attributes_in(row, start);
+        let end = run_end(row, start, attributes);
+        put_run(gather, number, start, end - start, attributes, sink);
+        start = end;
+    }
+}
+
+#[inline]
+fn attributes_in(row: &[Cell], column: usize) -> Attributes
+    requires { column < length row.now }
+    ensures { attributes_at row.now column ≡ Some result }
+{
+    row[column].attributes()
+}
+
+// The first column from `start` on whose cell has other attributes, or the end of the row.
+fn run_end(row: &[Cell], start: usize, attributes: Attributes) -> usize
+    requires { start ≤ length row.now }
+    ensures within { (start ≤ result) × (result ≤ length row.now) }
+    ensures alike { (x : ℕ) → start ≤ x → x < result → attributes_at row.now x ≡ Some attributes }
+    ensures other { attributes_at row.now result ≢ Some attributes }
+{
+    'columns: for column in start..row.len() {
+        if !is_same(attributes_in(row, column), attributes) {
+            return column;
+        }
+    }
+    row.len()
+}
+
+#[inline]
+fn is_same(a: Attributes, b: Attributes) -> bool
+    ensures { IsTrue result ↔ (a ≡ b) }
+{
+    is_same_color(a.fg, b.fg) && is_same_color(a.bg, b.bg) && a.modifier.bits() == b.modifier.bits()
+}
+
+#[inline]
+fn is_same_color(a: Color, b: Color) -> bool
+    ensures { IsTrue result ↔ (a ≡ b) }
+{
+    a == b
+}
+
+// Cells at rest have no line.
+fn put_run<K: Sink>(
+    gather: &mut Gather,
+    number: usize,
+    start: usize,
+    len: usize,
+    attributes: Attributes,
+    sink: &mut K,
+)
+    ensures { ((attributes ≡ at_rest)
+        × Gathers (K.held sink.old) (K.held sink.new) (K.faults sink.old) (K.faults sink.new) gather.old gather.new [])
+        ⊎ ((attributes ≢ at_rest)
+        × Gathers (K.held sink.old) (K.held sink.new) (K.faults sink.old) (K.faults sink.new) gather.old gather.new
+        (run_line number (record { start = start; len = len; attributes = attributes }))) }
+{
+    if !is_same(attributes, Attributes::at_rest()) {
+        put_run_line(gather, number, start, len, attributes, sink);
+    }
+}
+
+fn put_run_line<K: Sink>(
+    gather: &mut Gather,
+    number: usize,
+    start: usize,
+    len: usize,
+    attributes: Attributes,
+    sink: &mut K,
+)
+    ensures { Gathers (K.held sink.old) (K.held sink.new) (K.faults sink.old) (K.faults sink.new) gather.old gather.new
+        (run_line number (record { start = start; len = len; attributes = attributes })) }
+{
+    gather.extend(sink, b"s ");
+    put_number(gather, number, sink);
+    gather.push(sink, b' ');
+    put_number(gather, start, sink);
+    gather.push(sink, b' ');
+    put_number(gather, len, sink);
+    gather.push(sink, b' ');
+    put_color(gather, attributes.fg, sink);
+    gather.push(sink, b' ');
+    put_color(gather, attributes.bg, sink);
+    gather.push(sink, b' ');
+    put_number(gather, attributes.modifier.bits() as usize, sink);
+    gather.push(sink, b'\n');
+}

@@ -1,0 +1,25 @@
+ghost use Rattle.tui_port.specs.Causes.{Writes, Puts};
+
+use crate::sink::{Sink, WriteFault};
+
+/// Puts all of the bytes. No put follows a failed one; the sink has then taken the first bytes, but
+/// not all of them.
+pub fn put_all<K: Sink>(sink: &mut K, bytes: &[u8]) -> Result<(), WriteFault>
+    ensures { Writes (K.held sink.old) (K.held sink.new) (K.faults sink.old) (K.faults sink.new) result bytes.now }
+{
+    let mut at = 0;
+    while at < bytes.len() {
+        let Ok(count) = sink.put(&bytes[at..]) else {
+            return Err(WriteFault);
+        };
+        at += count;
+    }
+    Ok(())
+}
+
+/// Puts all of the bytes if no put has failed so far, and answers whether none has.
+pub fn put_if<K: Sink>(going: bool, sink: &mut K, bytes: &[u8]) -> bool
+    ensures { Puts (K.held sink.old) (K.held sink.new) (K.faults sink.old) (K.faults sink.new) going result bytes.now }
+{
+    going && put_all(sink, bytes).is_ok()
+}
