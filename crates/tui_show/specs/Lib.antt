@@ -1,0 +1,4 @@
+pub mod Refusal
+pub mod Endings
+pub mod Complete
+pub mod Status
