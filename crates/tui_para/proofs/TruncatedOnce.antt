@@ -1,18 +1,14 @@
 -- The line of a text line that is cut is one.
-use Rattle.std.proofs.Common.{◌≡◌, ℕ, zero, suc, ◌+◌, ◌-◌, ◌<◌, ◌≤◌, List, [], ◌∷◌, ◌++◌, length, take, drop, map, Bool, true, false, cond, refl, sym, ap, ◌∙◌, subst, arith, ⊎_elim}
+use Rattle.std.proofs.Common.{◌≡◌, ℕ, ◌-◌, ◌<◌, ◌≤◌, List, [], ◌∷◌, ◌++◌, length, Bool, true, false, refl, sym, ap, ◌∙◌, Some, subst, arith, ⊎_elim}
 use Rattle.std.specs.Prelude.{◌≢◌, ◌⊎◌, sum_by, nat_le, nat_lt, ◌&&◌}
-use Rattle.std.specs.List.{between}
 use Rattle.std.proofs.lemmas.List.Sums.{sum_by-cons}
-use Rattle.std.proofs.lemmas.List.{length-append, drop-map}
+use Rattle.std.proofs.lemmas.List.{length-append}
 use Rattle.std.proofs.lemmas.Bool.{cases_Bool, leb-true, leb-false}
 use Rattle.std.proofs.lemmas.List.{append_cancel_left}
 use Rattle.std.proofs.lemmas.Bool.Decides.{nat_tests}
-use Rattle.std.proofs.Common.{get_or, Some}
-use Rattle.std.proofs.Math.Seq.{drop-nil}
 use Rattle.tui_text.specs.Grapheme.{Glyph, glyph_width}
 use Rattle.tui_para.specs.Lines.{Strip, is_left, LendsFirst, TakesFirst, TruncatesLine}
 use Rattle.tui_para.specs.Wrapping.{NoParts}
-use Rattle.tui_para.specs.Places.{fitting_len, passed_len}
 use Rattle.tui_para.specs.Truncated.{IsLongestFront, FitsIn, IsPassedBy, Truncated, fitting_front, left_by, truncate}
 use Rattle.tui_para.specs.Wrapped.{kept, IsTheOne}
 use Rattle.tui_para.proofs.Unique.{cuts}
@@ -161,9 +157,6 @@ module _ {A : Type 0} (size : A → ℕ) where
               stop
 
   -- exactly one line
-  shown_of : (left : Bool) (offset : ℕ) (xs : List A) → List A
-  shown_of left offset xs = cond left (left_by size offset xs) xs
-
   pub truncate_is : (w : ℕ) (left : Bool) (offset : ℕ) (xs : List A) → Truncated size w left offset xs (truncate size w left offset xs)
   truncate_is w true offset xs =
       let p = passed_is offset (kept size w xs) in
@@ -186,60 +179,20 @@ module _ {A : Type 0} (size : A → ℕ) where
       let is = truncate_is w left offset xs in
       record { meets = is; alone = λ other h. truncated_once w left offset xs other (truncate size w left offset xs) h is }
 
-  fitting_front-take : (room : ℕ) (xs : List A) → fitting_front size room xs ≡ take (fitting_len size room xs) xs
-  fitting_front-take room [] = refl
-  fitting_front-take room (x ∷ xs) = ⊎_elim (λ b. rw b (ap (λ t. x ∷ t) (fitting_front-take (room - size x) xs))) (λ b. rw b refl) (cases_Bool (nat_le (size x) room))
+  -- an offset of 0 passes none
+  pub left_by_none : (xs : List A) → left_by size 0 xs ≡ xs
+  left_by_none [] = refl
+  left_by_none (x ∷ xs) = refl
 
-  left_by-drop : (offset : ℕ) (xs : List A) → left_by size offset xs ≡ drop (passed_len size offset xs) xs
-  left_by-drop offset [] = refl
-  left_by-drop offset (x ∷ xs) = ⊎_elim (λ b. rw b (left_by-drop (offset - size x) xs)) (λ b. rw b refl) (cases_Bool (nat_lt 0 offset && nat_le (size x) offset))
-
-module _ {A B : Type 0} (f : A → B) (size : B → ℕ) where
-  fitting_len-map : (room : ℕ) (xs : List A) → fitting_len size room (map f xs) ≡ fitting_len (λ x. size (f x)) room xs
-  fitting_len-map room [] = refl
-  fitting_len-map room (x ∷ xs) = ap (λ n. cond (nat_le (size (f x)) room) (suc n) 0) (fitting_len-map (room - size (f x)) xs)
-
-  passed_len-map : (offset : ℕ) (xs : List A) → passed_len size offset (map f xs) ≡ passed_len (λ x. size (f x)) offset xs
-  passed_len-map offset [] = refl
-  passed_len-map offset (x ∷ xs) = ap (λ n. cond (nat_lt 0 offset && nat_le (size (f x)) offset) (suc n) 0) (passed_len-map (offset - size (f x)) xs)
-
-  -- the line, at the places that what is seen of the graphemes gives
-  pub truncated_placed : (w : ℕ) (left : Bool) (offset : ℕ) (xs : List A) (ms ys : List B) (start len : ℕ) →
-      map f xs ≡ ms → start ≡ cond left (passed_len size offset ms) 0 → ys ≡ drop start ms → len ≡ fitting_len size w ys →
-      between start (start + len) xs ≡ fitting_front (λ x. size (f x)) w (cond left (left_by (λ x. size (f x)) offset xs) xs)
-  truncated_placed w left offset xs ms ys start len view starts rest lasts =
-      let s : start ≡ cond left (passed_len (λ x. size (f x)) offset xs) 0 = starts ∙ (ap (λ t. cond left (passed_len size offset t) 0) (sym view) ∙ ap (λ n. cond left n 0) (passed_len-map offset xs)) in
-      let shown : drop start xs ≡ cond left (left_by (λ x. size (f x)) offset xs) xs = ap (λ n. drop n xs) s ∙ dropped left in
-      let l : len ≡ fitting_len (λ x. size (f x)) w (drop start xs) = lasts ∙ (ap (fitting_len size w) (rest ∙ (ap (drop start) (sym view) ∙ drop-map f start xs)) ∙ fitting_len-map w (drop start xs)) in
-      let long : start + len - start ≡ len = omega arith in
-      ap (λ n. take n (drop start xs)) (long ∙ l) ∙ (sym (fitting_front-take (λ x. size (f x)) w (drop start xs)) ∙ ap (fitting_front (λ x. size (f x)) w) shown)
-    where
-      dropped : (b : Bool) → drop (cond b (passed_len (λ x. size (f x)) offset xs) 0) xs ≡ cond b (left_by (λ x. size (f x)) offset xs) xs
-      dropped true = sym (left_by-drop (λ x. size (f x)) offset xs)
-      dropped false = refl
-
--- an offset that is used up, or not enough for the next grapheme, passes none
-pub none_passed : {A : Type 0} (size : A → ℕ) (left : ℕ) (xs : List A) (i : ℕ) (d : A) → (left ≡ 0) ⊎ (left < size (get_or xs i d)) → passed_len size left (drop i xs) ≡ 0
-none_passed size left [] i d h = ap (passed_len size left) (drop-nil i)
-none_passed size left (x ∷ xs) zero d h = first_not_passed left (size x) _ h
-  where
-    first_not_passed : (left s n : ℕ) → (left ≡ 0) ⊎ (left < s) → cond (nat_lt 0 left && nat_le s left) n 0 ≡ 0
-    first_not_passed left s n h = grind (arith, nat_tests)
-none_passed size left (x ∷ xs) (suc i) d h = none_passed size left xs i d h
-
--- the one line of a text line, where it is found among the graphemes that are not too wide
-module _ (w offset : ℕ) (t : Strip) (glyphs part : List Glyph) (kept_are : glyphs ≡ kept glyph_width w t.glyphs)
-    (part_is : part ≡ fitting_front glyph_width w (cond (is_left t.alignment) (left_by glyph_width offset glyphs) glyphs)) where
-  line_is_cut : part ≡ truncate glyph_width w (is_left t.alignment) offset t.glyphs
-  line_is_cut = part_is ∙ ap (λ gs. fitting_front glyph_width w (cond (is_left t.alignment) (left_by glyph_width offset gs) gs)) kept_are
-
-  pub line_lends : LendsFirst (TruncatesLine w offset t) (Some part) NoParts
+-- the one line of a text line lends itself
+module _ (w offset : ℕ) (t : Strip) (line : List Glyph) (line_is_cut : line ≡ truncate glyph_width w (is_left t.alignment) offset t.glyphs) where
+  pub line_lends : LendsFirst (TruncatesLine w offset t) (Some line) NoParts
   line_lends parts none =
-      (part, subst (Truncated glyph_width w (is_left t.alignment) offset t.glyphs) (sym line_is_cut) (truncate_is glyph_width w (is_left t.alignment) offset t.glyphs), ap (λ k. part ∷ k) none)
+      (line, subst (Truncated glyph_width w (is_left t.alignment) offset t.glyphs) (sym line_is_cut) (truncate_is glyph_width w (is_left t.alignment) offset t.glyphs), ap (λ k. line ∷ k) none)
 
-  pub line_takes : TakesFirst (TruncatesLine w offset t) (Some part) NoParts
-  line_takes parts (line, h, e) =
-      ([], e ∙ ap (λ k. k ∷ []) ((truncates_once glyph_width w (is_left t.alignment) offset t.glyphs).alone line h ∙ sym line_is_cut), refl)
+  pub line_takes : TakesFirst (TruncatesLine w offset t) (Some line) NoParts
+  line_takes parts (other, h, e) =
+      ([], e ∙ ap (λ k. k ∷ []) ((truncates_once glyph_width w (is_left t.alignment) offset t.glyphs).alone other h ∙ sym line_is_cut), refl)
 
 pub truncates_some : (w offset : ℕ) (t : Strip) → TruncatesLine w offset t [] → ⊥
 truncates_some w offset t (line, h, e) = no_cons line [] e

@@ -1,6 +1,7 @@
 pub mod Wrapped
 pub mod Places
 pub mod Truncated
+pub mod Cut
 pub mod Counting
 pub mod Division
 pub mod Mark

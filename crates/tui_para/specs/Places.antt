@@ -45,13 +45,3 @@ wrap_kept blank size w trim (x ∷ xs) = lines_of blank size w trim (length (x �
 -- the lines into which graphemes are wrapped: the one list that `Wrapped` admits
 abbrev pub wrap : {A : Type 0} → (A → Bool) → (A → ℕ) → ℕ → Bool → List A → List (List A)
 wrap blank size w trim xs = wrap_kept blank size w trim (kept size w xs)
-
--- the graphemes at the front that fit a room
-abbrev pub fitting_len : {A : Type 0} → (A → ℕ) → ℕ → List A → ℕ
-fitting_len size room [] = 0
-fitting_len size room (x ∷ xs) = cond (nat_le (size x) room) (suc (fitting_len size (room - size x) xs)) 0
-
--- those at the front that an offset passes
-abbrev pub passed_len : {A : Type 0} → (A → ℕ) → ℕ → List A → ℕ
-passed_len size offset [] = 0
-passed_len size offset (x ∷ xs) = cond (nat_lt 0 offset && nat_le (size x) offset) (suc (passed_len size (offset - size x) xs)) 0

@@ -5,6 +5,7 @@ mod breaking;
 pub mod composer;
 mod counter;
 mod counting;
+mod cut;
 mod front;
 mod laws;
 #[cfg(test)]

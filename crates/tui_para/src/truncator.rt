@@ -1,27 +1,26 @@
 //! Text lines that are cut.
 
-ghost use Rattle.std.specs.Prelude.{◌≡◌, ◌≤◌, ◌↔◌, ℕ, List, false, true, length, IfOk, IfSome, MatchResult, option_map, sum_by};
-ghost use Rattle.tui_text.specs.Grapheme.{glyph_width};
+ghost use Rattle.std.specs.Prelude.{◌≡◌, ◌↔◌, ℕ, List, false, true, IfOk, IfSome, MatchResult, map, option_map, sum_by};
+ghost use Rattle.tui_text.specs.Grapheme.{glyph_of, glyph_width};
 ghost use Rattle.tui_para.specs.Given.{AllReady, MayGive, MayBe, WillGive, WillBe};
 ghost use Rattle.tui_para.specs.Lines.{Strip, strip, LendsFirst, LinesOf, TakesFirst, TruncatesLine};
-ghost use Rattle.tui_para.specs.Marked.{glyphs_of, part_of};
 ghost use Rattle.tui_para.specs.Wrapping.{TruncatorMayLend, TruncatorWillLend};
 
 use crate::composer::{LineComposer, WrappedLine};
-use crate::marked::Marked;
-use crate::part::Part;
-use crate::truncating::shown_part;
+use crate::cut::Cut;
+use crate::truncating::refill;
 use std::alloc::Global;
 use std::marker::PhantomData;
 use tui_cells::{Mem, NoMemory};
 use tui_text::{Alignment, StyledGrapheme};
 
-/// Cuts text lines at a width: of each the graphemes that fit, with its alignment.
+/// Cuts text lines at a width: of each the graphemes that fit, with its alignment. It reads each to its end, and keeps
+/// what is shown of it alone.
 #[derive(Drop)]
 pub struct LineTruncator<'a, O, I> {
     of: PhantomData<I>,
     lines: O,
-    current: Marked<'a>,
+    shown: Vec<StyledGrapheme<'a>>,
     width: u16,
     offset: u16,
     alignment: Alignment,
@@ -48,7 +47,7 @@ where
         LineTruncator {
             of: PhantomData,
             lines,
-            current: Marked::new(alloc),
+            shown: Vec::new(alloc),
             width: max_line_width,
             offset: 0,
             alignment: Alignment::Left,
@@ -64,17 +63,16 @@ where
         self.offset = offset;
     }
 
-    /// Goes on to the next line, and says where it stands in the text line.
-    fn advance(&mut self) -> Mem<Option<Part>>
+    /// Goes on to the next line, and answers its columns.
+    fn advance(&mut self) -> Mem<Option<u16>>
         requires { self.old.done ≡ false → AllReady O.can_next O.next_gives O.remaining I.can_next I.remaining self.old.lines }
         ensures ready { self.new.done ≡ false → AllReady O.can_next O.next_gives O.remaining I.can_next I.remaining self.new.lines }
-        ensures order { IfOk result (λ found. IfSome found (λ p. (p.start ≤ p.end) × (p.end ≤ length (glyphs_of self.new.current)))) }
-        ensures columns { IfOk result (λ found. IfSome found (λ p. p.width ≡ sum_by glyph_width (part_of (glyphs_of self.new.current) p))) }
+        ensures columns { IfOk result (λ found. IfSome found (λ columns. columns ≡ sum_by glyph_width (map glyph_of self.new.shown.items))) }
         ensures failed { MatchResult result (λ _. (self.old.failed ≡ false) × (self.new.failed ≡ false)) (λ _. self.new.failed ≡ true) }
         ensures lends { IfOk result (λ found. LendsFirst (TruncatorMayLend O.next_gives I.next_gives self.old)
-            (option_map (λ p. strip self.new.alignment (part_of (glyphs_of self.new.current) p)) found) (TruncatorMayLend O.next_gives I.next_gives self.new)) }
+            (option_map (λ _. strip self.new.alignment (map glyph_of self.new.shown.items)) found) (TruncatorMayLend O.next_gives I.next_gives self.new)) }
         ensures takes { IfOk result (λ found. TakesFirst (TruncatorWillLend O.next_gives I.next_gives self.old)
-            (option_map (λ p. strip self.new.alignment (part_of (glyphs_of self.new.current) p)) found) (TruncatorWillLend O.next_gives I.next_gives self.new)) }
+            (option_map (λ _. strip self.new.alignment (map glyph_of self.new.shown.items)) found) (TruncatorWillLend O.next_gives I.next_gives self.new)) }
     {
         if self.failed {
             return Err(NoMemory);
@@ -89,15 +87,13 @@ where
             }
             Some((line, alignment)) => {
                 self.alignment = alignment;
-                match self.current.refill(line, self.width) {
+                let cut = Cut::new(self.width, alignment, self.offset);
+                match refill(&mut self.shown, line, cut) {
                     Err(_) => {
                         self.failed = true;
                         Err(NoMemory)
                     }
-                    Ok(()) => {
-                        let marks = self.current.marks();
-                        Ok(Some(shown_part(marks, alignment, self.offset, self.width)))
-                    }
+                    Ok(columns) => Ok(Some(columns)),
                 }
             }
         }
@@ -120,12 +116,11 @@ where
     fn next_line<'l>(&'l mut self) -> Mem<Option<WrappedLine<'l, 'a>>> {
         match self.advance()? {
             None => Ok(None),
-            Some(part) => {
+            Some(width) => {
                 let alignment = self.alignment;
-                let graphemes = self.current.part(part.start, part.end);
                 Ok(Some(WrappedLine {
-                    graphemes,
-                    width: part.width,
+                    graphemes: &self.shown,
+                    width,
                     alignment,
                 }))
             }

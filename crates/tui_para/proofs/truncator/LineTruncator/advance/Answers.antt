@@ -1,15 +1,9 @@
-use Rattle.std.proofs.Common.{◌≡◌, true, [], List, map, refl, sym, ◌∙◌, ap, subst, Some, inl}
-use Rattle.std.specs.Prelude.{sum_by}
-use Rattle.std.specs.List.{between}
+use Rattle.std.proofs.Common.{◌≡◌, true, [], List, map, refl, ◌∙◌, subst, Some, sym, inl}
 use Rattle.tui_text.specs.Grapheme.{Glyph, glyph_of}
 use Rattle.tui_para.specs.Given.{MayGive, MayBe, WillGive, WillBe}
 use Rattle.tui_para.specs.Lines.{Strip, strip, UnlessDone, TruncatesLine}
-use Rattle.tui_para.specs.Mark.{mark_of, size_of}
-use Rattle.tui_para.specs.Marked.{glyphs_of, part_of}
 use Rattle.tui_para.specs.Wrapping.{NoParts}
 use Rattle.tui_para.proofs.Lending.{AllReady-step, AllReady-first, may_first, will_first, will_end, next_lent, next_taken, none_taken, positive}
-use Rattle.tui_para.proofs.Mapped.{sum_by-map}
-use Rattle.tui_para.proofs.Parts.{between-map}
 use Rattle.tui_para.proofs.TruncatedOnce.{line_lends, line_takes, truncates_some}
 use Rattle.tui_para.proofs.truncator.LineTruncator.advance.Goals as goal
 
@@ -33,46 +27,36 @@ returns-in-None-clause-takes g c =
     (will_end outer inner s.lines c.next.new.self c.in-None.ensures.steps))
     refl (inl (refl, refl))
 
-pub returns-in-Ok-clause-columns : goal.returns-in-Ok-clause-columns
-returns-in-Ok-clause-columns g c =
-    let p = c.shown_part.result in
-    let glyphs = glyphs_of c.refill.new.self in
-    c.shown_part.ensures.width
-    ∙ (ap (λ ms. sum_by size_of (between p.start p.end ms)) c.marks-marks.ensures
-    ∙ (ap (sum_by size_of) (between-map mark_of p.start p.end glyphs) ∙ sum_by-map mark_of (λ m. m.blank) size_of (between p.start p.end glyphs)))
-
 pub returns-in-Ok-clause-lends : goal.returns-in-Ok-clause-lends
 returns-in-Ok-clause-lends g c =
     let s = c.args.self.now in
-    let (all, drains, fills) = c.in-Ok.ensures.ok in
+    let (all, drains, read) = c.in-Ok.ensures.line in
     let t = strip c.in-Some.alignment (map glyph_of all) in
-    let glyphs = glyphs_of c.refill.new.self in
-    let part = part_of glyphs c.shown_part.result in
+    let shown = map glyph_of c.refill.new.shown.items in
     let outer = g.O.Iterator.next_gives in
     let inner = g.I.Iterator.next_gives in
     let T = UnlessDone s.done (MayGive outer (MayBe inner) s.lines) in
     let U = UnlessDone s.done (MayGive outer (MayBe inner) c.next.new.self) in
     let R = TruncatesLine s.width s.offset in
-    let line = line_lends s.width s.offset t glyphs part fills (c.shown_part.ensures.part glyphs (sym c.marks-marks.ensures)) in
+    let line = line_lends s.width s.offset t shown (read ∙ c.new-cut.ensures (map glyph_of all)) in
     next_lent R s.width (positive _ _ refl c.if-self-eq0.false) T U NoParts (R t) NoParts s.alignment t (λ (k : List Glyph). k)
-    (truncates_some s.width s.offset t) (Some part) refl
+    (truncates_some s.width s.offset t) (Some shown) refl
     (may_first outer inner s.lines c.next.new.self s.done c.in-Some.line c.in-Some.alignment all c.if-self-2.false c.in-Some.ensures.steps drains)
     (λ parts. (λ h. h, λ h. h)) line
 
 pub returns-in-Ok-clause-takes : goal.returns-in-Ok-clause-takes
 returns-in-Ok-clause-takes g c =
     let s = c.args.self.now in
-    let (all, drains, fills) = c.in-Ok.ensures.ok in
+    let (all, drains, read) = c.in-Ok.ensures.line in
     let t = strip c.in-Some.alignment (map glyph_of all) in
-    let glyphs = glyphs_of c.refill.new.self in
-    let part = part_of glyphs c.shown_part.result in
+    let shown = map glyph_of c.refill.new.shown.items in
     let outer = g.O.Iterator.next_gives in
     let inner = g.I.Iterator.next_gives in
     let T = UnlessDone s.done (WillGive outer (WillBe inner) s.lines) in
     let U = UnlessDone s.done (WillGive outer (WillBe inner) c.next.new.self) in
     let R = TruncatesLine s.width s.offset in
-    let line = line_takes s.width s.offset t glyphs part fills (c.shown_part.ensures.part glyphs (sym c.marks-marks.ensures)) in
+    let line = line_takes s.width s.offset t shown (read ∙ c.new-cut.ensures (map glyph_of all)) in
     next_taken R s.width (positive _ _ refl c.if-self-eq0.false) T U NoParts (R t) NoParts s.alignment t (λ (k : List Glyph). k)
-    (truncates_some s.width s.offset t) (Some part) (λ parts e. e)
+    (truncates_some s.width s.offset t) (Some shown) (λ parts e. e)
     (will_first outer inner s.lines c.next.new.self s.done c.in-Some.line c.in-Some.alignment all c.if-self-2.false c.in-Some.ensures.steps drains)
     (λ parts. (λ h. h, λ h. h)) line

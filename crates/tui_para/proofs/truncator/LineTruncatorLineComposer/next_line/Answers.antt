@@ -1,6 +1,6 @@
-use Rattle.std.proofs.Common.{◌≡◌, refl, sym, subst, Some}
+use Rattle.std.proofs.Common.{◌≡◌, map, ap, refl, sym, subst, Some}
 use Rattle.std.specs.Prelude.{sum_by}
-use Rattle.tui_text.specs.Grapheme.{glyph_width}
+use Rattle.tui_text.specs.Grapheme.{glyph_of, glyph_width}
 use Rattle.tui_para.specs.Given.{MayGive, MayBe, WillGive, WillBe}
 use Rattle.tui_para.specs.Lines.{strip, LendsFirst, TakesFirst}
 use Rattle.tui_para.specs.Wrapping.{TruncatorLines}
@@ -10,7 +10,7 @@ pub returns-in-Some : goal.returns-in-Some
 returns-in-Some g c =
     let s = c.args.self.now in
     let new = c.advance.new.self in
-    let part = sym c.part-graphemes.ensures in
+    let lent = sym (ap (map glyph_of) c.deref.ensures.value) in
     let failed = c.in_ok-advance.ensures.failed in
     let lends = rw c.in-Some.is at c.in_ok-advance.ensures.lends in
     let takes = rw c.in-Some.is at c.in_ok-advance.ensures.takes in
@@ -25,10 +25,10 @@ returns-in-Some g c =
           (
             failed.0,
             failed.1,
-            subst (λ gs. LendsFirst (may s.lines s.width s.offset s.alignment s.done) (Some (strip new.alignment gs)) (may new.lines new.width new.offset new.alignment new.done)) part lends,
-            subst (λ gs. TakesFirst (will s.lines s.width s.offset s.alignment s.done) (Some (strip new.alignment gs)) (will new.lines new.width new.offset new.alignment new.done)) part takes,
+            subst (λ gs. LendsFirst (may s.lines s.width s.offset s.alignment s.done) (Some (strip new.alignment gs)) (may new.lines new.width new.offset new.alignment new.done)) lent lends,
+            subst (λ gs. TakesFirst (will s.lines s.width s.offset s.alignment s.done) (Some (strip new.alignment gs)) (will new.lines new.width new.offset new.alignment new.done)) lent takes,
           ),
         ),
       ),
-      record { width = subst (λ gs. c.in-Some.part.width ≡ sum_by glyph_width gs) part columns; after = tt },
+      record { width = subst (λ gs. c.in-Some.width ≡ sum_by glyph_width gs) lent columns; after = tt },
     )
