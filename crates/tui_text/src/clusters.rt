@@ -42,6 +42,7 @@ impl<'a> Iterator for Clusters<'a> {
 
     ghost remaining = { item_count clusters_left };
 
+    #[inline(always)]
     fn next(&mut self) -> Option<&'a str> {
         'clusters: loop {
             if let Some(cluster) = self.inner.next() {
