@@ -1,8 +1,10 @@
 #!/usr/bin/env python3
 """Shows the print of a scene in the terminal's own colours.
 
-It reads what the program writes (docs/SCENE.md) from standard input: rows `r TEXT`, style runs
-`s ROW COLUMN LENGTH FG BG MODIFIERS` and states `t ..`, which it leaves out.
+It reads what the program writes (docs/SCENE.md) from standard input: rows `r TEXT` and style runs
+`s ROW COLUMN LENGTH FG BG MODIFIERS`. It leaves out every other line. The columns of characters are by
+Python's own tables, so behind a symbol of several characters, such as a joined emoji, a colour may
+begin a column too late or too early.
 """
 import sys
 import unicodedata
@@ -56,6 +58,8 @@ def painted(text, runs):
 
 
 def main():
+    for stream in (sys.stdin, sys.stdout):
+        stream.reconfigure(encoding="utf-8")
     rows, runs = [], {}
     for line in sys.stdin.read().split("\n"):
         if line.startswith("r "):
