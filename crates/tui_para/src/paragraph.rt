@@ -19,8 +19,8 @@ use std::alloc::Global;
 use tui_cells::{Mem, Position, Style, Styled};
 use tui_text::{Alignment, Text};
 
-/// A text shown in rows. Without a wrap each line of the text has one row and is cut at the
-/// edges; with one it is broken into rows of the width that there is.
+/// A text shown in rows. Without a wrap each line of the text has one row and is cut at its right
+/// end; with one it is broken into rows of the width that there is.
 #[derive(Debug, PartialEq, Eq, Hash, Drop)]
 pub struct Paragraph<'a> {
     text: Text<'a>,

@@ -15,9 +15,9 @@ use tui_cells::Buffer;
 use tui_scene::Scene;
 
 /// Writes the print of a buffer and of the scene that was drawn into it: a line `r` and the symbols for each row, a line
-/// `s row column cells foreground background modifiers` for each run of neighbouring cells that have equal colours and
-/// modifiers, and a line `t` for each state. `WriteFault`: the sink has taken the first bytes, but not all of them. Takes
-/// no memory.
+/// `s row column cells foreground background modifiers` for each longest run of neighbouring cells that have equal colours
+/// and modifiers and are not at rest. No widget has a state so far. `WriteFault`: the sink has taken the first bytes, but not
+/// all of them. Takes no memory.
 pub fn write_screen<K: Sink>(
     buf: &Buffer,
     scene: &Scene<'_>,

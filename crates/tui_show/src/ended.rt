@@ -4,7 +4,7 @@ ghost use Rattle.std.specs.Prelude.{◌≡◌, if◌then◌else◌};
 
 use tui_port::Field;
 
-/// How a run ends. Only `Ok` has drawn; the endings from `Usage` to `BadField` have written one line that says so.
+/// How a run ends. Only `Ok` has written a screen whole; the endings from `Usage` to `BadField` have written one line that says so.
 #[derive(Clone, Copy, Debug, PartialEq, Eq)]
 pub enum Ended {
     /// All was read, drawn and written.
