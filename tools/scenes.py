@@ -45,6 +45,7 @@ SCENES = {
     "paragraph": lambda: scene(200, 1000, [paragraph(words(500_000), (0, 0, 200, 1000), wrap={"trim": True})]),
     "line20": lambda: scene(20, 10, [paragraph(words(1_000_000), (0, 0, 20, 10), wrap={"trim": True}, scroll=[65535, 0])]),
     "line1000": lambda: scene(1000, 10, [paragraph(words(1_000_000), (0, 0, 1000, 10), wrap={"trim": True}, scroll=[65535, 0])]),
+    "unwrapped": lambda: scene(1000, 10, [paragraph(words(1_000_000), (0, 0, 1000, 10))]),
     "styled": styled,
 }
 

@@ -11,7 +11,9 @@ use crate::style::Style;
 /// All of a cell but its symbol.
 #[derive(Clone, Copy, Debug, PartialEq, Eq, Hash)]
 pub struct Attributes {
+    /// The foreground.
     pub fg: Color,
+    /// The background.
     pub bg: Color,
     pub modifier: Modifier,
 }

@@ -37,7 +37,7 @@ impl Model for Buffer {
 }
 
 impl Buffer {
-    /// A buffer of blank cells; the area is cut as by `Rect::new`.
+    /// A buffer of blank cells; the area is cut as by `Rect::new`. `NoMemory` where there is none for the cells.
     pub fn empty(alloc: Global, area: Rect) -> Mem<Buffer>
         ensures { IfOk result (IsFilled (area_of area.x area.y area.width area.height) blank) }
     {
@@ -49,7 +49,7 @@ impl Buffer {
         Ok(Buffer { area, rows })
     }
 
-    /// A buffer with the given cell at each position; the area is cut as by `Rect::new`.
+    /// A buffer with the given cell at each position; the area is cut as by `Rect::new`. `NoMemory` as for `empty`.
     pub fn filled(alloc: Global, area: Rect, cell: &Cell) -> Mem<Buffer>
         ensures { IfOk result (IsFilled (area_of area.x area.y area.width area.height) cell.now) }
     {

@@ -36,9 +36,6 @@ next_word_wide blank size p x r e b =
     let first = sum_by-cons size x more in
     omega arith
 
-next_word_alone : {A : Type 0} (blank : A → Bool) (x : A) → next_word blank (x ∷ []) ≡ x ∷ []
-next_word_alone blank x = ⊎_elim (λ t. rw t refl) (λ t. rw t refl) (cases_Bool (blank x))
-
 next_word_longer : {A : Type 0} (blank : A → Bool) (p : List A) (x : A) → next_word blank p ≡ p → (ends_in (no_blank blank) false p ≡ true → blank x ≡ false) → next_word blank (p ++ x ∷ []) ≡ p ++ x ∷ []
 next_word_longer blank p x e b = next_word_on blank false p x [] refl e b ∙ ap (λ t. p ++ x ∷ t) (⊎_elim (λ t. rw t refl) (λ t. rw t refl) (cases_Bool (blank x)))
 

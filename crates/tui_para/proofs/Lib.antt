@@ -8,7 +8,7 @@ mod TruncatedOnce
 mod Reading
 mod LineCounts
 mod Cutting
-mod TextLines
+mod TextLengths
 mod Fewest
 mod TextCut
 mod ShowingRuns
@@ -16,3 +16,9 @@ pub mod ShowingLines
 mod Painted
 mod LinesExist
 mod LinesAgree
+mod Sources
+mod Extending
+mod FirstLines
+mod PartsRead
+mod Beginning
+mod TextLends

@@ -15,8 +15,8 @@ use Rattle.tui_text.specs.Grapheme.{Glyph, glyph_of, glyph_width}
 use Rattle.tui_text.specs.declared.grapheme.StyledGrapheme.{StyledGrapheme}
 use Rattle.std.specs.Prelude.{sum_by}
 use Rattle.tui_text.specs.declared.alignment.Alignment.{Alignment}
-use Rattle.tui_para.specs.Lines.{Strip, strip}
-use Rattle.tui_para.specs.Strokes.{glyph_layers, run_layers, start_of, strip_layers, strips_layers}
+use Rattle.tui_para.specs.Lines.{GlyphLine, glyph_line}
+use Rattle.tui_para.specs.Strokes.{glyph_layers, run_layers, start_of, glyph_line_layers, glyph_lines_layers}
 
 piece_past : (clip : Rect) (x y : ℕ) (p : Glyph) → right_of clip ≤ x → glyph_layers clip x y p ≡ []
 piece_past clip x y p far = grind (arith, nat_tests)
@@ -53,10 +53,10 @@ pub run_done : (clip : Rect) (x y : ℕ) (ps : List Glyph) (i : ℕ) (b : Screen
 unfolding run_layers
 run_done clip x y ps i b le = rw (drop_all i ps le) (Painted-none b)
 
-pub strip_is : (rect : Rect) (x y start width : ℕ) (a : Alignment) (gs : List Glyph) → x ≡ min (rect.x + start) 65535 → start ≡ start_of a rect.width width → width ≡ sum_by glyph_width gs →
-    run_layers rect x y gs ≡ strip_layers rect y (strip a gs)
-unfolding strip_layers
-strip_is rect x y start width a gs e f h =
+pub glyph_line_is : (rect : Rect) (x y start width : ℕ) (a : Alignment) (gs : List Glyph) → x ≡ min (rect.x + start) 65535 → start ≡ start_of a rect.width width → width ≡ sum_by glyph_width gs →
+    run_layers rect x y gs ≡ glyph_line_layers rect y (glyph_line a gs)
+unfolding glyph_line_layers
+glyph_line_is rect x y start width a gs e f h =
     ap (λ n. run_layers rect n y gs) e ∙ (run_cut rect rect.x start y gs ∙ ap (λ n. run_layers rect (rect.x + n) y gs) (f ∙ ap (λ n. start_of a rect.width n) h))
 
 -- a stroke inside a region keeps what is outside
@@ -94,13 +94,13 @@ row_past clip x y (g ∷ gs) far =
     let none : glyph_layers clip x y g ≡ [] = grind (arith, nat_tests) in
     rw none (row_past clip (x + glyph_width g) y gs far)
 
-strip_past : (rect : Rect) (y : ℕ) (s : Strip) → bottom_of rect ≤ y → strip_layers rect y s ≡ []
-unfolding strip_layers
-strip_past rect y s far = row_past rect (rect.x + start_of s.alignment rect.width (sum_by glyph_width s.glyphs)) y s.glyphs far
+glyph_line_past : (rect : Rect) (y : ℕ) (s : GlyphLine) → bottom_of rect ≤ y → glyph_line_layers rect y s ≡ []
+unfolding glyph_line_layers
+glyph_line_past rect y s far = row_past rect (rect.x + start_of s.alignment rect.width (sum_by glyph_width s.glyphs)) y s.glyphs far
 
-pub strips_past : (rect : Rect) (y : ℕ) (ss : List Strip) → bottom_of rect ≤ y → strips_layers rect y ss ≡ []
-strips_past rect y [] far = refl
-strips_past rect y (s ∷ ss) far = rw (strip_past rect y s far) (strips_past rect (y + 1) ss (omega arith))
+pub glyph_lines_past : (rect : Rect) (y : ℕ) (ss : List GlyphLine) → bottom_of rect ≤ y → glyph_lines_layers rect y ss ≡ []
+glyph_lines_past rect y [] far = refl
+glyph_lines_past rect y (s ∷ ss) far = rw (glyph_line_past rect y s far) (glyph_lines_past rect (y + 1) ss (omega arith))
 
 -- places in a list of which the rest is known
 pub drop_next : {A : Type 0} (xs : List A) (i : ℕ) (x : A) (rest : List A) → drop i xs ≡ x ∷ rest → drop (i + 1) xs ≡ rest

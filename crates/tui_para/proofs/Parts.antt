@@ -1,13 +1,12 @@
 -- Lines taken one after another from the graphemes of a text line.
-use Rattle.std.proofs.Common.{◌≡◌, ℕ, ◌+◌, ◌-◌, ◌<◌, ◌≤◌, List, [], ◌∷◌, length, take, drop, Bool, true, map, refl, sym, ap, ◌∙◌, subst, arith, All, ⊎_elim}
-use Rattle.std.specs.Prelude.{◌≢◌, sum_by}
+use Rattle.std.proofs.Common.{◌≡◌, ℕ, ◌+◌, ◌-◌, ◌≤◌, List, [], ◌∷◌, length, take, drop, Bool, true, map, refl, sym, ap, ◌∙◌, subst, arith, All, ⊎_elim}
+use Rattle.std.specs.Prelude.{sum_by}
 use Rattle.std.specs.List.{between}
-use Rattle.std.proofs.lemmas.List.{drop-drop, drop-map, take-map, take_rest, length-drop}
+use Rattle.std.proofs.lemmas.List.{drop-drop, drop-map, take-map, take_rest}
 use Rattle.std.proofs.lemmas.List.Elements.{All-map, All-drop, All-from_recursion}
-use Rattle.tui_para.specs.Wrapped.{IsNextLine, HasLines, kept, Wrapped}
+use Rattle.tui_para.specs.Wrapped.{HasLines, kept, Wrapped}
 use Rattle.tui_para.proofs.Greedy.{all_fit-kept}
 use Rattle.tui_para.proofs.Mapped.{sum_by-map}
-use Rattle.tui_para.proofs.Unique.{same_next}
 
 pub between-map : {A B : Type 0} (f : A → B) (start end : ℕ) (xs : List A) → between start end (map f xs) ≡ map f (between start end xs)
 between-map f start end xs = ap (take (end - start)) (drop-map f start xs) ∙ take-map f (end - start) (drop start xs)
@@ -37,25 +36,6 @@ module _ {A B : Type 0} (f : A → B) (xs : List A) (ys : List B) (place : ℕ) 
   seen_width size start end n e =
       e ∙ (ap (λ t. sum_by size (between start end t)) (sym seen_from) ∙ (ap (sum_by size) (between-map f start end (drop place xs))
       ∙ (sum_by-map f (λ y. true) size (between start end (drop place xs)) ∙ ap (sum_by (λ x. size (f x))) (between-drop place start end xs))))
-
-module _ {A : Type 0} (blank : A → Bool) (size : A → ℕ) (w : ℕ) (trim : Bool) (xs : List A) (place start end next : ℕ) (l : place < length xs)
-    (n : IsNextLine blank size w trim (drop place xs) (between start end (drop place xs)) (drop next (drop place xs))) where
-  some_left : drop place xs ≢ []
-  some_left e = let z = ap length e in let t = length-drop place xs in absurd (omega arith)
-
-  -- the next line in front of the lines after it
-  pub line_lent : (lines : List (List A)) → HasLines blank size w trim (drop (place + next) xs) lines → HasLines blank size w trim (drop place xs) (between (place + start) (place + end) xs ∷ lines)
-  line_lent lines h =
-      subst (λ k. HasLines blank size w trim (drop place xs) (k ∷ lines)) (between-drop place start end xs)
-      (some_left, drop next (drop place xs), n, subst (λ k. HasLines blank size w trim k lines) (sym (drop-drop next place xs)) h)
-
-  -- the lines begin with the next line
-  pub line_taken : (lines : List (List A)) → HasLines blank size w trim (drop place xs) lines →
-      (rest : List (List A)) × (lines ≡ between (place + start) (place + end) xs ∷ rest) × HasLines blank size w trim (drop (place + next) xs) rest
-  line_taken [] h = absurd (some_left h)
-  line_taken (k ∷ lines) h =
-      let same = same_next blank size w trim (drop place xs) (drop place xs) k (between start end (drop place xs)) h.1 (drop next (drop place xs)) refl h.2 n in
-      (lines, ap (λ t. t ∷ lines) (same.0 ∙ between-drop place start end xs), subst (λ t. HasLines blank size w trim t lines) (same.1 ∙ drop-drop next place xs) h.3)
 
 pub all_kept : {A : Type 0} (size : A → ℕ) (w : ℕ) (xs ys : List A) → ys ≡ kept size w xs → All (λ x. size x ≤ w) ys
 all_kept size w xs ys e = subst (All (λ x. size x ≤ w)) (sym e) (All-from_recursion (λ x. size x ≤ w) (kept size w xs) (all_fit-kept size w xs))

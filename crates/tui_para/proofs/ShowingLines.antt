@@ -11,57 +11,57 @@ use Rattle.tui_cells.specs.Layers.{Painted, layers_at, stroke}
 use Rattle.tui_cells.proofs.Painting.{layers_at-append}
 use Rattle.tui_cells.specs.declared.style.Style.{Style}
 use Rattle.tui_text.specs.Grapheme.{glyph_width}
-use Rattle.tui_para.specs.Lines.{Strip}
-use Rattle.tui_para.specs.Strokes.{start_of, strip_layers, strips_layers}
+use Rattle.tui_para.specs.Lines.{GlyphLine}
+use Rattle.tui_para.specs.Strokes.{start_of, glyph_line_layers, glyph_lines_layers}
 use Rattle.tui_para.specs.Paragraph.{ParagraphData}
 use Rattle.tui_para.specs.Rendering.{ParagraphShows, paragraph_lines, paragraph_layers}
 use Rattle.tui_para.proofs.TextCut.{lines_are}
 use Rattle.tui_para.specs.Shows.{with_line, Shows}
 use Rattle.tui_para.proofs.ShowingRuns.{run_at, same_both}
 
-strip_at : (rect : Rect) (y0 : ℕ) (s : Strip) (x y : ℕ) (c : Look) →
-    layers_at (strip_layers rect y0 s) x y c ≡ (if covers rect x y && (y == y0) then with_line rect (Some s) x c else c)
-unfolding strip_layers
-strip_at rect y0 s x y c = run_at rect (rect.x + start_of s.alignment rect.width (sum_by glyph_width s.glyphs)) y0 s.glyphs x y c
+glyph_line_at : (rect : Rect) (y0 : ℕ) (s : GlyphLine) (x y : ℕ) (c : Look) →
+    layers_at (glyph_line_layers rect y0 s) x y c ≡ (if covers rect x y && (y == y0) then with_line rect (Some s) x c else c)
+unfolding glyph_line_layers
+glyph_line_at rect y0 s x y c = run_at rect (rect.x + start_of s.alignment rect.width (sum_by glyph_width s.glyphs)) y0 s.glyphs x y c
 
 -- a row below the first
-row_of : (s : Strip) (ss : List Strip) (y y0 : ℕ) → y0 < y → slice_get (s ∷ ss) (y - y0) ≡ slice_get ss (y - (y0 + 1))
+row_of : (s : GlyphLine) (ss : List GlyphLine) (y y0 : ℕ) → y0 < y → slice_get (s ∷ ss) (y - y0) ≡ slice_get ss (y - (y0 + 1))
 row_of s ss y y0 l = let e : y - y0 ≡ suc (y - (y0 + 1)) = omega arith in ap (slice_get (s ∷ ss)) e
 
-strips_above : (rect : Rect) (y0 : ℕ) (ss : List Strip) (x y : ℕ) (c : Look) → y < y0 → layers_at (strips_layers rect y0 ss) x y c ≡ c
-strips_above rect y0 [] x y c l = refl
-strips_above rect y0 (s ∷ ss) x y c l =
+glyph_lines_above : (rect : Rect) (y0 : ℕ) (ss : List GlyphLine) (x y : ℕ) (c : Look) → y < y0 → layers_at (glyph_lines_layers rect y0 ss) x y c ≡ c
+glyph_lines_above rect y0 [] x y c l = refl
+glyph_lines_above rect y0 (s ∷ ss) x y c l =
     let t : (covers rect x y && (y == y0)) ≡ false = grind (arith, nat_tests) in
-    let first : layers_at (strip_layers rect y0 s) x y c ≡ c = strip_at rect y0 s x y c ∙ ap (λ (b : Bool). if b then with_line rect (Some s) x c else c) t in
-    layers_at-append (strip_layers rect y0 s) (strips_layers rect (y0 + 1) ss) x y c
-    ∙ (ap (layers_at (strips_layers rect (y0 + 1) ss) x y) first ∙ strips_above rect (y0 + 1) ss x y c (omega arith))
+    let first : layers_at (glyph_line_layers rect y0 s) x y c ≡ c = glyph_line_at rect y0 s x y c ∙ ap (λ (b : Bool). if b then with_line rect (Some s) x c else c) t in
+    layers_at-append (glyph_line_layers rect y0 s) (glyph_lines_layers rect (y0 + 1) ss) x y c
+    ∙ (ap (layers_at (glyph_lines_layers rect (y0 + 1) ss) x y) first ∙ glyph_lines_above rect (y0 + 1) ss x y c (omega arith))
 
-strips_at : (rect : Rect) (y0 : ℕ) (ss : List Strip) (x y : ℕ) (c : Look) → y0 ≤ y →
-    layers_at (strips_layers rect y0 ss) x y c ≡ (if covers rect x y then with_line rect (slice_get ss (y - y0)) x c else c)
-strips_at rect y0 [] x y c l = same_both (covers rect x y) c
-strips_at rect y0 (s ∷ ss) x y c l = layers_at-append (strip_layers rect y0 s) (strips_layers rect (y0 + 1) ss) x y c ∙ ⊎_elim
+glyph_lines_at : (rect : Rect) (y0 : ℕ) (ss : List GlyphLine) (x y : ℕ) (c : Look) → y0 ≤ y →
+    layers_at (glyph_lines_layers rect y0 ss) x y c ≡ (if covers rect x y then with_line rect (slice_get ss (y - y0)) x c else c)
+glyph_lines_at rect y0 [] x y c l = same_both (covers rect x y) c
+glyph_lines_at rect y0 (s ∷ ss) x y c l = layers_at-append (glyph_line_layers rect y0 s) (glyph_lines_layers rect (y0 + 1) ss) x y c ∙ ⊎_elim
     (λ lt.
     let t : (covers rect x y && (y == y0)) ≡ false = grind (arith, nat_tests) in
-    let first : layers_at (strip_layers rect y0 s) x y c ≡ c = strip_at rect y0 s x y c ∙ ap (λ (b : Bool). if b then with_line rect (Some s) x c else c) t in
-    ap (layers_at (strips_layers rect (y0 + 1) ss) x y) first
-    ∙ (strips_at rect (y0 + 1) ss x y c (omega arith) ∙ ap (λ o. if covers rect x y then with_line rect o x c else c) (sym (row_of s ss y y0 lt))))
+    let first : layers_at (glyph_line_layers rect y0 s) x y c ≡ c = glyph_line_at rect y0 s x y c ∙ ap (λ (b : Bool). if b then with_line rect (Some s) x c else c) t in
+    ap (layers_at (glyph_lines_layers rect (y0 + 1) ss) x y) first
+    ∙ (glyph_lines_at rect (y0 + 1) ss x y c (omega arith) ∙ ap (λ o. if covers rect x y then with_line rect o x c else c) (sym (row_of s ss y y0 lt))))
     (λ ge.
     let e : y ≡ y0 = omega arith in
     let t : (covers rect x y && (y == y0)) ≡ covers rect x y = grind (arith, nat_tests) in
     let z : y - y0 ≡ 0 = omega arith in
-    let first : layers_at (strip_layers rect y0 s) x y c ≡ (if covers rect x y then with_line rect (Some s) x c else c) = strip_at rect y0 s x y c ∙ ap (λ (b : Bool). if b then with_line rect (Some s) x c else c) t in
-    strips_above rect (y0 + 1) ss x y _ (omega arith)
+    let first : layers_at (glyph_line_layers rect y0 s) x y c ≡ (if covers rect x y then with_line rect (Some s) x c else c) = glyph_line_at rect y0 s x y c ∙ ap (λ (b : Bool). if b then with_line rect (Some s) x c else c) t in
+    glyph_lines_above rect (y0 + 1) ss x y _ (omega arith)
     ∙ (first ∙ ap (λ n. if covers rect x y then with_line rect (slice_get (s ∷ ss) n) x c else c) (sym z)))
     (cases_lt y0 y)
 
 covers_below : (rect : Rect) (x y : ℕ) → y < rect.y → covers rect x y ≡ false
 covers_below rect x y l = grind (arith, nat_tests)
 
-cell_shown : (rect : Rect) (ss : List Strip) (x y : ℕ) (c : Look) →
-    layers_at (strips_layers rect rect.y ss) x y c ≡ (if covers rect x y then with_line rect (slice_get ss (y - rect.y)) x c else c)
+cell_shown : (rect : Rect) (ss : List GlyphLine) (x y : ℕ) (c : Look) →
+    layers_at (glyph_lines_layers rect rect.y ss) x y c ≡ (if covers rect x y then with_line rect (slice_get ss (y - rect.y)) x c else c)
 cell_shown rect ss x y c = ⊎_elim
-    (λ lt. strips_above rect rect.y ss x y c lt ∙ sym (ap (λ (b : Bool). if b then with_line rect (slice_get ss (y - rect.y)) x c else c) (covers_below rect x y lt)))
-    (λ ge. strips_at rect rect.y ss x y c ge)
+    (λ lt. glyph_lines_above rect rect.y ss x y c lt ∙ sym (ap (λ (b : Bool). if b then with_line rect (slice_get ss (y - rect.y)) x c else c) (covers_below rect x y lt)))
+    (λ ge. glyph_lines_at rect rect.y ss x y c ge)
     (cases_lt y rect.y)
 
 map_same : (f g : Look → Look) (o : Option Look) → ((c : Look) → f c ≡ g c) → option_map f o ≡ option_map g o
@@ -69,17 +69,17 @@ map_same f g None e = refl
 map_same f g (Some c) e = ap Some (e c)
 
 -- inside the area
-base_shown : (rect : Rect) (s : Style) (ss : List Strip) (x y : ℕ) (c : Look) → covers rect x y ≡ true →
-    layers_at (stroke (covers rect) (dress s) ++ strips_layers rect rect.y ss) x y c ≡ with_line rect (slice_get ss (y - rect.y)) x (dressed s c)
+base_shown : (rect : Rect) (s : Style) (ss : List GlyphLine) (x y : ℕ) (c : Look) → covers rect x y ≡ true →
+    layers_at (stroke (covers rect) (dress s) ++ glyph_lines_layers rect rect.y ss) x y c ≡ with_line rect (slice_get ss (y - rect.y)) x (dressed s c)
 base_shown rect s ss x y c inside =
-    ap (λ (b : Bool). layers_at (strips_layers rect rect.y ss) x y (if b then dressed s c else c)) inside
+    ap (λ (b : Bool). layers_at (glyph_lines_layers rect rect.y ss) x y (if b then dressed s c else c)) inside
     ∙ (cell_shown rect ss x y (dressed s c) ∙ ap (λ (b : Bool). if b then with_line rect (slice_get ss (y - rect.y)) x (dressed s c) else dressed s c) inside)
 
 -- what the strokes of a style and of lines leave shows these lines
-pub shows-from_painted : (rect : Rect) (s : Style) (ss : List Strip) (before after : Screen) → Painted (stroke (covers rect) (dress s) ++ strips_layers rect rect.y ss) before after → Shows rect (dressed s) ss before after
+pub shows-from_painted : (rect : Rect) (s : Style) (ss : List GlyphLine) (before after : Screen) → Painted (stroke (covers rect) (dress s) ++ glyph_lines_layers rect rect.y ss) before after → Shows rect (dressed s) ss before after
 shows-from_painted rect s ss before after p = record {
   area = p.area;
-  cells = λ x y inside. p.cells x y ∙ map_same (layers_at (stroke (covers rect) (dress s) ++ strips_layers rect rect.y ss) x y) (λ c. with_line rect (slice_get ss (y - rect.y)) x (dressed s c)) (cell_at before x y) (λ c. base_shown rect s ss x y c inside);
+  cells = λ x y inside. p.cells x y ∙ map_same (layers_at (stroke (covers rect) (dress s) ++ glyph_lines_layers rect rect.y ss) x y) (λ c. with_line rect (slice_get ss (y - rect.y)) x (dressed s c)) (cell_at before x y) (λ c. base_shown rect s ss x y c inside);
 }
 
 -- a paragraph shows its lines

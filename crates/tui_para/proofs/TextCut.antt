@@ -9,53 +9,53 @@ use Rattle.tui_text.specs.Text.{TextData}
 use Rattle.tui_text.specs.declared.alignment.Alignment.{Alignment}
 use Rattle.tui_text.specs.declared.graphemes.Graphemes.{Graphemes}
 use Rattle.tui_para.specs.Given.{WillGive, WillBe, IsGlyph}
-use Rattle.tui_para.specs.Lines.{Strip, strip, is_left, CutAll, cut_all, WrapsLine, TruncatesLine}
+use Rattle.tui_para.specs.Lines.{GlyphLine, glyph_line, is_left, CutAll, cut_all, WrapsLine, TruncatesLine}
 use Rattle.tui_para.specs.Paragraph.{ParagraphData}
 use Rattle.tui_para.specs.Places.{wrap}
 use Rattle.tui_para.specs.Rendering.{ParagraphLines, paragraph_lines}
-use Rattle.tui_para.specs.TextLines.{strip_left, strips_left}
+use Rattle.tui_para.specs.TextLines.{glyph_line_left, glyph_lines_left}
 use Rattle.tui_para.specs.Truncated.{truncate}
 use Rattle.tui_para.specs.Wrapped.{IsTheOne}
-use Rattle.tui_para.specs.WrappedText.{WrappedText, TruncatedText, wrap_text, truncate_text, text_strips}
+use Rattle.tui_para.specs.WrappedText.{WrappedText, TruncatedText, wrap_text, truncate_text, text_glyph_lines}
 use Rattle.tui_para.specs.declared.text_lines.TextLines.{TextLines}
 use Rattle.tui_para.specs.declared.wrap.Wrap.{Wrap}
 use Rattle.tui_para.proofs.Greedy.{wrap_is}
 use Rattle.tui_para.proofs.TruncatedOnce.{truncate_is, truncates_once}
 use Rattle.tui_para.proofs.Unique.{wrapped_once}
 
-module _ (R : Strip → List (List Glyph) → Type 0) (f : Strip → List (List Glyph)) where
-  pub cut_is : ((t : Strip) → R t (f t)) → (ts : List Strip) → CutAll R ts (cut_all f ts)
+module _ (R : GlyphLine → List (List Glyph) → Type 0) (f : GlyphLine → List (List Glyph)) where
+  pub cut_is : ((t : GlyphLine) → R t (f t)) → (ts : List GlyphLine) → CutAll R ts (cut_all f ts)
   cut_is is [] = refl
   cut_is is (t ∷ ts) = (f t, is t, (cut_all f ts, cut_is is ts, refl))
 
-  pub cut_once : ((t : Strip) (parts : List (List Glyph)) → R t parts → parts ≡ f t) → (ts lines : List Strip) → CutAll R ts lines → lines ≡ cut_all f ts
+  pub cut_once : ((t : GlyphLine) (parts : List (List Glyph)) → R t parts → parts ≡ f t) → (ts lines : List GlyphLine) → CutAll R ts lines → lines ≡ cut_all f ts
   cut_once one [] lines h = h
   cut_once one (t ∷ ts) lines (parts, r, (rest, cut, e)) =
-      e ∙ (ap (λ ps. map (strip t.alignment) ps ++ rest) (one t parts r) ∙ ap (λ ls. map (strip t.alignment) (f t) ++ ls) (cut_once one ts rest cut))
+      e ∙ (ap (λ ps. map (glyph_line t.alignment) ps ++ rest) (one t parts r) ∙ ap (λ ls. map (glyph_line t.alignment) (f t) ++ ls) (cut_once one ts rest cut))
 
-pub wraps_to : (w : ℕ) (trim : Bool) (t : Strip) → WrapsLine w trim t (wrap glyph_blank glyph_width w trim t.glyphs)
+pub wraps_to : (w : ℕ) (trim : Bool) (t : GlyphLine) → WrapsLine w trim t (wrap glyph_blank glyph_width w trim t.glyphs)
 wraps_to w trim t = wrap_is glyph_blank glyph_width w trim t.glyphs
 
-pub wraps_only_to : (w : ℕ) (trim : Bool) (t : Strip) (parts : List (List Glyph)) → WrapsLine w trim t parts → parts ≡ wrap glyph_blank glyph_width w trim t.glyphs
+pub wraps_only_to : (w : ℕ) (trim : Bool) (t : GlyphLine) (parts : List (List Glyph)) → WrapsLine w trim t parts → parts ≡ wrap glyph_blank glyph_width w trim t.glyphs
 wraps_only_to w trim t parts h = wrapped_once glyph_blank glyph_width w trim t.glyphs parts (wrap glyph_blank glyph_width w trim t.glyphs) h (wraps_to w trim t)
 
-pub truncates_to : (w offset : ℕ) (t : Strip) → TruncatesLine w offset t (truncate glyph_width w (is_left t.alignment) offset t.glyphs ∷ [])
+pub truncates_to : (w offset : ℕ) (t : GlyphLine) → TruncatesLine w offset t (truncate glyph_width w (is_left t.alignment) offset t.glyphs ∷ [])
 truncates_to w offset t = (truncate glyph_width w (is_left t.alignment) offset t.glyphs, truncate_is glyph_width w (is_left t.alignment) offset t.glyphs, refl)
 
-pub truncates_only_to : (w offset : ℕ) (t : Strip) (parts : List (List Glyph)) → TruncatesLine w offset t parts → parts ≡ truncate glyph_width w (is_left t.alignment) offset t.glyphs ∷ []
+pub truncates_only_to : (w offset : ℕ) (t : GlyphLine) (parts : List (List Glyph)) → TruncatesLine w offset t parts → parts ≡ truncate glyph_width w (is_left t.alignment) offset t.glyphs ∷ []
 truncates_only_to w offset t parts (line, h, e) = e ∙ ap (λ k. k ∷ []) ((truncates_once glyph_width w (is_left t.alignment) offset t.glyphs).alone line h)
 
 -- exactly one list of lines
 pub text_wraps_once : (w : ℕ) (trim : Bool) (a : Alignment) (text : TextData) → IsTheOne (WrappedText w trim a text) (wrap_text w trim a text)
 text_wraps_once w trim a text = record {
-  meets = cut_is (WrapsLine w trim) (λ t. wrap glyph_blank glyph_width w trim t.glyphs) (wraps_to w trim) (text_strips text a);
-  alone = λ lines h. cut_once (WrapsLine w trim) (λ t. wrap glyph_blank glyph_width w trim t.glyphs) (wraps_only_to w trim) (text_strips text a) lines h;
+  meets = cut_is (WrapsLine w trim) (λ t. wrap glyph_blank glyph_width w trim t.glyphs) (wraps_to w trim) (text_glyph_lines text a);
+  alone = λ lines h. cut_once (WrapsLine w trim) (λ t. wrap glyph_blank glyph_width w trim t.glyphs) (wraps_only_to w trim) (text_glyph_lines text a) lines h;
 }
 
 pub text_truncates_once : (w offset : ℕ) (a : Alignment) (text : TextData) → IsTheOne (TruncatedText w offset a text) (truncate_text w offset a text)
 text_truncates_once w offset a text = record {
-  meets = cut_is (TruncatesLine w offset) (λ t. truncate glyph_width w (is_left t.alignment) offset t.glyphs ∷ []) (truncates_to w offset) (text_strips text a);
-  alone = λ lines h. cut_once (TruncatesLine w offset) (λ t. truncate glyph_width w (is_left t.alignment) offset t.glyphs ∷ []) (truncates_only_to w offset) (text_strips text a) lines h;
+  meets = cut_is (TruncatesLine w offset) (λ t. truncate glyph_width w (is_left t.alignment) offset t.glyphs ∷ []) (truncates_to w offset) (text_glyph_lines text a);
+  alone = λ lines h. cut_once (TruncatesLine w offset) (λ t. truncate glyph_width w (is_left t.alignment) offset t.glyphs ∷ []) (truncates_only_to w offset) (text_glyph_lines text a) lines h;
 }
 
 no_cons : {A : Type 0} (x : A) (xs : List A) → [] ≡ x ∷ xs → ⊥
@@ -73,12 +73,12 @@ will_give view rest R sees s (y ∷ ys) e = (
       (sees x y first, will_give view rest R sees t ys later)),
 )
 
-glyphs_will : (s : Graphemes) (glyphs : List Glyph) → glyphs_left s ≡ glyphs → WillGive (YieldsFirstBy glyph_of glyphs_left) IsGlyph s glyphs
+pub glyphs_will : (s : Graphemes) (glyphs : List Glyph) → glyphs_left s ≡ glyphs → WillGive (YieldsFirstBy glyph_of glyphs_left) IsGlyph s glyphs
 glyphs_will s glyphs e = will_give glyph_of glyphs_left IsGlyph (λ x y f. f) s glyphs e
 
-pub strips_will : (s : TextLines) (ts : List Strip) → strips_left s ≡ ts → WillGive (YieldsFirstBy strip_left strips_left) (WillBe (YieldsFirstBy glyph_of glyphs_left)) s ts
-strips_will s ts e = will_give strip_left strips_left (WillBe (YieldsFirstBy glyph_of glyphs_left))
-    (λ x t f. (glyphs_will x.0 t.glyphs (ap (λ (k : Strip). k.glyphs) f), ap (λ (k : Strip). k.alignment) f)) s ts e
+pub glyph_lines_will : (s : TextLines) (ts : List GlyphLine) → glyph_lines_left s ≡ ts → WillGive (YieldsFirstBy glyph_line_left glyph_lines_left) (WillBe (YieldsFirstBy glyph_of glyphs_left)) s ts
+glyph_lines_will s ts e = will_give glyph_line_left glyph_lines_left (WillBe (YieldsFirstBy glyph_of glyphs_left))
+    (λ x t f. (glyphs_will x.0 t.glyphs (ap (λ (k : GlyphLine). k.glyphs) f), ap (λ (k : GlyphLine). k.alignment) f)) s ts e
 
 -- the lines of a paragraph are those that the function gives
 pub lines_are : (p : ParagraphData) (w : ℕ) → ParagraphLines p w (paragraph_lines p w)

@@ -7,9 +7,9 @@ use Rattle.std.proofs.lemmas.Bool.{cases_Bool, leb-true, leb-false}
 use Rattle.std.proofs.lemmas.List.{append_cancel_left}
 use Rattle.std.proofs.lemmas.Bool.Decides.{nat_tests}
 use Rattle.tui_text.specs.Grapheme.{Glyph, glyph_width}
-use Rattle.tui_para.specs.Lines.{Strip, is_left, LendsFirst, TakesFirst, TruncatesLine}
+use Rattle.tui_para.specs.Lines.{GlyphLine, is_left, LendsFirst, TakesFirst, TruncatesLine}
 use Rattle.tui_para.specs.Wrapping.{NoParts}
-use Rattle.tui_para.specs.Truncated.{IsLongestFront, FitsIn, IsPassedBy, Truncated, fitting_front, left_by, truncate}
+use Rattle.tui_para.specs.Truncated.{IsLongestPrefix, FitsIn, IsPassedBy, Truncated, fitting_prefix, left_by, truncate}
 use Rattle.tui_para.specs.Wrapped.{kept, IsTheOne}
 use Rattle.tui_para.proofs.Unique.{cuts}
 
@@ -17,8 +17,8 @@ no_shorter : {A : Type 0} (k m : List A) (y : A) (ys : List A) → k ≡ m ++ y 
 no_shorter k m y ys e l = let a = length-append m (y ∷ ys) in let b = ap length e in omega arith
 
 -- a list has at most one longest front
-same_front : {A : Type 0} (P : List A → Type 0) (xs front after other more : List A) → IsLongestFront P xs front after → IsLongestFront P xs other more → (front ≡ other) × (after ≡ more)
-same_front P xs front after other more f g =
+same_prefix : {A : Type 0} (P : List A → Type 0) (xs front after other more : List A) → IsLongestPrefix P xs front after → IsLongestPrefix P xs other more → (front ≡ other) × (after ≡ more)
+same_prefix P xs front after other more f g =
     let whole : front ++ after ≡ other ++ more = sym f.joined ∙ g.joined in
     let same : front ≡ other = ⊎_elim
     (λ s. s)
@@ -33,7 +33,7 @@ no_cons x xs e = cc
 
 module _ {A : Type 0} (size : A → ℕ) where
   -- the graphemes that fit are the longest front that does
-  fitting_is : (room : ℕ) (xs : List A) → (rest : List A) × IsLongestFront (FitsIn size room) xs (fitting_front size room xs) rest
+  fitting_is : (room : ℕ) (xs : List A) → (rest : List A) × IsLongestPrefix (FitsIn size room) xs (fitting_prefix size room xs) rest
   fitting_is room [] = ([], record { joined = refl; holds = omega arith; longest = λ other more e h. nothing other more e })
     where
       nothing : (other more : List A) → [] ≡ other ++ more → length other ≤ 0
@@ -43,11 +43,11 @@ module _ {A : Type 0} (size : A → ℕ) where
       (λ b.
       let fits = leb-true (size x) room b in
       let (rest, h) = fitting_is (room - size x) xs in
-      rw b (rest, one_more room x xs (fitting_front size (room - size x) xs) rest fits h))
+      rw b (rest, one_more room x xs (fitting_prefix size (room - size x) xs) rest fits h))
       (λ b. rw b (x ∷ xs, none room x xs (leb-false (size x) room b)))
       (cases_Bool (nat_le (size x) room))
     where
-      one_more : (room : ℕ) (x : A) (xs front rest : List A) → size x ≤ room → IsLongestFront (FitsIn size (room - size x)) xs front rest → IsLongestFront (FitsIn size room) (x ∷ xs) (x ∷ front) rest
+      one_more : (room : ℕ) (x : A) (xs front rest : List A) → size x ≤ room → IsLongestPrefix (FitsIn size (room - size x)) xs front rest → IsLongestPrefix (FitsIn size room) (x ∷ xs) (x ∷ front) rest
       one_more room x xs front rest fits h =
           let s = sum_by-cons size x front in
           let k = h.holds in
@@ -63,7 +63,7 @@ module _ {A : Type 0} (size : A → ℕ) where
               let less = h.longest o more others (omega arith) in
               omega arith
 
-      none : (room : ℕ) (x : A) (xs : List A) → room < size x → IsLongestFront (FitsIn size room) (x ∷ xs) [] (x ∷ xs)
+      none : (room : ℕ) (x : A) (xs : List A) → room < size x → IsLongestPrefix (FitsIn size room) (x ∷ xs) [] (x ∷ xs)
       none room x xs wide = record { joined = refl; holds = omega arith; longest = longest }
         where
           longest : (other more : List A) → x ∷ xs ≡ other ++ more → sum_by size other ≤ room → length other ≤ 0
@@ -75,7 +75,7 @@ module _ {A : Type 0} (size : A → ℕ) where
               absurd (omega arith)
 
   -- the graphemes that the offset passes are the longest front that it does
-  passed_is : (offset : ℕ) (xs : List A) → (passed : List A) × IsLongestFront (IsPassedBy size offset) xs passed (left_by size offset xs)
+  passed_is : (offset : ℕ) (xs : List A) → (passed : List A) × IsLongestPrefix (IsPassedBy size offset) xs passed (left_by size offset xs)
   passed_is offset [] = ([], record { joined = refl; holds = nothing_passed offset; longest = λ other more e h. nothing other more e })
     where
       nothing_passed : (offset : ℕ) → IsPassedBy size offset []
@@ -104,7 +104,7 @@ module _ {A : Type 0} (size : A → ℕ) where
       stops : (nat_lt 0 offset && nat_le (size x) offset) ≡ false → (offset ≡ 0) ⊎ (offset < size x)
       stops b = grind (arith, nat_tests)
 
-      one_more : (offset : ℕ) (x : A) (xs passed rest : List A) → 0 < offset → size x ≤ offset → IsLongestFront (IsPassedBy size (offset - size x)) xs passed rest → IsLongestFront (IsPassedBy size offset) (x ∷ xs) (x ∷ passed) rest
+      one_more : (offset : ℕ) (x : A) (xs passed rest : List A) → 0 < offset → size x ≤ offset → IsLongestPrefix (IsPassedBy size (offset - size x)) xs passed rest → IsLongestPrefix (IsPassedBy size offset) (x ∷ xs) (x ∷ passed) rest
       one_more offset x xs passed rest some fits h =
           let s = sum_by-cons size x passed in
           let k = h.holds.fits in
@@ -137,7 +137,7 @@ module _ {A : Type 0} (size : A → ℕ) where
               }) in
               omega arith
 
-      none : (offset : ℕ) (x : A) (xs : List A) → (offset ≡ 0) ⊎ (offset < size x) → IsLongestFront (IsPassedBy size offset) (x ∷ xs) [] (x ∷ xs)
+      none : (offset : ℕ) (x : A) (xs : List A) → (offset ≡ 0) ⊎ (offset < size x) → IsLongestPrefix (IsPassedBy size offset) (x ∷ xs) [] (x ∷ xs)
       none offset x xs stop = record { joined = refl; holds = record { fits = omega arith; needed = needed }; longest = longest }
         where
           needed : (shorter more : List A) → [] ≡ shorter ++ more → more ≢ [] → sum_by size shorter < offset
@@ -168,11 +168,11 @@ module _ {A : Type 0} (size : A → ℕ) where
 
   truncated_once : (w : ℕ) (left : Bool) (offset : ℕ) (xs line other : List A) → Truncated size w left offset xs line → Truncated size w left offset xs other → line ≡ other
   truncated_once w true offset xs line other t u =
-      let shown = (same_front (IsPassedBy size offset) (kept size w xs) t.passed t.shown u.passed u.shown (t.passes refl) (u.passes refl)).1 in
-      (same_front (FitsIn size w) u.shown line t.rest other u.rest (subst (λ s. IsLongestFront (FitsIn size w) s line t.rest) shown t.fits) u.fits).0
+      let shown = (same_prefix (IsPassedBy size offset) (kept size w xs) t.passed t.shown u.passed u.shown (t.passes refl) (u.passes refl)).1 in
+      (same_prefix (FitsIn size w) u.shown line t.rest other u.rest (subst (λ s. IsLongestPrefix (FitsIn size w) s line t.rest) shown t.fits) u.fits).0
   truncated_once w false offset xs line other t u =
       let shown : t.shown ≡ u.shown = t.stays refl ∙ sym (u.stays refl) in
-      (same_front (FitsIn size w) u.shown line t.rest other u.rest (subst (λ s. IsLongestFront (FitsIn size w) s line t.rest) shown t.fits) u.fits).0
+      (same_prefix (FitsIn size w) u.shown line t.rest other u.rest (subst (λ s. IsLongestPrefix (FitsIn size w) s line t.rest) shown t.fits) u.fits).0
 
   pub truncates_once : (w : ℕ) (left : Bool) (offset : ℕ) (xs : List A) → IsTheOne (Truncated size w left offset xs) (truncate size w left offset xs)
   truncates_once w left offset xs =
@@ -185,7 +185,7 @@ module _ {A : Type 0} (size : A → ℕ) where
   left_by_none (x ∷ xs) = refl
 
 -- the one line of a text line lends itself
-module _ (w offset : ℕ) (t : Strip) (line : List Glyph) (line_is_cut : line ≡ truncate glyph_width w (is_left t.alignment) offset t.glyphs) where
+module _ (w offset : ℕ) (t : GlyphLine) (line : List Glyph) (line_is_cut : line ≡ truncate glyph_width w (is_left t.alignment) offset t.glyphs) where
   pub line_lends : LendsFirst (TruncatesLine w offset t) (Some line) NoParts
   line_lends parts none =
       (line, subst (Truncated glyph_width w (is_left t.alignment) offset t.glyphs) (sym line_is_cut) (truncate_is glyph_width w (is_left t.alignment) offset t.glyphs), ap (λ k. line ∷ k) none)
@@ -194,5 +194,5 @@ module _ (w offset : ℕ) (t : Strip) (line : List Glyph) (line_is_cut : line �
   line_takes parts (other, h, e) =
       ([], e ∙ ap (λ k. k ∷ []) ((truncates_once glyph_width w (is_left t.alignment) offset t.glyphs).alone other h ∙ sym line_is_cut), refl)
 
-pub truncates_some : (w offset : ℕ) (t : Strip) → TruncatesLine w offset t [] → ⊥
+pub truncates_some : (w offset : ℕ) (t : GlyphLine) → TruncatesLine w offset t [] → ⊥
 truncates_some w offset t (line, h, e) = no_cons line [] e

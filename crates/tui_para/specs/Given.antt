@@ -1,10 +1,11 @@
 -- What iterators may give, and what they give in any case.
-use Rattle.std.specs.Prelude.{◌≡◌, List, [], ◌∷◌, Option, Some, None}
-use Rattle.std.specs.Iterator.{Count, IsFinite, MakesProgress, Yields}
+use Rattle.std.specs.Prelude.{◌≡◌, ℕ, suc, List, [], ◌∷◌, Option, Some, None, MatchOption}
+use Rattle.std.specs.Iterator.{Count, Drains, IsFinite, Yields, size}
+use Rattle.std.specs.Option.{option_map_or}
 use Rattle.tui_text.specs.Grapheme.{Glyph, glyph_of}
 use Rattle.tui_text.specs.declared.alignment.Alignment.{Alignment}
 use Rattle.tui_text.specs.declared.grapheme.StyledGrapheme.{StyledGrapheme}
-use Rattle.tui_para.specs.Lines.{Strip}
+use Rattle.tui_para.specs.Lines.{GlyphLine}
 
 -- there is a way in which the iterator gives items that R relates to these values, and then ends
 abbrev pub MayGive : {S A B : Type 0} → (S → Option A → S → Type 0) → (A → B → Type 0) → S → List B → Type 0
@@ -19,17 +20,25 @@ WillGive {S} {A} gives R s (y ∷ ys) = ((t : S) → gives s None t → ⊥) × 
 abbrev pub IsGlyph : StyledGrapheme → Glyph → Type 0
 IsGlyph g glyph = glyph_of g ≡ glyph
 
+-- what an iterator over graphemes gives: nothing once it has ended
+abbrev pub SourceGives : {I : Type 0} → (I → List Glyph → Type 0) → Option I → List Glyph → Type 0
+SourceGives gives source glyphs = MatchOption source (glyphs ≡ []) (λ i. gives i glyphs)
+
+-- it gave these graphemes and became the other, or ended
+abbrev pub SourceReads : {I : Type 0} → (I → Option StyledGrapheme → I → Type 0) → I → List StyledGrapheme → Option I → Type 0
+SourceReads gives i taken source = MatchOption source (Drains gives i taken) (λ j. Yields gives i taken j)
+
+-- how many calls it takes at most until it has ended
+abbrev pub source_left : {I : Type 0} → (I → Count) → Option I → ℕ
+source_left left source = option_map_or (λ i. suc (size (left i))) source 0
+
 -- an iterator over graphemes, with an alignment, that may give this line
-abbrev pub MayBe : {I : Type 0} → (I → Option StyledGrapheme → I → Type 0) → I × Alignment → Strip → Type 0
+abbrev pub MayBe : {I : Type 0} → (I → Option StyledGrapheme → I → Type 0) → I × Alignment → GlyphLine → Type 0
 MayBe gives x line = MayGive gives IsGlyph x.0 line.glyphs × (x.1 ≡ line.alignment)
 
 -- the same that gives it in any case
-abbrev pub WillBe : {I : Type 0} → (I → Option StyledGrapheme → I → Type 0) → I × Alignment → Strip → Type 0
+abbrev pub WillBe : {I : Type 0} → (I → Option StyledGrapheme → I → Type 0) → I × Alignment → GlyphLine → Type 0
 WillBe gives x line = WillGive gives IsGlyph x.0 line.glyphs × (x.1 ≡ line.alignment)
-
--- each call that may be made has an answer, which comes nearer to the end
-abbrev pub AlwaysAnswers : {S A : Type 0} → (S → Type 0) → (S → Option A → S → Type 0) → (S → Count) → Type 0
-AlwaysAnswers {S} {A} can gives left = (s : S) → can s → (found : Option A) × (t : S) × gives s found t × MakesProgress can left s found t
 
 -- the iterator may be called, and ends
 pub record Ready {I : Type 0} (can : I → Type 0) (left : I → Count) (i : I) : Type 0 where

@@ -7,24 +7,24 @@ use Rattle.tui_para.specs.Truncated.{Truncated}
 use Rattle.tui_para.specs.Wrapped.{Wrapped}
 
 -- a line: its graphemes and its alignment
-pub record Strip : Type 0 where
+pub record GlyphLine : Type 0 where
   pub glyphs : List Glyph
   pub alignment : Alignment
 
-abbrev pub strip : Alignment → List Glyph → Strip
-strip alignment glyphs = record { glyphs = glyphs; alignment = alignment }
+abbrev pub glyph_line : Alignment → List Glyph → GlyphLine
+glyph_line alignment glyphs = record { glyphs = glyphs; alignment = alignment }
 
 -- each line is cut into parts as R says, and these follow one another with its alignment
-abbrev pub CutAll : (Strip → List (List Glyph) → Type 0) → List Strip → List Strip → Type 0
+abbrev pub CutAll : (GlyphLine → List (List Glyph) → Type 0) → List GlyphLine → List GlyphLine → Type 0
 CutAll R [] lines = lines ≡ []
-CutAll R (t ∷ ts) lines = (parts : List (List Glyph)) × R t parts × ((rest : List Strip) × CutAll R ts rest × (lines ≡ map (strip t.alignment) parts ++ rest))
+CutAll R (t ∷ ts) lines = (parts : List (List Glyph)) × R t parts × ((rest : List GlyphLine) × CutAll R ts rest × (lines ≡ map (glyph_line t.alignment) parts ++ rest))
 
 -- the same where a function gives the parts
-abbrev pub cut_all : (Strip → List (List Glyph)) → List Strip → List Strip
-cut_all f ts = flat_map (λ t. map (strip t.alignment) (f t)) ts
+abbrev pub cut_all : (GlyphLine → List (List Glyph)) → List GlyphLine → List GlyphLine
+cut_all f ts = flat_map (λ t. map (glyph_line t.alignment) (f t)) ts
 
 -- it is wrapped
-abbrev pub WrapsLine : ℕ → Bool → Strip → List (List Glyph) → Type 0
+abbrev pub WrapsLine : ℕ → Bool → GlyphLine → List (List Glyph) → Type 0
 WrapsLine w trim t parts = Wrapped glyph_blank glyph_width w trim t.glyphs parts
 
 abbrev pub is_left : Alignment → Bool
@@ -33,20 +33,20 @@ is_left Center = false
 is_left Right = false
 
 -- it is cut to one line, the offset being left out of Left lines
-abbrev pub TruncatesLine : ℕ → ℕ → Strip → List (List Glyph) → Type 0
+abbrev pub TruncatesLine : ℕ → ℕ → GlyphLine → List (List Glyph) → Type 0
 TruncatesLine w offset t parts = (line : List Glyph) × Truncated glyph_width w (is_left t.alignment) offset t.glyphs line × (parts ≡ line ∷ [])
 
 -- lines of a width above 0 into which one of the lists of text lines is cut; none at width 0
-abbrev pub LinesOf : (List Strip → Type 0) → (Strip → List (List Glyph) → Type 0) → ℕ → List Strip → Type 0
-LinesOf texts R w lines = ((w ≡ 0) × (lines ≡ [])) ⊎ ((0 < w) × ((ts : List Strip) × texts ts × CutAll R ts lines))
+abbrev pub LinesOf : (List GlyphLine → Type 0) → (GlyphLine → List (List Glyph) → Type 0) → ℕ → List GlyphLine → Type 0
+LinesOf texts R w lines = ((w ≡ 0) × (lines ≡ [])) ⊎ ((0 < w) × ((ts : List GlyphLine) × texts ts × CutAll R ts lines))
 
 -- the same with the parts that are left of a text line that was begun, in front
-abbrev pub LinesLeft : (List Strip → Type 0) → (Strip → List (List Glyph) → Type 0) → (List (List Glyph) → Type 0) → ℕ → Alignment → List Strip → Type 0
+abbrev pub LinesLeft : (List GlyphLine → Type 0) → (GlyphLine → List (List Glyph) → Type 0) → (List (List Glyph) → Type 0) → ℕ → Alignment → List GlyphLine → Type 0
 LinesLeft texts R P w alignment lines = ((w ≡ 0) × (lines ≡ [])) ⊎
-    ((0 < w) × ((parts : List (List Glyph)) × P parts × ((ts : List Strip) × texts ts × ((rest : List Strip) × CutAll R ts rest × (lines ≡ map (strip alignment) parts ++ rest)))))
+    ((0 < w) × ((parts : List (List Glyph)) × P parts × ((ts : List GlyphLine) × texts ts × ((rest : List GlyphLine) × CutAll R ts rest × (lines ≡ map (glyph_line alignment) parts ++ rest)))))
 
 -- no list but the empty one, where there is no more
-abbrev pub UnlessDone : Bool → (List Strip → Type 0) → List Strip → Type 0
+abbrev pub UnlessDone : Bool → (List GlyphLine → Type 0) → List GlyphLine → Type 0
 UnlessDone done texts ts = ((done ≡ true) × (ts ≡ [])) ⊎ ((done ≡ false) × texts ts)
 
 -- one is taken from the front of each list, or none is left: each list of Q with it in front is one of P

@@ -8,10 +8,10 @@ use Rattle.tui_cells.specs.Cell.{Look, put, dress}
 use Rattle.tui_cells.specs.Layers.{StayIn, at_place, layers_at, stroke}
 use Rattle.tui_cells.specs.Stays.{StayIn-none, StayIn-append, StayIn-stroke}
 use Rattle.tui_text.specs.Grapheme.{Glyph, glyph_width}
-use Rattle.tui_para.specs.Lines.{Strip}
+use Rattle.tui_para.specs.Lines.{GlyphLine}
 use Rattle.tui_para.specs.Paragraph.{ParagraphData}
 use Rattle.tui_para.specs.Rendering.{paragraph_layers, paragraph_lines}
-use Rattle.tui_para.specs.Strokes.{run_layers, start_of, strip_layers, strips_layers}
+use Rattle.tui_para.specs.Strokes.{run_layers, start_of, glyph_line_layers, glyph_lines_layers}
 
 -- a position inside is none outside
 at_outside : (clip : Rect) (x y a b : ℕ) → covers clip x y ≡ true → covers clip a b ≡ false → at_place x y a b ≡ false
@@ -30,17 +30,17 @@ unfolding run_layers
 run_stays clip x y [] = StayIn-none
 run_stays clip x y (g ∷ gs) = StayIn-append (one_stays clip x y g (nat_lt 0 (glyph_width g)) (covers clip x y) refl) (run_stays clip (x + glyph_width g) y gs)
 
-strip_stays : (rect : Rect) (y : ℕ) (s : Strip) → StayIn (covers rect) (strip_layers rect y s)
-unfolding strip_layers
-strip_stays rect y s = run_stays rect (rect.x + start_of s.alignment rect.width (sum_by glyph_width s.glyphs)) y s.glyphs
+glyph_line_stays : (rect : Rect) (y : ℕ) (s : GlyphLine) → StayIn (covers rect) (glyph_line_layers rect y s)
+unfolding glyph_line_layers
+glyph_line_stays rect y s = run_stays rect (rect.x + start_of s.alignment rect.width (sum_by glyph_width s.glyphs)) y s.glyphs
 
-strips_stay : (rect : Rect) (y : ℕ) (ss : List Strip) → StayIn (covers rect) (strips_layers rect y ss)
-strips_stay rect y [] = StayIn-none
-strips_stay rect y (s ∷ ss) = StayIn-append (strip_stays rect y s) (strips_stay rect (y + 1) ss)
+glyph_lines_stay : (rect : Rect) (y : ℕ) (ss : List GlyphLine) → StayIn (covers rect) (glyph_lines_layers rect y ss)
+glyph_lines_stay rect y [] = StayIn-none
+glyph_lines_stay rect y (s ∷ ss) = StayIn-append (glyph_line_stays rect y s) (glyph_lines_stay rect (y + 1) ss)
 
 pub paragraph_stay : (p : ParagraphData) (clip : Rect) → StayIn (covers clip) (paragraph_layers p clip)
 unfolding paragraph_layers
-paragraph_stay p clip = StayIn-append (StayIn-stroke (covers clip) (dress p.style) (λ x y out. out)) (strips_stay clip clip.y (drop p.scroll_y (paragraph_lines p clip.width)))
+paragraph_stay p clip = StayIn-append (StayIn-stroke (covers clip) (dress p.style) (λ x y out. out)) (glyph_lines_stay clip clip.y (drop p.scroll_y (paragraph_lines p clip.width)))
 
 pub paragraph_stays : (p : ParagraphData) (clip : Rect) (x y : ℕ) → covers clip x y ≡ false → (c : Look) → layers_at (paragraph_layers p clip) x y c ≡ c
 paragraph_stays p clip = (paragraph_stay p clip).cell

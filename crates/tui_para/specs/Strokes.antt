@@ -7,7 +7,7 @@ use Rattle.tui_cells.specs.Layers.{Layer, stroke, at_place}
 use Rattle.tui_text.specs.Grapheme.{Glyph, glyph_width}
 use Rattle.tui_text.specs.declared.alignment.Alignment.{Alignment}
 use Rattle.tui_text.specs.declared.alignment.Alignment.TheVariants.{Left, Center, Right}
-use Rattle.tui_para.specs.Lines.{Strip}
+use Rattle.tui_para.specs.Lines.{GlyphLine}
 
 -- a grapheme at a position of the clip, if it has a width: its symbol is put, and its style is set
 abbrev pub glyph_layers : Rect → ℕ → ℕ → Glyph → List Layer
@@ -28,10 +28,10 @@ start_of Center room width = room / 2 - width / 2
 start_of Right room width = room - width
 
 -- a line in a row
-unfoldable pub strip_layers : Rect → ℕ → Strip → List Layer
-strip_layers rect y s = run_layers rect (rect.x + start_of s.alignment rect.width (sum_by glyph_width s.glyphs)) y s.glyphs
+unfoldable pub glyph_line_layers : Rect → ℕ → GlyphLine → List Layer
+glyph_line_layers rect y s = run_layers rect (rect.x + start_of s.alignment rect.width (sum_by glyph_width s.glyphs)) y s.glyphs
 
 -- lines one below the other
-abbrev pub strips_layers : Rect → ℕ → List Strip → List Layer
-strips_layers rect y [] = []
-strips_layers rect y (s ∷ ss) = strip_layers rect y s ++ strips_layers rect (y + 1) ss
+abbrev pub glyph_lines_layers : Rect → ℕ → List GlyphLine → List Layer
+glyph_lines_layers rect y [] = []
+glyph_lines_layers rect y (s ∷ ss) = glyph_line_layers rect y s ++ glyph_lines_layers rect (y + 1) ss

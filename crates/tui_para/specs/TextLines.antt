@@ -1,16 +1,26 @@
--- The lines of a text that an iterator still gives.
-use Rattle.std.specs.Prelude.{List, map, drop}
+-- The lines of a text that an iterator still gives, and what calls of it and of its lines give.
+use Rattle.std.specs.Iterator.{YieldsFirstBy}
+use Rattle.std.specs.Prelude.{List, Option, map, drop}
+use Rattle.tui_text.specs.Grapheme.{glyph_of}
 use Rattle.tui_text.specs.Graphemes.{glyphs_left}
 use Rattle.tui_text.specs.Line.{line_data}
 use Rattle.tui_text.specs.declared.alignment.Alignment.{Alignment}
+use Rattle.tui_text.specs.declared.grapheme.StyledGrapheme.{StyledGrapheme}
 use Rattle.tui_text.specs.declared.graphemes.Graphemes.{Graphemes}
-use Rattle.tui_para.specs.Lines.{Strip, strip}
-use Rattle.tui_para.specs.WrappedText.{text_strip}
+use Rattle.tui_para.specs.Lines.{GlyphLine, glyph_line}
+use Rattle.tui_para.specs.WrappedText.{text_glyph_line}
 use Rattle.tui_para.specs.declared.text_lines.TextLines.{TextLines}
 
 -- the line that an iterator over its graphemes and its alignment stand for
-abbrev pub strip_left : Graphemes × Alignment → Strip
-strip_left x = strip x.1 (glyphs_left x.0)
+abbrev pub glyph_line_left : Graphemes × Alignment → GlyphLine
+glyph_line_left x = glyph_line x.1 (glyphs_left x.0)
 
-abbrev pub strips_left : TextLines → List Strip
-strips_left s = map (text_strip s.style s.alignment) (map line_data (drop s.place s.lines.now))
+abbrev pub glyph_lines_left : TextLines → List GlyphLine
+glyph_lines_left s = map (text_glyph_line s.style s.alignment) (map line_data (drop s.place s.lines.now))
+
+-- what calls of the two iterators give
+abbrev pub gives_lines : TextLines → Option (Graphemes × Alignment) → TextLines → Type 0
+gives_lines = YieldsFirstBy glyph_line_left glyph_lines_left
+
+abbrev pub gives_graphemes : Graphemes → Option StyledGrapheme → Graphemes → Type 0
+gives_graphemes = YieldsFirstBy glyph_of glyphs_left

@@ -3,7 +3,7 @@ use Rattle.std.specs.Prelude.{◌≡◌, ◌≢◌, ◌<◌, ◌≤◌, ℕ, ◌
 use Rattle.tui_para.specs.Wrapped.{kept}
 
 -- the longest front of the list that P holds of, and what stands after it
-pub record IsLongestFront {A : Type 0} (P : List A → Type 0) (xs front after : List A) : Type 0 where
+pub record IsLongestPrefix {A : Type 0} (P : List A → Type 0) (xs front after : List A) : Type 0 where
   pub joined : xs ≡ front ++ after
   pub holds : P front
   pub longest : (other more : List A) → xs ≡ other ++ more → P other → length other ≤ length front
@@ -22,14 +22,14 @@ pub record Truncated {A : Type 0} (size : A → ℕ) (w : ℕ) (left : Bool) (of
   pub shown : List A
   pub rest : List A
   pub passed : List A
-  pub passes : left ≡ true → IsLongestFront (IsPassedBy size offset) (kept size w xs) passed shown
+  pub passes : left ≡ true → IsLongestPrefix (IsPassedBy size offset) (kept size w xs) passed shown
   pub stays : left ≡ false → shown ≡ kept size w xs
-  pub fits : IsLongestFront (FitsIn size w) shown line rest
+  pub fits : IsLongestPrefix (FitsIn size w) shown line rest
 
 -- the same as functions: the graphemes that fit a room
-abbrev pub fitting_front : {A : Type 0} → (A → ℕ) → ℕ → List A → List A
-fitting_front size room [] = []
-fitting_front size room (x ∷ xs) = cond (nat_le (size x) room) (x ∷ fitting_front size (room - size x) xs) []
+abbrev pub fitting_prefix : {A : Type 0} → (A → ℕ) → ℕ → List A → List A
+fitting_prefix size room [] = []
+fitting_prefix size room (x ∷ xs) = cond (nat_le (size x) room) (x ∷ fitting_prefix size (room - size x) xs) []
 
 -- those that the offset leaves
 abbrev pub left_by : {A : Type 0} → (A → ℕ) → ℕ → List A → List A
@@ -38,4 +38,4 @@ left_by size offset (x ∷ xs) = cond (nat_lt 0 offset && nat_le (size x) offset
 
 -- the line: the one that `Truncated` admits
 abbrev pub truncate : {A : Type 0} → (A → ℕ) → ℕ → Bool → ℕ → List A → List A
-truncate size w left offset xs = fitting_front size w (cond left (left_by size offset (kept size w xs)) (kept size w xs))
+truncate size w left offset xs = fitting_prefix size w (cond left (left_by size offset (kept size w xs)) (kept size w xs))

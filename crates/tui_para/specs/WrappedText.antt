@@ -2,7 +2,7 @@
 use Rattle.std.specs.Prelude.{ℕ, Bool, All, List, [], ◌∷◌, map, unwrap_or}
 use Rattle.tui_cells.specs.declared.style.Style.{Style}
 use Rattle.tui_para.specs.Division.{SpacedWithin}
-use Rattle.tui_para.specs.Lines.{Strip, strip, is_left, CutAll, cut_all, WrapsLine, TruncatesLine}
+use Rattle.tui_para.specs.Lines.{GlyphLine, glyph_line, is_left, CutAll, cut_all, WrapsLine, TruncatesLine}
 use Rattle.tui_para.specs.Places.{wrap}
 use Rattle.tui_para.specs.Truncated.{truncate}
 use Rattle.tui_text.specs.Grapheme.{Glyph, glyph_blank, glyph_width}
@@ -12,26 +12,26 @@ use Rattle.tui_text.specs.Text.{TextData}
 use Rattle.tui_text.specs.declared.alignment.Alignment.{Alignment}
 
 -- a text line over the text's style, in its own alignment or else the given one
-abbrev pub text_strip : Style → Alignment → LineData → Strip
-text_strip style alignment line = strip (unwrap_or line.alignment alignment) (line_graphemes style line)
+abbrev pub text_glyph_line : Style → Alignment → LineData → GlyphLine
+text_glyph_line style alignment line = glyph_line (unwrap_or line.alignment alignment) (line_graphemes style line)
 
-abbrev pub text_strips : TextData → Alignment → List Strip
-text_strips text alignment = map (text_strip text.style alignment) text.lines
+abbrev pub text_glyph_lines : TextData → Alignment → List GlyphLine
+text_glyph_lines text alignment = map (text_glyph_line text.style alignment) text.lines
 
 -- the text is wrapped into these lines: those of each text line, in order
-abbrev pub WrappedText : ℕ → Bool → Alignment → TextData → List Strip → Type 0
-WrappedText w trim alignment text lines = CutAll (WrapsLine w trim) (text_strips text alignment) lines
+abbrev pub WrappedText : ℕ → Bool → Alignment → TextData → List GlyphLine → Type 0
+WrappedText w trim alignment text lines = CutAll (WrapsLine w trim) (text_glyph_lines text alignment) lines
 
 -- the text is not wrapped and is cut into these lines: one of each text line
-abbrev pub TruncatedText : ℕ → ℕ → Alignment → TextData → List Strip → Type 0
-TruncatedText w offset alignment text lines = CutAll (TruncatesLine w offset) (text_strips text alignment) lines
+abbrev pub TruncatedText : ℕ → ℕ → Alignment → TextData → List GlyphLine → Type 0
+TruncatedText w offset alignment text lines = CutAll (TruncatesLine w offset) (text_glyph_lines text alignment) lines
 
 -- the same as functions
-abbrev pub wrap_text : ℕ → Bool → Alignment → TextData → List Strip
-wrap_text w trim alignment text = cut_all (λ t. wrap glyph_blank glyph_width w trim t.glyphs) (text_strips text alignment)
+abbrev pub wrap_text : ℕ → Bool → Alignment → TextData → List GlyphLine
+wrap_text w trim alignment text = cut_all (λ t. wrap glyph_blank glyph_width w trim t.glyphs) (text_glyph_lines text alignment)
 
-abbrev pub truncate_text : ℕ → ℕ → Alignment → TextData → List Strip
-truncate_text w offset alignment text = cut_all (λ t. truncate glyph_width w (is_left t.alignment) offset t.glyphs ∷ []) (text_strips text alignment)
+abbrev pub truncate_text : ℕ → ℕ → Alignment → TextData → List GlyphLine
+truncate_text w offset alignment text = cut_all (λ t. truncate glyph_width w (is_left t.alignment) offset t.glyphs ∷ []) (text_glyph_lines text alignment)
 
 -- each line of the text is the words given for it, parted by single blanks of width 1, none of them wider than w
 abbrev pub IsTextOf : (LineData → List (List Glyph)) → ℕ → TextData → Type 0

@@ -7,8 +7,8 @@ ghost use Rattle.tui_para.specs.Mark.{mark_of, is_blank, size_of};
 ghost use Rattle.tui_para.specs.Places.{blanks_len, start_len, line_len, dropped_len};
 ghost use Rattle.tui_para.specs.Wrapped.{IsNextLine};
 
-use crate::front::Front;
 use crate::mark::Mark;
+use crate::prefix::Prefix;
 
 /// How many blanks stand at the front.
 fn leading_blanks(marks: &[Mark]) -> usize
@@ -32,26 +32,26 @@ fn start_of(marks: &[Mark], trim: bool) -> usize
 }
 
 /// The graphemes up to here where a word ends here, else those up to the end of the word before.
-fn whole_words(words: Front, here: Front, word_ends: bool) -> Front
+fn whole_words(words: Prefix, here: Prefix, word_ends: bool) -> Prefix
     ensures { result ≡ cond word_ends here words }
 {
     if word_ends { here } else { words }
 }
 
 /// The line that stands at the front.
-fn line_at(marks: &[Mark], width: u16) -> Front
+fn line_at(marks: &[Mark], width: u16) -> Prefix
     ensures within { result.len ≤ length marks.now }
     ensures len { result.len ≡ line_len is_blank size_of width marks.now }
     ensures room { result.room + sum_by size_of (take result.len marks.now) ≡ width }
 {
-    let mut words = Front {
+    let mut words = Prefix {
         len: 0,
         room: width,
     };
     let mut room = width;
     let mut in_word = false;
     for (i, mark) in marks.iter().enumerate() {
-        let here = Front { len: i, room };
+        let here = Prefix { len: i, room };
         words = whole_words(words, here, in_word && mark.blank);
         if mark.width > room {
             return if words.len > 0 { words } else { here };
@@ -59,7 +59,7 @@ fn line_at(marks: &[Mark], width: u16) -> Front
         room -= mark.width;
         in_word = !mark.blank;
     }
-    Front {
+    Prefix {
         len: marks.len(),
         room,
     }

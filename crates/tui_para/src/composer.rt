@@ -5,7 +5,7 @@ ghost use Rattle.std.specs.Io.BufRead.{Rests};
 ghost use Rattle.std.specs.Prelude.{◌≡◌, Bool, List, IfOk, IfSome, map, sum_by};
 ghost use Rattle.tui_text.specs.Grapheme.{glyph_of, glyph_width};
 ghost use Rattle.tui_para.specs.Lent.{NextLine};
-ghost use Rattle.tui_para.specs.Lines.{Strip};
+ghost use Rattle.tui_para.specs.Lines.{GlyphLine};
 
 use tui_cells::Mem;
 use tui_text::{Alignment, StyledGrapheme};
@@ -24,10 +24,10 @@ pub trait LineComposer<'a> {
     ghost can_lend: { Self → Type 0 };
 
     /// The lists of lines that it may still lend.
-    ghost to_come: { Self → List Strip → Type 0 };
+    ghost to_come: { Self → List GlyphLine → Type 0 };
 
     /// The lists of lines that it lends in any case, where its iterators give known text lines.
-    ghost awaits: { Self → List Strip → Type 0 };
+    ghost awaits: { Self → List GlyphLine → Type 0 };
 
     /// Whether it has wanted memory.
     ghost has_failed: { Self → Bool };

@@ -1,20 +1,21 @@
 //! Laws of the definitions.
 
-ghost use Rattle.std.specs.Prelude.{◌≡◌, ◌<◌, ℕ, Bool, List, false};
+ghost use Rattle.std.specs.Prelude.{◌≡◌, ◌<◌, ℕ, Bool, List};
 ghost use Rattle.tui_text.specs.Grapheme.{Glyph, glyph_blank, glyph_width};
 ghost use Rattle.tui_text.specs.Text.{TextData};
 ghost use Rattle.tui_text.specs.declared.alignment.Alignment.{Alignment};
-ghost use Rattle.tui_para.specs.Given.{AllReady, AlwaysAnswers};
-ghost use Rattle.tui_para.specs.Lines.{Strip};
+ghost use Rattle.tui_para.specs.Lines.{GlyphLine};
 ghost use Rattle.tui_para.specs.Places.{wrap};
+ghost use Rattle.tui_para.specs.TextLines.{gives_graphemes, gives_lines};
 ghost use Rattle.tui_para.specs.Truncated.{Truncated, truncate};
 ghost use Rattle.tui_para.specs.Wrapped.{Wrapped, IsTheOne};
 ghost use Rattle.tui_para.specs.WrappedText.{TruncatedText, WrappedText, truncate_text, wrap_text};
-ghost use Rattle.tui_para.specs.Wrapping.{TruncatorMayLend, TruncatorWillLend, WrapperMayLend, WrapperWillLend};
+ghost use Rattle.tui_para.specs.Wrapping.{TruncatorCanLend, TruncatorMayLend, TruncatorWillLend, WrapperCanLend, WrapperMayLend, WrapperWillLend};
 
+use crate::text_lines::TextLines;
 use crate::truncator::LineTruncator;
 use crate::wrapper::WordWrapper;
-use tui_text::{Alignment, StyledGrapheme};
+use tui_text::{Alignment, Graphemes, StyledGrapheme};
 
 /// Exactly one list of lines wraps a list of graphemes, at every width of at least 1, with and without `trim`.
 pub fn wraps_exactly_once()
@@ -40,39 +41,64 @@ pub fn text_truncates_exactly_once()
         → IsTheOne (TruncatedText w offset alignment text) (truncate_text w offset alignment text) }
 {}
 
-/// A wrapper over iterators that end, and that answer each call, has a list of lines that it may lend.
-pub fn wrapper_lends_some<'a, O, I>(wrapper: &WordWrapper<'a, O, I>)
+/// A wrapper over iterators that end may always lend some list of lines, and where they give known text lines only the
+/// one that it lends in any case. That they end is seen by reading them to their ends, so the wrapper is given up.
+pub fn wrapper_lends_some<'a, O, I>(wrapper: WordWrapper<'a, O, I>)
 where
     O: Iterator<Item = (I, Alignment)>,
     I: Iterator<Item = StyledGrapheme<'a>>,
-    ensures { AlwaysAnswers O.can_next O.next_gives O.remaining → AlwaysAnswers I.can_next I.next_gives I.remaining
-        → (wrapper.now.done ≡ false → AllReady O.can_next O.next_gives O.remaining I.can_next I.remaining wrapper.now.lines)
-        → (lines : List Strip) × WrapperMayLend O.next_gives I.next_gives wrapper.now lines }
-{}
+    requires { WrapperCanLend O.can_next O.next_gives O.remaining I.can_next I.remaining wrapper }
+    ensures some { (lines : List GlyphLine) × WrapperMayLend O.next_gives I.next_gives wrapper.entry lines }
+    ensures known { (known : List GlyphLine) → WrapperWillLend O.next_gives I.next_gives wrapper.entry known → IsTheOne (WrapperMayLend O.next_gives I.next_gives wrapper.entry) known }
+{
+    wrapper.read_to_end();
+}
 
-/// Where its iterators give known text lines, as those of a paragraph do, a wrapper may lend no lines but those that it
+/// Over the lines of a text a wrapper may lend exactly one list of lines, whatever it has lent before: the one that it
 /// lends in any case.
+pub fn text_wrapper_lends_one<'s, 'a>(
+    wrapper: WordWrapper<'a, TextLines<'s, 'a>, Graphemes<'s, 'a>>,
+)
+    ensures { (lines : List GlyphLine) × WrapperWillLend gives_lines gives_graphemes wrapper.entry lines × IsTheOne (WrapperMayLend gives_lines gives_graphemes wrapper.entry) lines }
+{
+    wrapper_lends_some(wrapper);
+}
+
+/// Where its iterators give known text lines, a wrapper may lend no lines but those that it lends in any case.
 pub fn wrapper_lends_what_is_known<'a, O, I>(wrapper: &WordWrapper<'a, O, I>)
 where
     O: Iterator<Item = (I, Alignment)>,
     I: Iterator<Item = StyledGrapheme<'a>>,
-    ensures { (lines known : List Strip) → WrapperMayLend O.next_gives I.next_gives wrapper.now lines → WrapperWillLend O.next_gives I.next_gives wrapper.now known → lines ≡ known }
+    ensures { (lines known : List GlyphLine) → WrapperMayLend O.next_gives I.next_gives wrapper.now lines → WrapperWillLend O.next_gives I.next_gives wrapper.now known → lines ≡ known }
 {}
 
-/// A truncator over iterators that end, and that answer each call, has a list of lines that it may lend.
-pub fn truncator_lends_some<'a, O, I>(truncator: &LineTruncator<'a, O, I>)
+/// A truncator over iterators that end may always lend some list of lines, and where they give known text lines only
+/// the one that it lends in any case. That they end is seen by reading them to their ends.
+pub fn truncator_lends_some<'a, O, I>(truncator: LineTruncator<'a, O, I>)
 where
     O: Iterator<Item = (I, Alignment)>,
     I: Iterator<Item = StyledGrapheme<'a>>,
-    ensures { AlwaysAnswers O.can_next O.next_gives O.remaining → AlwaysAnswers I.can_next I.next_gives I.remaining
-        → (truncator.now.done ≡ false → AllReady O.can_next O.next_gives O.remaining I.can_next I.remaining truncator.now.lines)
-        → (lines : List Strip) × TruncatorMayLend O.next_gives I.next_gives truncator.now lines }
-{}
+    requires { TruncatorCanLend O.can_next O.next_gives O.remaining I.can_next I.remaining truncator }
+    ensures some { (lines : List GlyphLine) × TruncatorMayLend O.next_gives I.next_gives truncator.entry lines }
+    ensures known { (known : List GlyphLine) → TruncatorWillLend O.next_gives I.next_gives truncator.entry known → IsTheOne (TruncatorMayLend O.next_gives I.next_gives truncator.entry) known }
+{
+    truncator.read_to_end();
+}
+
+/// Over the lines of a text a truncator may lend exactly one list of lines, whatever it has lent before: the one that it
+/// lends in any case.
+pub fn text_truncator_lends_one<'s, 'a>(
+    truncator: LineTruncator<'a, TextLines<'s, 'a>, Graphemes<'s, 'a>>,
+)
+    ensures { (lines : List GlyphLine) × TruncatorWillLend gives_lines gives_graphemes truncator.entry lines × IsTheOne (TruncatorMayLend gives_lines gives_graphemes truncator.entry) lines }
+{
+    truncator_lends_some(truncator);
+}
 
 /// Where its iterators give known text lines, a truncator may lend no lines but those that it lends in any case.
 pub fn truncator_lends_what_is_known<'a, O, I>(truncator: &LineTruncator<'a, O, I>)
 where
     O: Iterator<Item = (I, Alignment)>,
     I: Iterator<Item = StyledGrapheme<'a>>,
-    ensures { (lines known : List Strip) → TruncatorMayLend O.next_gives I.next_gives truncator.now lines → TruncatorWillLend O.next_gives I.next_gives truncator.now known → lines ≡ known }
+    ensures { (lines known : List GlyphLine) → TruncatorMayLend O.next_gives I.next_gives truncator.now lines → TruncatorWillLend O.next_gives I.next_gives truncator.now known → lines ≡ known }
 {}

@@ -6,7 +6,7 @@ pub mod composer;
 mod counter;
 mod counting;
 mod cut;
-mod front;
+mod ends;
 mod laws;
 #[cfg(test)]
 mod line_tests;
@@ -15,10 +15,11 @@ mod marked;
 mod painting;
 pub mod paragraph;
 mod part;
+mod prefix;
 #[cfg(test)]
 mod tests;
 mod text_line;
-mod text_lines;
+pub mod text_lines;
 mod truncating;
 pub mod truncator;
 pub mod wrap;
@@ -26,11 +27,13 @@ pub mod wrapper;
 
 pub use composer::{LineComposer, WrappedLine};
 pub use laws::{
-    text_truncates_exactly_once, text_wraps_exactly_once, truncates_exactly_once,
-    truncator_lends_some, truncator_lends_what_is_known, wrapper_lends_some,
-    wrapper_lends_what_is_known, wraps_exactly_once,
+    text_truncates_exactly_once, text_truncator_lends_one, text_wrapper_lends_one,
+    text_wraps_exactly_once, truncates_exactly_once, truncator_lends_some,
+    truncator_lends_what_is_known, wrapper_lends_some, wrapper_lends_what_is_known,
+    wraps_exactly_once,
 };
 pub use paragraph::Paragraph;
+pub use text_lines::TextLines;
 pub use truncator::LineTruncator;
 pub use wrap::Wrap;
 pub use wrapper::WordWrapper;

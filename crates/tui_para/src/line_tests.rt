@@ -1,8 +1,7 @@
 //! Worked lines, by the calls of both composers and by drawing.
 
 use crate::composer::LineComposer;
-use crate::text_lines::TextLines;
-use crate::{LineTruncator, Paragraph, WordWrapper, Wrap};
+use crate::{LineTruncator, Paragraph, TextLines, WordWrapper, Wrap};
 use std::alloc::Global;
 use tui_cells::{Buffer, Mem, Position, Rect, Widget};
 use tui_text::{Alignment, Text};
@@ -28,7 +27,7 @@ fn put_line<'a, C: LineComposer<'a>>(lines: &mut String, composer: &mut C) -> Me
 
 fn wrapped(alloc: Global, text: &Text<'_>, width: u16, trim: bool) -> Mem<String> {
     let mut lines = String::new(alloc);
-    let texts = TextLines::new(text.lines(), text.text_style(), Alignment::Left);
+    let texts = TextLines::new(text, Alignment::Left);
     let mut wrapper = WordWrapper::new(alloc, texts, width, trim);
     for _i in 0..ENOUGH {
         if !put_line(&mut lines, &mut wrapper)? {
@@ -39,7 +38,7 @@ fn wrapped(alloc: Global, text: &Text<'_>, width: u16, trim: bool) -> Mem<String
 }
 
 /// Texts, widths, `trim` and the lines.
-const WRAPPED: [(&str, u16, bool, &str); 16] = [
+const WRAPPED: [(&str, u16, bool, &str); 17] = [
     ("aaa bbbbbb", 5, true, "aaa|bbbbb|b|"),
     ("aaaa  ", 5, true, "aaaa|"),
     ("   abc", 5, false, "   ab|c|"),
@@ -71,6 +70,7 @@ const WRAPPED: [(&str, u16, bool, &str); 16] = [
     ("ab c\u{30b3}", 5, true, "ab|c\u{30b3}|"),
     ("aaaa\u{30b3}", 5, true, "aaaa|\u{30b3}|"),
     ("foo\u{200b}bar", 3, true, "foo|bar|"),
+    ("foo\u{200b}", 3, true, "foo\u{200b}|"),
     ("\u{30b3}a", 1, true, "a|"),
     ("a b", 1, true, "a|b|"),
     ("a", 0, true, ""),
@@ -91,6 +91,39 @@ fn text_is_wrapped_at_blanks(rt: HostRuntime) -> Mem<()> {
     Ok(())
 }
 
+fn repeated(alloc: Global, piece: &str, count: usize) -> Mem<String> {
+    let mut text = String::new(alloc);
+    for _i in 0..count {
+        text.push_str(piece)?;
+    }
+    Ok(text)
+}
+
+/// Pieces that make up a text line, widths, and the pieces that make up its lines: longer text lines than are read at
+/// once, lines that end where reading paused, and lines that are longer.
+const LONG: [(&str, usize, u16, &str, usize); 5] = [
+    ("ab ", 90, 2, "ab|", 90),
+    ("a", 512, 8, "aaaaaaaa|", 64),
+    ("abcdefg ", 64, 7, "abcdefg|", 64),
+    ("abcdefg", 80, 560, "abcdefg", 80),
+    (" ", 600, 9, "|", 1),
+];
+
+#[test]
+fn long_text_lines_are_read_on(rt: HostRuntime) -> Mem<()> {
+    for (piece, count, width, line, lines) in LONG {
+        let content = repeated(rt.alloc(), piece, count)?;
+        let text = Text::raw(rt.alloc(), &content)?;
+        let shown = wrapped(rt.alloc(), &text, width, true)?;
+        let expected = repeated(rt.alloc(), line, lines)?;
+        assert!(&rt;
+            shown.as_str().trim_end_matches('|') == expected.as_str().trim_end_matches('|'),
+            "of {piece:?}"
+        );
+    }
+    Ok(())
+}
+
 fn truncated(
     alloc: Global,
     text: &Text<'_>,
@@ -99,7 +132,7 @@ fn truncated(
     width: u16,
 ) -> Mem<String> {
     let mut lines = String::new(alloc);
-    let texts = TextLines::new(text.lines(), text.text_style(), alignment);
+    let texts = TextLines::new(text, alignment);
     let mut truncator = LineTruncator::new(alloc, texts, width);
     truncator.set_horizontal_offset(offset);
     for _i in 0..ENOUGH {

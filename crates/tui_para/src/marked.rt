@@ -1,11 +1,11 @@
 //! The graphemes of one text line.
 
-ghost use Rattle.std.specs.Prelude.{◌≡◌, ◌≢◌, ◌≤◌, List, [], ◌∷◌, ◌++◌, true, false, length, map, OnOk, OnErr};
-ghost use Rattle.std.specs.Iterator.{Drains};
+ghost use Rattle.std.specs.Prelude.{◌≡◌, ◌≤◌, ◌+◌, List, [], ◌∷◌, ◌++◌, true, false, length, drop, map, IfOk, IfSome, OnOk, OnErr, vec_len};
+ghost use Rattle.std.specs.Iterator.{size};
 ghost use Rattle.std.specs.List.{between};
 ghost use Rattle.tui_text.specs.Grapheme.{glyph_of, glyph_width};
 ghost use Rattle.tui_text.specs.declared.grapheme.StyledGrapheme.{StyledGrapheme};
-ghost use Rattle.tui_para.specs.Given.{Ready};
+ghost use Rattle.tui_para.specs.Given.{Ready, SourceReads};
 ghost use Rattle.tui_para.specs.Mark.{mark_of, size_of};
 ghost use Rattle.tui_para.specs.Wrapped.{kept};
 
@@ -14,7 +14,7 @@ use std::alloc::Global;
 use tui_cells::{Mem, NoMemory};
 use tui_text::StyledGrapheme;
 
-/// Graphemes with their marks. The lists are used again for each text line.
+/// Graphemes side by side with their marks. The lists are used again for each text line.
 #[derive(Drop)]
 pub(crate) struct Marked<'a> {
     graphemes: Vec<StyledGrapheme<'a>>,
@@ -40,13 +40,6 @@ impl<'a> Marked<'a> {
         self.marks.len()
     }
 
-    pub(crate) fn is_empty(&self) -> bool
-        ensures yes { result ≡ true → glyphs_of self.now ≡ [] }
-        ensures no { result ≡ false → glyphs_of self.now ≢ [] }
-    {
-        self.graphemes.is_empty()
-    }
-
     pub(crate) fn marks(&self) -> &[Mark]
         ensures { result.now ≡ map mark_of (glyphs_of self.now) }
     {
@@ -62,7 +55,7 @@ impl<'a> Marked<'a> {
         &self.graphemes[start..end]
     }
 
-    fn clear(&mut self)
+    pub(crate) fn clear(&mut self)
         ensures { glyphs_of self.new ≡ [] }
     {
         self.graphemes.clear();
@@ -84,23 +77,56 @@ impl<'a> Marked<'a> {
         }
     }
 
-    /// Takes the graphemes that aren't wider than a line, in place of those that are there.
-    pub(crate) fn refill<I: Iterator<Item = StyledGrapheme<'a>>>(
-        &mut self,
-        line: I,
-        width: u16,
-    ) -> Mem<()>
-        requires { Ready I.can_next I.remaining line }
-        ensures fit { (all : List StyledGrapheme) × (glyphs_of self.new ≡ kept glyph_width width (map glyph_of all)) }
-        ensures ok { OnOk result ((all : List StyledGrapheme) × Drains I.next_gives line all × (glyphs_of self.new ≡ kept glyph_width width (map glyph_of all))) }
+    /// Puts a grapheme behind those that are there, unless it is wider than a line.
+    fn keep(&mut self, grapheme: StyledGrapheme<'a>, width: u16) -> Mem<()>
+        ensures ok { OnOk result (glyphs_of self.new ≡ glyphs_of self.old ++ kept glyph_width width (glyph_of grapheme.entry ∷ [])) }
+        ensures err { OnErr result (glyphs_of self.new ≡ glyphs_of self.old) }
     {
-        self.clear();
-        'graphemes: for grapheme in line {
-            let mark = mark_of(&grapheme);
-            if mark.width <= width {
-                self.push(grapheme, mark)?;
-            }
+        let mark = mark_of(&grapheme);
+        if mark.width <= width {
+            self.push(grapheme, mark)?;
         }
         Ok(())
     }
+
+    /// Leaves out the first `count` graphemes.
+    pub(crate) fn drop_front(&mut self, count: usize)
+        requires { count ≤ length (glyphs_of self.old) }
+        ensures { glyphs_of self.new ≡ drop count (glyphs_of self.old) }
+    {
+        drop_front(&mut self.graphemes, count);
+        drop_front(&mut self.marks, count);
+    }
+
+    /// Reads `count` graphemes more, and keeps those that aren't wider than a line. Answers what gives the others, or
+    /// None where no more came.
+    pub(crate) fn read<I: Iterator<Item = StyledGrapheme<'a>>>(
+        &mut self,
+        mut source: I,
+        count: usize,
+        width: u16,
+    ) -> Mem<Option<I>>
+        requires { Ready I.can_next I.remaining source }
+        ensures fit { (taken : List StyledGrapheme) × (glyphs_of self.new ≡ glyphs_of self.old ++ kept glyph_width width (map glyph_of taken)) }
+        ensures read { IfOk result (λ left. (taken : List StyledGrapheme) × SourceReads I.next_gives source taken left
+            × (glyphs_of self.new ≡ glyphs_of self.old ++ kept glyph_width width (map glyph_of taken))) }
+        ensures ready { IfOk result (λ left. IfSome left (λ i. Ready I.can_next I.remaining i × (size (I.remaining i) + count ≤ size (I.remaining source)))) }
+    {
+        'graphemes: for _read in 0..count {
+            let Some(grapheme) = source.next() else {
+                return Ok(None);
+            };
+            self.keep(grapheme, width)?;
+        }
+        Ok(Some(source))
+    }
+}
+
+fn drop_front<T: Copy>(items: &mut Vec<T>, count: usize)
+    requires { count ≤ vec_len items.old }
+    ensures { items.new.items ≡ drop count items.old.items }
+{
+    let len = items.len();
+    items.as_mut_slice().copy_within(count..len, 0);
+    items.truncate(len - count);
 }

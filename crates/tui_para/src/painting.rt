@@ -5,9 +5,9 @@ ghost use Rattle.tui_cells.specs.Cell.{dress};
 ghost use Rattle.tui_cells.specs.Rect.{covers};
 ghost use Rattle.tui_cells.specs.Layers.{Painted, KeptOutside, stroke};
 ghost use Rattle.tui_text.specs.Grapheme.{glyph_of, glyph_width};
-ghost use Rattle.tui_para.specs.Lent.{strip_of};
-ghost use Rattle.tui_para.specs.Lines.{Strip};
-ghost use Rattle.tui_para.specs.Strokes.{glyph_layers, run_layers, start_of, strip_layers, strips_layers};
+ghost use Rattle.tui_para.specs.Lent.{glyph_line_of};
+ghost use Rattle.tui_para.specs.Lines.{GlyphLine};
+ghost use Rattle.tui_para.specs.Strokes.{glyph_layers, run_layers, start_of, glyph_line_layers, glyph_lines_layers};
 
 use crate::composer::{LineComposer, WrappedLine};
 use tui_cells::{Buffer, Mem, Position, Rect, Style};
@@ -77,9 +77,9 @@ fn start_of(alignment: Alignment, room: u16, width: u16) -> u16
 }
 
 /// Paints a line in a row.
-fn paint_strip(buf: &mut Buffer, rect: Rect, y: u16, line: &WrappedLine<'_, '_>) -> Mem<()>
+fn paint_line(buf: &mut Buffer, rect: Rect, y: u16, line: &WrappedLine<'_, '_>) -> Mem<()>
     requires { line.now.width ≡ sum_by glyph_width (map glyph_of line.now.graphemes.now) }
-    ensures ok { OnOk result (Painted (strip_layers rect y (strip_of line.now)) buf.old buf.new) }
+    ensures ok { OnOk result (Painted (glyph_line_layers rect y (glyph_line_of line.now)) buf.old buf.new) }
     ensures kept { KeptOutside (covers rect) buf.old buf.new }
 {
     let start = start_of(line.alignment, rect.width, line.width);
@@ -91,7 +91,7 @@ fn paint_strip(buf: &mut Buffer, rect: Rect, y: u16, line: &WrappedLine<'_, '_>)
 fn skip_lines<'a, C: LineComposer<'a>>(composer: &mut C, count: u16) -> Mem<()>
     requires { C.can_lend composer.old }
     ensures ready { OnOk result (C.can_lend composer.new) }
-    ensures skipped { OnOk result ((lines : List Strip) → C.awaits composer.old lines → C.awaits composer.new (drop count lines)) }
+    ensures skipped { OnOk result ((lines : List GlyphLine) → C.awaits composer.old lines → C.awaits composer.new (drop count lines)) }
 {
     'lines: for _line in 0..count {
         match composer.next_line()? {
@@ -110,14 +110,14 @@ pub(crate) fn paint_lines<'a, C: LineComposer<'a>>(
     skipped: u16,
 ) -> Mem<()>
     requires { C.can_lend composer.old }
-    ensures ok { OnOk result ((lines : List Strip) → C.awaits composer.old lines → Painted (strips_layers rect rect.y (drop skipped lines)) buf.old buf.new) }
+    ensures ok { OnOk result ((lines : List GlyphLine) → C.awaits composer.old lines → Painted (glyph_lines_layers rect rect.y (drop skipped lines)) buf.old buf.new) }
     ensures kept { KeptOutside (covers rect) buf.old buf.new }
 {
     skip_lines(composer, skipped)?;
     'rows: for y in rect.top()..rect.bottom() {
         match composer.next_line()? {
             None => return Ok(()),
-            Some(line) => paint_strip(buf, rect, y, &line)?,
+            Some(line) => paint_line(buf, rect, y, &line)?,
         }
     }
     Ok(())

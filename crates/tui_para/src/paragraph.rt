@@ -3,7 +3,7 @@
 ghost use Rattle.std.specs.Prelude.{◌≡◌, ◌<◌, List, length, None, Some, Ok, All, IsOk, IfOk, IsSome, IfSome, ℕ, false, sum_by};
 ghost use Rattle.tui_para.specs.Paragraph.{paragraph_data, paragraph_of};
 ghost use Rattle.tui_para.specs.Division.{IsFewest};
-ghost use Rattle.tui_para.specs.Lines.{Strip};
+ghost use Rattle.tui_para.specs.Lines.{GlyphLine};
 ghost use Rattle.tui_para.specs.WrappedText.{IsTextOf, WrappedText};
 ghost use Rattle.tui_text.specs.Grapheme.{Glyph, glyph_width};
 ghost use Rattle.tui_text.specs.Line.{LineData};
@@ -53,6 +53,7 @@ impl<'a> Paragraph<'a> {
         Paragraph { style, ..self }
     }
 
+    /// Has the lines wrapped; without it each text line has one row.
     pub fn wrap(self, wrap: Wrap) -> Paragraph<'a>
         ensures { paragraph_data result ≡ record (paragraph_data self.entry) { wrap = Some wrap } }
     {
@@ -62,7 +63,7 @@ impl<'a> Paragraph<'a> {
         }
     }
 
-    /// Sets the first row that is shown, and the columns that are left out at the left of each
+    /// Sets (y, x): the line that the first row shows, and the columns that are left out at the left of each
     /// line that is not wrapped and is aligned to the left.
     pub fn scroll(self, scroll: (u16, u16)) -> Paragraph<'a>
         ensures { paragraph_data result ≡ record (paragraph_data self.entry) { scroll_y = scroll.0; scroll_x = scroll.1 } }
@@ -81,25 +82,28 @@ impl<'a> Paragraph<'a> {
         Paragraph { alignment, ..self }
     }
 
+    /// Aligns the lines without an alignment of their own to the left.
     pub fn left_aligned(self) -> Paragraph<'a>
         ensures { paragraph_data result ≡ record (paragraph_data self.entry) { alignment = Left } }
     {
         self.alignment(Alignment::Left)
     }
 
+    /// Aligns the lines without an alignment of their own to the middle.
     pub fn centered(self) -> Paragraph<'a>
         ensures { paragraph_data result ≡ record (paragraph_data self.entry) { alignment = Center } }
     {
         self.alignment(Alignment::Center)
     }
 
+    /// Aligns the lines without an alignment of their own to the right.
     pub fn right_aligned(self) -> Paragraph<'a>
         ensures { paragraph_data result ≡ record (paragraph_data self.entry) { alignment = Right } }
     {
         self.alignment(Alignment::Right)
     }
 
-    /// An equal paragraph of its own.
+    /// An equal paragraph of its own. `NoMemory` where there is none for the text.
     pub fn clone(&self) -> Mem<Paragraph<'a>>
         ensures { IfOk result (λ paragraph. paragraph_data paragraph ≡ paragraph_data self.now) }
     {
@@ -118,7 +122,7 @@ impl<'a> Paragraph<'a> {
         ensures ok { IsOk result }
         ensures nothing { width ≡ 0 → result ≡ Ok 0 }
         ensures unwrapped { 0 < width → (paragraph_data self.now).wrap ≡ None → result ≡ Ok (length (paragraph_data self.now).text.lines) }
-        ensures wrapped { 0 < width → IfSome (paragraph_data self.now).wrap (λ wrap. (lines : List Strip)
+        ensures wrapped { 0 < width → IfSome (paragraph_data self.now).wrap (λ wrap. (lines : List GlyphLine)
             → WrappedText width wrap.trim (paragraph_data self.now).alignment (paragraph_data self.now).text lines → result ≡ Ok (saturated (length lines))) }
 
         // Where each line of the text is words with single blanks between them, no division of the words has fewer lines.

@@ -1,16 +1,18 @@
 //! The lines of a text, to be cut.
 
-ghost use Rattle.std.specs.Prelude.{◌≡◌, map};
+ghost use Rattle.std.specs.Prelude.{◌≡◌};
 ghost use Rattle.std.specs.Iterator.{item_count, YieldsFirstBy};
-ghost use Rattle.tui_text.specs.Line.{line_data};
-ghost use Rattle.tui_para.specs.WrappedText.{text_strip};
+ghost use Rattle.tui_text.specs.Text.{text_data};
+ghost use Rattle.tui_para.specs.Given.{WillBe, WillGive};
+ghost use Rattle.tui_para.specs.WrappedText.{text_glyph_lines};
 
 use tui_cells::Style;
-use tui_text::{Alignment, Graphemes, Line};
+use tui_text::{Alignment, Graphemes, Line, Text};
 
-/// The graphemes of each line of a text over a style, with the line's own alignment or else the given one.
+/// The lines of a text, as a paragraph hands them to a composer: the graphemes of each over the text's style, with its
+/// own alignment or else the given one.
 #[derive(Drop)]
-pub(crate) struct TextLines<'s, 'a> {
+pub struct TextLines<'s, 'a> {
     lines: &'s [Line<'a>],
     place: usize,
     style: Style,
@@ -18,32 +20,30 @@ pub(crate) struct TextLines<'s, 'a> {
 }
 
 impl<'s, 'a> TextLines<'s, 'a> {
-    ghost use Rattle.tui_para.specs.TextLines.{strips_left};
+    ghost use Rattle.tui_para.specs.TextLines.{gives_graphemes, gives_lines, glyph_lines_left};
 
-    pub(crate) fn new(
-        lines: &'s [Line<'a>],
-        style: Style,
-        alignment: Alignment,
-    ) -> TextLines<'s, 'a>
-        ensures { strips_left result ≡ map (text_strip style alignment) (map line_data lines.now) }
+    /// All lines of the text. A composer over them lends the lines of the text in that alignment.
+    pub fn new(text: &'s Text<'a>, alignment: Alignment) -> TextLines<'s, 'a>
+        ensures left { glyph_lines_left result ≡ text_glyph_lines (text_data text.now) alignment }
+        ensures gives { WillGive gives_lines (WillBe gives_graphemes) result (text_glyph_lines (text_data text.now) alignment) }
     {
         TextLines {
-            lines,
+            lines: text.lines(),
             place: 0,
-            style,
+            style: text.text_style(),
             alignment,
         }
     }
 }
 
 impl<'s, 'a> Iterator for TextLines<'s, 'a> {
-    ghost use Rattle.tui_para.specs.TextLines.{strip_left, strips_left};
+    ghost use Rattle.tui_para.specs.TextLines.{glyph_line_left, glyph_lines_left};
 
     type Item = (Graphemes<'s, 'a>, Alignment);
 
-    ghost next_gives = { YieldsFirstBy strip_left strips_left };
+    ghost next_gives = { YieldsFirstBy glyph_line_left glyph_lines_left };
 
-    ghost remaining = { item_count strips_left };
+    ghost remaining = { item_count glyph_lines_left };
 
     fn next(&mut self) -> Option<(Graphemes<'s, 'a>, Alignment)> {
         if self.place >= self.lines.len() {

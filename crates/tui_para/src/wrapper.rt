@@ -1,26 +1,25 @@
 //! Wrapping of text lines.
 
 ghost use Rattle.std.specs.Prelude.{◌≡◌, ◌≤◌, ◌↔◌, List, false, true, length, IfOk, IfSome, MatchResult, map, option_map, sum_by};
-ghost use Rattle.tui_text.specs.Grapheme.{glyph_of, glyph_width};
-ghost use Rattle.tui_para.specs.Given.{AllReady, MayGive, MayBe, WillGive, WillBe};
-ghost use Rattle.tui_para.specs.Lines.{Strip, strip, LendsFirst, LinesOf, TakesFirst, WrapsLine};
+ghost use Rattle.tui_text.specs.Grapheme.{Glyph, glyph_of, glyph_width};
+ghost use Rattle.tui_para.specs.Given.{AllReady, IsGlyph, MayGive, MayBe, SourceGives, WillGive, WillBe};
+ghost use Rattle.tui_para.specs.Lines.{GlyphLine, glyph_line, LendsFirst, LinesOf, TakesFirst, UnlessDone, WrapsLine};
 ghost use Rattle.tui_para.specs.Marked.{glyphs_of, part_of};
-ghost use Rattle.tui_para.specs.Wrapping.{WrapperMayLend, WrapperWillLend};
+ghost use Rattle.tui_para.specs.Wrapping.{WrapperCanLend, WrapperMayLend, WrapperWillLend};
 
 use crate::composer::{LineComposer, WrappedLine};
+use crate::ends::read_lines;
 use crate::part::Part;
 use crate::text_line::TextLine;
 use std::alloc::Global;
-use std::marker::PhantomData;
 use tui_cells::{Mem, NoMemory};
 use tui_text::{Alignment, StyledGrapheme};
 
 /// Wraps text lines at blanks: each text line's own lines in order, with its alignment.
 #[derive(Drop)]
 pub struct WordWrapper<'a, O, I> {
-    of: PhantomData<I>,
     lines: O,
-    current: TextLine<'a>,
+    current: TextLine<'a, I>,
     alignment: Alignment,
     done: bool,
     failed: bool,
@@ -35,14 +34,13 @@ where
     /// its blanks.
     pub fn new(alloc: Global, lines: O, max_line_width: u16, trim: bool) -> WordWrapper<'a, O, I>
         ensures failed { result.failed ≡ false }
-        ensures ready { AllReady O.can_next O.next_gives O.remaining I.can_next I.remaining lines → result.done ≡ false → AllReady O.can_next O.next_gives O.remaining I.can_next I.remaining result.lines }
-        ensures may { (strips : List Strip) → WrapperMayLend O.next_gives I.next_gives result strips
-            ↔ LinesOf (MayGive O.next_gives (MayBe I.next_gives) lines) (WrapsLine max_line_width trim) max_line_width strips }
-        ensures will { (strips : List Strip) → WrapperWillLend O.next_gives I.next_gives result strips
-            ↔ LinesOf (WillGive O.next_gives (WillBe I.next_gives) lines) (WrapsLine max_line_width trim) max_line_width strips }
+        ensures ready { AllReady O.can_next O.next_gives O.remaining I.can_next I.remaining lines → WrapperCanLend O.can_next O.next_gives O.remaining I.can_next I.remaining result }
+        ensures may { (glyph_lines : List GlyphLine) → WrapperMayLend O.next_gives I.next_gives result glyph_lines
+            ↔ LinesOf (MayGive O.next_gives (MayBe I.next_gives) lines) (WrapsLine max_line_width trim) max_line_width glyph_lines }
+        ensures will { (glyph_lines : List GlyphLine) → WrapperWillLend O.next_gives I.next_gives result glyph_lines
+            ↔ LinesOf (WillGive O.next_gives (WillBe I.next_gives) lines) (WrapsLine max_line_width trim) max_line_width glyph_lines }
     {
         WordWrapper {
-            of: PhantomData,
             lines,
             current: TextLine::new(alloc, max_line_width, trim),
             alignment: Alignment::Left,
@@ -53,23 +51,57 @@ where
 
     /// Goes on to the next line, and says where it stands in the text line.
     fn advance(&mut self) -> Mem<Option<Part>>
-        requires { self.old.done ≡ false → AllReady O.can_next O.next_gives O.remaining I.can_next I.remaining self.old.lines }
-        ensures ready { self.new.done ≡ false → AllReady O.can_next O.next_gives O.remaining I.can_next I.remaining self.new.lines }
+        requires { WrapperCanLend O.can_next O.next_gives O.remaining I.can_next I.remaining self.old }
+        ensures ready { WrapperCanLend O.can_next O.next_gives O.remaining I.can_next I.remaining self.new }
         ensures order { IfOk result (λ found. IfSome found (λ p. (p.start ≤ p.end) × (p.end ≤ length (glyphs_of self.new.current.line)))) }
         ensures columns { IfOk result (λ found. IfSome found (λ p. p.width ≡ sum_by glyph_width (part_of (glyphs_of self.new.current.line) p))) }
         ensures failed { MatchResult result (λ _. (self.old.failed ≡ false) × (self.new.failed ≡ false)) (λ _. self.new.failed ≡ true) }
         ensures lends { IfOk result (λ found. LendsFirst (WrapperMayLend O.next_gives I.next_gives self.old)
-            (option_map (λ p. strip self.new.alignment (part_of (glyphs_of self.new.current.line) p)) found) (WrapperMayLend O.next_gives I.next_gives self.new)) }
+            (option_map (λ p. glyph_line self.new.alignment (part_of (glyphs_of self.new.current.line) p)) found) (WrapperMayLend O.next_gives I.next_gives self.new)) }
         ensures takes { IfOk result (λ found. TakesFirst (WrapperWillLend O.next_gives I.next_gives self.old)
-            (option_map (λ p. strip self.new.alignment (part_of (glyphs_of self.new.current.line) p)) found) (WrapperWillLend O.next_gives I.next_gives self.new)) }
+            (option_map (λ p. glyph_line self.new.alignment (part_of (glyphs_of self.new.current.line) p)) found) (WrapperWillLend O.next_gives I.next_gives self.new)) }
     {
         if self.failed {
             return Err(NoMemory);
         }
+        let found = self.find_line();
+        self.failed = found.is_err();
+        found
+    }
+
+    /// Reads its iterators to their ends.
+    pub(crate) fn read_to_end(self)
+        requires { WrapperCanLend O.can_next O.next_gives O.remaining I.can_next I.remaining self }
+        ensures source { (glyphs : List Glyph) × SourceGives (MayGive I.next_gives IsGlyph) self.entry.current.source glyphs }
+        ensures lines { (glyph_lines : List GlyphLine) × UnlessDone self.entry.done (MayGive O.next_gives (MayBe I.next_gives) self.entry.lines) glyph_lines }
+    {
+        let WordWrapper {
+            lines,
+            current,
+            done,
+            ..
+        } = self;
+        current.read_to_end();
+        if !done {
+            read_lines(lines);
+        }
+    }
+
+    /// The same of a wrapper that has not failed.
+    fn find_line(&mut self) -> Mem<Option<Part>>
+        requires { WrapperCanLend O.can_next O.next_gives O.remaining I.can_next I.remaining self.old }
+        ensures ready { WrapperCanLend O.can_next O.next_gives O.remaining I.can_next I.remaining self.new }
+        ensures order { IfOk result (λ found. IfSome found (λ p. (p.start ≤ p.end) × (p.end ≤ length (glyphs_of self.new.current.line)))) }
+        ensures columns { IfOk result (λ found. IfSome found (λ p. p.width ≡ sum_by glyph_width (part_of (glyphs_of self.new.current.line) p))) }
+        ensures lends { IfOk result (λ found. LendsFirst (WrapperMayLend O.next_gives I.next_gives self.old)
+            (option_map (λ p. glyph_line self.new.alignment (part_of (glyphs_of self.new.current.line) p)) found) (WrapperMayLend O.next_gives I.next_gives self.new)) }
+        ensures takes { IfOk result (λ found. TakesFirst (WrapperWillLend O.next_gives I.next_gives self.old)
+            (option_map (λ p. glyph_line self.new.alignment (part_of (glyphs_of self.new.current.line) p)) found) (WrapperWillLend O.next_gives I.next_gives self.new)) }
+    {
         if self.current.width() == 0 {
             return Ok(None);
         }
-        if let Some(part) = self.current.advance() {
+        if let Some(part) = self.current.advance()? {
             return Ok(Some(part));
         }
         if self.done {
@@ -82,13 +114,8 @@ where
             }
             Some((line, alignment)) => {
                 self.alignment = alignment;
-                match self.current.start(line) {
-                    Err(_) => {
-                        self.failed = true;
-                        Err(NoMemory)
-                    }
-                    Ok(()) => Ok(self.current.advance()),
-                }
+                self.current.start(line);
+                self.current.advance()
             }
         }
     }
@@ -99,7 +126,7 @@ where
     O: Iterator<Item = (I, Alignment)>,
     I: Iterator<Item = StyledGrapheme<'a>>,
 {
-    ghost can_lend = { λ s. s.done ≡ false → AllReady O.can_next O.next_gives O.remaining I.can_next I.remaining s.lines };
+    ghost can_lend = { WrapperCanLend O.can_next O.next_gives O.remaining I.can_next I.remaining };
 
     ghost to_come = { WrapperMayLend O.next_gives I.next_gives };
 

@@ -1,3 +1,5 @@
+//! Sinks in memory, whose faults are chosen.
+
 ghost use Rattle.std.specs.Prelude.{◌≡◌, ◌-◌, ◌<◌, ◌↔◌, ◌⊎◌, min, [], length, Some, IsErr, OnErr, Contains, IfOk};
 ghost use Rattle.std.specs.Io.{WritesAtMost};
 ghost use Rattle.std.specs.Io.KnownBytes.{WriteAppends};

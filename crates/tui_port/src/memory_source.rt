@@ -1,3 +1,5 @@
+//! Sources in memory, whose faults are chosen.
+
 ghost use Rattle.std.specs.Prelude.{◌≡◌, ◌↔◌, min, length, Some, IsErr, OnErr, Contains, IfOk};
 ghost use Rattle.std.specs.Io.{ReadsAtMost};
 ghost use Rattle.std.specs.Io.KnownBytes.{ReadConsumes};

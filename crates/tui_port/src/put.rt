@@ -1,3 +1,5 @@
+//! Putting all of some bytes.
+
 ghost use Rattle.tui_port.specs.Causes.{Writes, Puts};
 
 use crate::sink::{Sink, WriteFault};

@@ -1,3 +1,5 @@
+//! Reading a source to its end.
+
 ghost use Rattle.std.specs.Prelude.{◌≡◌, ◌≢◌, ◌+◌, ◌≤◌, Err, length, IfOk, IsErrOf};
 ghost use Rattle.std.specs.Io.KnownBytes.{Consumes, IsAtEnd};
 ghost use Rattle.tui_port.specs.Causes.{Gave, Rose};

@@ -25,6 +25,7 @@ pub struct Reading<'v> {
     pub width: u16,
     /// In rows, 1 to 1000.
     pub height: u16,
+    /// Its widgets, in the order in which they are drawn.
     pub scene: Scene<'v>,
 }
 

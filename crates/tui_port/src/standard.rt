@@ -1,3 +1,5 @@
+//! Readers and writers of the standard library as sources and sinks: the edge to the system.
+
 ghost use Rattle.std.specs.Prelude.{◌≡◌};
 
 use crate::sink::Sink;

@@ -6,7 +6,7 @@ ghost use Rattle.tui_cells.specs.Rect.{covers, intersection_of, is_empty};
 ghost use Rattle.tui_para.specs.Stays.{paragraph_stays};
 ghost use Rattle.tui_para.specs.Paragraph.{paragraph_data};
 ghost use Rattle.tui_para.specs.Rendering.{ParagraphShows, paragraph_layers, paragraph_lines};
-ghost use Rattle.tui_para.specs.Strokes.{strips_layers};
+ghost use Rattle.tui_para.specs.Strokes.{glyph_lines_layers};
 
 use crate::painting::paint_lines;
 use crate::paragraph::Paragraph;
@@ -20,10 +20,10 @@ impl<'a> Paragraph<'a> {
     /// Paints the lines from the scroll line on, one in each row.
     fn paint_text(&self, alloc: Global, buf: &mut Buffer, clip: Rect) -> Mem<()>
         requires { 0 < clip.width }
-        ensures ok { OnOk result (Painted (strips_layers clip clip.y (drop (paragraph_data self.now).scroll_y (paragraph_lines (paragraph_data self.now) clip.width))) buf.old buf.new) }
+        ensures ok { OnOk result (Painted (glyph_lines_layers clip clip.y (drop (paragraph_data self.now).scroll_y (paragraph_lines (paragraph_data self.now) clip.width))) buf.old buf.new) }
         ensures kept { KeptOutside (covers clip) buf.old buf.new }
     {
-        let lines = TextLines::new(self.text.lines(), self.text.text_style(), self.alignment);
+        let lines = TextLines::new(&self.text, self.alignment);
         match self.wrap {
             Some(wrap) => {
                 let mut wrapper = WordWrapper::new(alloc, lines, clip.width, wrap.trim);

@@ -2,7 +2,7 @@ use Rattle.std.proofs.Common.{◌≡◌, Ok, ap, sym, ◌∙◌}
 use Rattle.tui_para.specs.Counting.{wrapped_len, wrapped_text_len}
 use Rattle.tui_text.specs.Text.{text_data}
 use Rattle.tui_text.specs.Width.{saturated}
-use Rattle.tui_para.proofs.TextLines.{length-shown, fewest_lines}
+use Rattle.tui_para.proofs.TextLengths.{length-shown, fewest_lines}
 use Rattle.tui_para.proofs.paragraph.Paragraph.line_count.Goals as goal
 
 pub returns-in-Some-clause-wrapped : goal.returns-in-Some-clause-wrapped

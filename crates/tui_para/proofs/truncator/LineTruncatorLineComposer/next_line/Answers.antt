@@ -2,7 +2,7 @@ use Rattle.std.proofs.Common.{◌≡◌, map, ap, refl, sym, subst, Some}
 use Rattle.std.specs.Prelude.{sum_by}
 use Rattle.tui_text.specs.Grapheme.{glyph_of, glyph_width}
 use Rattle.tui_para.specs.Given.{MayGive, MayBe, WillGive, WillBe}
-use Rattle.tui_para.specs.Lines.{strip, LendsFirst, TakesFirst}
+use Rattle.tui_para.specs.Lines.{glyph_line, LendsFirst, TakesFirst}
 use Rattle.tui_para.specs.Wrapping.{TruncatorLines}
 use Rattle.tui_para.proofs.truncator.LineTruncatorLineComposer.next_line.Goals as goal
 
@@ -25,8 +25,8 @@ returns-in-Some g c =
           (
             failed.0,
             failed.1,
-            subst (λ gs. LendsFirst (may s.lines s.width s.offset s.alignment s.done) (Some (strip new.alignment gs)) (may new.lines new.width new.offset new.alignment new.done)) lent lends,
-            subst (λ gs. TakesFirst (will s.lines s.width s.offset s.alignment s.done) (Some (strip new.alignment gs)) (will new.lines new.width new.offset new.alignment new.done)) lent takes,
+            subst (λ gs. LendsFirst (may s.lines s.width s.offset s.alignment s.done) (Some (glyph_line new.alignment gs)) (may new.lines new.width new.offset new.alignment new.done)) lent lends,
+            subst (λ gs. TakesFirst (will s.lines s.width s.offset s.alignment s.done) (Some (glyph_line new.alignment gs)) (will new.lines new.width new.offset new.alignment new.done)) lent takes,
           ),
         ),
       ),

@@ -1,8 +1,8 @@
 use Rattle.std.proofs.Common.{◌≡◌, refl, sym, subst, Some}
 use Rattle.std.specs.Prelude.{sum_by}
 use Rattle.tui_text.specs.Grapheme.{glyph_width}
-use Rattle.tui_para.specs.Given.{MayGive, MayBe, WillGive, WillBe}
-use Rattle.tui_para.specs.Lines.{strip, LendsFirst, TakesFirst}
+use Rattle.tui_para.specs.Given.{IsGlyph, MayGive, MayBe, WillGive, WillBe}
+use Rattle.tui_para.specs.Lines.{glyph_line, LendsFirst, TakesFirst}
 use Rattle.tui_para.specs.Wrapping.{WrapperLines}
 use Rattle.tui_para.proofs.wrapper.WordWrapperLineComposer.next_line.Goals as goal
 
@@ -15,8 +15,8 @@ returns-in-Some g c =
     let lends = rw c.in-Some.is at c.in_ok-advance.ensures.lends in
     let takes = rw c.in-Some.is at c.in_ok-advance.ensures.takes in
     let columns = rw c.in-Some.is at c.in_ok-advance.ensures.columns in
-    let may = WrapperLines (MayGive g.O.Iterator.next_gives (MayBe g.I.Iterator.next_gives)) in
-    let will = WrapperLines (WillGive g.O.Iterator.next_gives (WillBe g.I.Iterator.next_gives)) in (
+    let may = WrapperLines (MayGive g.O.Iterator.next_gives (MayBe g.I.Iterator.next_gives)) (MayGive g.I.Iterator.next_gives IsGlyph) in
+    let will = WrapperLines (WillGive g.O.Iterator.next_gives (WillBe g.I.Iterator.next_gives)) (WillGive g.I.Iterator.next_gives IsGlyph) in (
       (
         refl,
         λ _. tt,
@@ -25,8 +25,8 @@ returns-in-Some g c =
           (
             failed.0,
             failed.1,
-            subst (λ gs. LendsFirst (may s.lines s.current s.alignment s.done) (Some (strip new.alignment gs)) (may new.lines new.current new.alignment new.done)) part lends,
-            subst (λ gs. TakesFirst (will s.lines s.current s.alignment s.done) (Some (strip new.alignment gs)) (will new.lines new.current new.alignment new.done)) part takes,
+            subst (λ gs. LendsFirst (may s.lines s.current s.alignment s.done) (Some (glyph_line new.alignment gs)) (may new.lines new.current new.alignment new.done)) part lends,
+            subst (λ gs. TakesFirst (will s.lines s.current s.alignment s.done) (Some (glyph_line new.alignment gs)) (will new.lines new.current new.alignment new.done)) part takes,
           ),
         ),
       ),

@@ -7,9 +7,9 @@ use Rattle.std.proofs.lemmas.List.Sums.{sum_by-cons}
 use Rattle.tui_cells.specs.declared.style.Style.{Style}
 use Rattle.tui_para.specs.Counting.{wrapped_len}
 use Rattle.tui_para.specs.Division.{IsFewest, SpacedWithin}
-use Rattle.tui_para.specs.Lines.{Strip, strip, CutAll, WrapsLine}
+use Rattle.tui_para.specs.Lines.{GlyphLine, glyph_line, CutAll, WrapsLine}
 use Rattle.tui_para.specs.Places.{wrap}
-use Rattle.tui_para.specs.WrappedText.{IsTextOf, text_strip}
+use Rattle.tui_para.specs.WrappedText.{IsTextOf, text_glyph_line}
 use Rattle.tui_para.proofs.Fewest.{fewest}
 use Rattle.tui_para.proofs.Greedy.{wrap_is}
 use Rattle.tui_para.proofs.Unique.{wrapped_once}
@@ -19,14 +19,14 @@ use Rattle.tui_text.specs.Line.{LineData}
 use Rattle.tui_text.specs.Text.{TextData}
 use Rattle.tui_text.specs.declared.alignment.Alignment.{Alignment}
 
-pub length-shown : (w : ℕ) (trim : Bool) (alignment : Alignment) (base : Style) (lines : List LineData) (shown : List Strip) → CutAll (WrapsLine w trim) (map (text_strip base alignment) lines) shown → length shown ≡ sum_by (wrapped_len w trim base) lines
+pub length-shown : (w : ℕ) (trim : Bool) (alignment : Alignment) (base : Style) (lines : List LineData) (shown : List GlyphLine) → CutAll (WrapsLine w trim) (map (text_glyph_line base alignment) lines) shown → length shown ≡ sum_by (wrapped_len w trim base) lines
 length-shown w trim alignment base [] shown h = ap length h
 length-shown w trim alignment base (line ∷ lines) shown h =
     let xs = line_graphemes base line in
     let same = ap length (wrapped_once glyph_blank glyph_width w trim xs h.0 (wrap glyph_blank glyph_width w trim xs) h.1 (wrap_is glyph_blank glyph_width w trim xs)) in
     let rest = length-shown w trim alignment base lines h.2.0 h.2.1 in
-    let both = length-append (map (strip (unwrap_or line.alignment alignment)) h.0) h.2.0 in
-    let cut = length-map h.0 (strip (unwrap_or line.alignment alignment)) in
+    let both = length-append (map (glyph_line (unwrap_or line.alignment alignment)) h.0) h.2.0 in
+    let cut = length-map h.0 (glyph_line (unwrap_or line.alignment alignment)) in
     let all = ap length h.2.2 in
     let sum = sum_by-cons (wrapped_len w trim base) line lines in
     omega arith
