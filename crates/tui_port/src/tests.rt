@@ -7,15 +7,16 @@ use crate::{
 use std::alloc::Global;
 use std::io;
 use std::io::{Cursor, ErrorKind, Read};
-use std::test::Fail;
 use tui_cells::{Buffer, Color, Mem, Modifier, Position, Rect, Style};
 use tui_scene::Scene;
 
-fn read_blanks(alloc: Global, len: usize, failing: &[u64]) -> Result<Vec<u8>, ReadEnd> {
+/// The number of blanks that are read of so many.
+fn blanks_read(alloc: Global, len: usize, failing: &[u64]) -> Result<usize, ReadEnd> {
     let mut bytes = Vec::with_capacity(alloc, len)?;
     bytes.resize(len, b' ')?;
     let mut source = MemSource::new(bytes, Vec::from_slice(alloc, failing)?);
-    read_all(alloc, &mut source)
+    let found = read_all(alloc, &mut source)?;
+    Ok(found.len())
 }
 
 /// The number of blanks, the calls that fail, and the ending: a full chunk a read, and one read more for the end.
@@ -34,8 +35,8 @@ const READS: [(usize, &[u64], Result<usize, ReadEnd>); 9] = [
 #[test]
 fn inputs_are_read_to_their_ends(rt: HostRuntime) {
     for (len, failing, ending) in READS {
-        let found = read_blanks(rt.alloc(), len, failing);
-        assert!(&rt; found.map(|bytes| bytes.len()) == ending, "of {len}");
+        let found = blanks_read(rt.alloc(), len, failing);
+        assert!(&rt; found == ending, "of {len}");
     }
 }
 
@@ -48,13 +49,19 @@ const PUTS: [(usize, &[u64], &[u8]); 5] = [
     (0, &[], b""),
 ];
 
+fn holds_in_the_end(alloc: Global, room: usize, failing: &[u64], held: &[u8]) -> Mem<bool> {
+    let mut sink = MemSink::new(alloc, room, Vec::from_slice(alloc, failing)?)?;
+    let is_whole = put_all(&mut sink, b"abcde").is_ok();
+    Ok(is_whole == (held.len() == 5) && sink.bytes() == held)
+}
+
 #[test]
 fn a_sink_takes_what_it_has_room_for(rt: HostRuntime) -> Mem<()> {
     for (room, failing, held) in PUTS {
-        let mut sink = MemSink::new(rt.alloc(), room, Vec::from_slice(rt.alloc(), failing)?)?;
-        let result = put_all(&mut sink, b"abcde");
-        assert_eq!(&rt; result.is_ok(), held.len() == 5);
-        assert!(&rt; sink.bytes() == held);
+        assert!(&rt;
+            holds_in_the_end(rt.alloc(), room, failing, held)?,
+            "at {room}"
+        );
     }
     Ok(())
 }
@@ -74,18 +81,34 @@ impl Read for Broken {
     }
 }
 
-#[test]
-fn readers_and_writers_of_std_count_their_faults(rt: HostRuntime) -> Result<(), Fail> {
-    let alloc = rt.alloc();
+/// Whether so much of a reader of `abc` is read.
+fn is_read(alloc: Global, wanted: &[u8]) -> bool {
     let given: &[u8] = b"abc";
-    let whole = read_all(alloc, &mut StdSource::new(given));
-    assert!(&rt; whole.map(|bytes| bytes.as_slice() == given) == Ok(true));
-    let broken = read_all(alloc, &mut StdSource::new(Broken(false)));
-    assert_eq!(&rt; broken.err(), Some(ReadEnd::ReadFault));
+    match read_all(alloc, &mut StdSource::new(given)) {
+        Ok(bytes) => bytes.as_slice() == wanted,
+        Err(_) => false,
+    }
+}
+
+fn is_fault_seen(alloc: Global) -> bool {
+    match read_all(alloc, &mut StdSource::new(Broken(false))) {
+        Ok(_) => false,
+        Err(end) => end == ReadEnd::ReadFault,
+    }
+}
+
+/// What a writer with room for three bytes answers to `abc`, and then to `d`.
+fn put_past_the_end() -> (Result<(), WriteFault>, Result<(), WriteFault>) {
     let mut full = StdSink::new(Cursor::new([0u8; 3]));
-    assert_eq!(&rt; put_all(&mut full, b"abc"), Ok(()));
-    assert_eq!(&rt; put_all(&mut full, b"d"), Err(WriteFault));
-    Ok(())
+    let first = put_all(&mut full, b"abc");
+    (first, put_all(&mut full, b"d"))
+}
+
+#[test]
+fn readers_and_writers_of_std_count_their_faults(rt: HostRuntime) {
+    assert!(&rt; is_read(rt.alloc(), b"abc"));
+    assert!(&rt; is_fault_seen(rt.alloc()));
+    assert!(&rt; put_past_the_end() == (Ok(()), Err(WriteFault)));
 }
 
 /// Width, height, the room of the sink, the puts that fail, and how much of the print it holds in the end: a put for
@@ -100,17 +123,20 @@ const SCREENS: [(u16, u16, usize, &[u64], usize); 7] = [
     (0, 0, 0, &[1], 0),
 ];
 
+/// Whether the print of a blank buffer is whole, and how much of it the sink holds.
+fn blank_print(alloc: Global, size: Rect, room: usize, failing: &[u64]) -> Mem<(bool, usize)> {
+    let buf = Buffer::empty(alloc, size)?;
+    let mut sink = MemSink::new(alloc, room, Vec::from_slice(alloc, failing)?)?;
+    let is_whole = write_screen(&buf, &Scene::new(alloc), &mut sink).is_ok();
+    Ok((is_whole, sink.bytes().len()))
+}
+
 #[test]
 fn a_print_is_put_in_long_pieces(rt: HostRuntime) -> Mem<()> {
-    let alloc = rt.alloc();
-    let scene = Scene::new(alloc);
     for (width, height, room, failing, held) in SCREENS {
-        let buf = Buffer::empty(alloc, Rect::new(0, 0, width, height))?;
-        let mut sink = MemSink::new(alloc, room, Vec::from_slice(alloc, failing)?)?;
-        let result = write_screen(&buf, &scene, &mut sink);
         let whole = (width as usize + 3) * height as usize;
-        assert_eq!(&rt; result.is_ok(), held == whole, "at {width} by {height}");
-        assert_eq!(&rt; sink.bytes().len(), held);
+        let found = blank_print(rt.alloc(), Rect::new(0, 0, width, height), room, failing)?;
+        assert!(&rt; found == (held == whole, held), "of {held}");
     }
     Ok(())
 }
@@ -119,11 +145,10 @@ fn colors(fg: Color, bg: Color) -> Style {
     Style::new().fg(fg).bg(bg)
 }
 
-fn printed(alloc: Global, buf: &Buffer) -> Mem<MemSink> {
+fn is_printed(alloc: Global, buf: &Buffer, text: &str) -> Mem<bool> {
     let mut sink = MemSink::new(alloc, 1000, Vec::new(alloc))?;
-    let scene = Scene::new(alloc);
-    let _all = write_screen(buf, &scene, &mut sink);
-    Ok(sink)
+    let is_whole = write_screen(buf, &Scene::new(alloc), &mut sink).is_ok();
+    Ok(is_whole && sink.bytes() == text.as_bytes())
 }
 
 fn write_text(buf: &mut Buffer, text: &str) -> Mem<()> {
@@ -137,53 +162,53 @@ fn write_text(buf: &mut Buffer, text: &str) -> Mem<()> {
     Ok(())
 }
 
-#[test]
-fn neighbours_alike_are_one_run(rt: HostRuntime) -> Mem<()> {
-    let alloc = rt.alloc();
+fn two_styles(alloc: Global) -> Mem<Buffer> {
     let mut buf = Buffer::empty(alloc, Rect::new(0, 0, 10, 1))?;
     write_text(&mut buf, ">>Item 1")?;
     let italic = Style::new().add_modifier(Modifier::ITALIC);
     buf.set_style(Rect::new(0, 0, 10, 1), italic.fg(Color::Red));
-    buf.set_style(
-        Rect::new(2, 0, 8, 1),
-        Style::new().add_modifier(Modifier::BOLD),
-    );
-    let sink = printed(alloc, &buf)?;
-    let text = b"r >>Item 1  \ns 0 0 2 red reset 4\ns 0 2 8 red reset 5\n";
-    assert!(&rt; sink.bytes() == text.as_slice());
+    let bold = Style::new().add_modifier(Modifier::BOLD);
+    buf.set_style(Rect::new(2, 0, 8, 1), bold);
+    Ok(buf)
+}
+
+#[test]
+fn neighbours_alike_are_one_run(rt: HostRuntime) -> Mem<()> {
+    let text = "r >>Item 1  \ns 0 0 2 red reset 4\ns 0 2 8 red reset 5\n";
+    assert!(&rt; is_printed(rt.alloc(), &two_styles(rt.alloc())?, text)?);
     Ok(())
+}
+
+fn two_backgrounds(alloc: Global) -> Mem<Buffer> {
+    let mut buf = Buffer::empty(alloc, Rect::new(0, 0, 4, 2))?;
+    let gray = colors(Color::Reset, Color::Rgb(0x64, 0x78, 0x8c));
+    buf.set_style(Rect::new(0, 0, 4, 2), gray);
+    let shade = colors(Color::Reset, Color::Rgb(0x32, 0x3c, 0x46));
+    buf.set_style(Rect::new(2, 1, 1, 1), shade.add_modifier(Modifier::DIM));
+    Ok(buf)
 }
 
 #[test]
 fn runs_end_at_other_backgrounds_and_rows(rt: HostRuntime) -> Mem<()> {
-    let alloc = rt.alloc();
-    let mut buf = Buffer::empty(alloc, Rect::new(0, 0, 4, 2))?;
-    buf.set_style(
-        Rect::new(0, 0, 4, 2),
-        colors(Color::Reset, Color::Rgb(0x64, 0x78, 0x8c)),
-    );
-    let shade = colors(Color::Reset, Color::Rgb(0x32, 0x3c, 0x46));
-    buf.set_style(Rect::new(2, 1, 1, 1), shade.add_modifier(Modifier::DIM));
-    let sink = printed(alloc, &buf)?;
-    let text = b"r     \nr     \ns 0 0 4 reset #64788c 0\ns 1 0 2 reset #64788c 0\n\
+    let text = "r     \nr     \ns 0 0 4 reset #64788c 0\ns 1 0 2 reset #64788c 0\n\
 s 1 2 1 reset #323c46 2\ns 1 3 1 reset #64788c 0\n";
-    assert!(&rt; sink.bytes() == text.as_slice());
+    assert!(&rt; is_printed(rt.alloc(), &two_backgrounds(rt.alloc())?, text)?);
     Ok(())
+}
+
+fn hidden_cell(alloc: Global) -> Mem<Buffer> {
+    let mut buf = Buffer::empty(alloc, Rect::new(0, 0, 4, 1))?;
+    write_text(&mut buf, "\u{30b3}xy")?;
+    let all = Modifier::CROSSED_OUT.union(Modifier::HIDDEN);
+    let style = colors(Color::Indexed(7), Color::LightBlue);
+    buf.set_style(Rect::new(1, 0, 1, 1), style.add_modifier(all));
+    Ok(buf)
 }
 
 #[test]
 fn hidden_cells_count_in_runs_alone(rt: HostRuntime) -> Mem<()> {
-    let alloc = rt.alloc();
-    let mut buf = Buffer::empty(alloc, Rect::new(0, 0, 4, 1))?;
-    write_text(&mut buf, "\u{30b3}xy")?;
-    let all = Modifier::CROSSED_OUT.union(Modifier::HIDDEN);
-    buf.set_style(
-        Rect::new(1, 0, 1, 1),
-        colors(Color::Indexed(7), Color::LightBlue).add_modifier(all),
-    );
-    let sink = printed(alloc, &buf)?;
     let text = "r \u{30b3}y \ns 0 1 1 7 lightblue 384\n";
-    assert!(&rt; sink.bytes() == text.as_bytes());
+    assert!(&rt; is_printed(rt.alloc(), &hidden_cell(rt.alloc())?, text)?);
     Ok(())
 }
 
@@ -207,15 +232,17 @@ const NAMES: [(Color, &str); 16] = [
     (Color::White, "white"),
 ];
 
+fn is_named(alloc: Global, color: Color, name: &str) -> Mem<bool> {
+    let mut buf = Buffer::empty(alloc, Rect::new(0, 0, 1, 1))?;
+    buf.set_style(Rect::new(0, 0, 1, 1), colors(color, Color::Reset));
+    let text = format!(in alloc; "r  \ns 0 0 1 {name} reset 0\n")?;
+    is_printed(alloc, &buf, &text)
+}
+
 #[test]
-fn colours_are_named(rt: HostRuntime) -> Result<(), Fail> {
-    let alloc = rt.alloc();
+fn colours_are_named(rt: HostRuntime) -> Mem<()> {
     for (color, name) in NAMES {
-        let mut buf = Buffer::empty(alloc, Rect::new(0, 0, 1, 1))?;
-        buf.set_style(Rect::new(0, 0, 1, 1), colors(color, Color::Reset));
-        let sink = printed(alloc, &buf)?;
-        let line = format!(in alloc; "r  \ns 0 0 1 {name} reset 0\n")?;
-        assert!(&rt; sink.bytes() == line.as_bytes(), "at {name}");
+        assert!(&rt; is_named(rt.alloc(), color, name)?, "at {name}");
     }
     Ok(())
 }
