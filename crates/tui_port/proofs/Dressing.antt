@@ -1,6 +1,6 @@
 -- Modifiers that are added to none and then removed.
-use Rattle.std.proofs.Common.{◌≡◌, ℕ, refl, sym, ap, ◌∙◌, bit_or}
-use Rattle.std.specs.Int.Bits.{bit_xor, or_zero_l, xor_self}
+use Rattle.std.proofs.Common.{◌≡◌, refl}
+use Rattle.std.specs.Int.Bits.{or_zero_l, xor_self}
 use Rattle.tui_cells.specs.declared.modifier.Modifier.{Modifier}
 use Rattle.tui_cells.specs.Style.{both_modifiers, no_modifier, other_modifiers}
 

@@ -1,7 +1,6 @@
 -- Reading the items of a scene one after the other.
-use Rattle.std.proofs.Common.{◌≡◌, ℕ, ◌+◌, ◌<◌, ◌≤◌, List, [], ◌∷◌, ◌++◌, length, get_or, drop, Option, Some, None, Result, Ok, Err, refl, sym, ap, ◌∙◌, append_assoc, cond, leb}
+use Rattle.std.proofs.Common.{◌≡◌, ℕ, ◌+◌, ◌<◌, ◌≤◌, List, [], ◌∷◌, ◌++◌, length, get_or, drop, Some, None, Result, Ok, Err, refl, sym, ap, ◌∙◌, append_assoc, cond, leb}
 use Rattle.std.proofs.lemmas.List.{append-nil, drop_all}
-use Rattle.serde_json.specs.Data.{Items, no_items, item}
 use Rattle.serde_json.specs.View.{view, items_view}
 use Rattle.serde_json.specs.declared.value.Value.{Value}
 use Rattle.serde_json.proofs.Views.{items_len-items_view}
@@ -9,7 +8,7 @@ use Rattle.tui_scene.specs.Item.{PlacedData}
 use Rattle.tui_port.specs.declared.error.SceneError.{SceneError}
 use Rattle.tui_port.specs.declared.error.SceneError.TheVariants as errors
 use Rattle.tui_port.specs.Items.{item_of, items_of}
-use Rattle.tui_port.specs.Refusals.{Refusal, ◌>>=◌, Refuses, Gives}
+use Rattle.tui_port.specs.Refusals.{Refusal, ◌>>=◌, Refuses}
 use Rattle.tui_port.specs.Scene.{at_most_256}
 use Rattle.tui_port.proofs.Arrays.{items_view-drop}
 

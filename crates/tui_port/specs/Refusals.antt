@@ -1,5 +1,5 @@
 -- The first field whose test fails.
-use Rattle.std.specs.Prelude.{◌≡◌, ℕ, List, Option, Some, None, Result, Ok, Err}
+use Rattle.std.specs.Prelude.{◌≡◌, ℕ, Option, Some, None, Result, Ok, Err}
 use Rattle.serde_json.specs.Data.{Data}
 use Rattle.tui_port.specs.Field.{field_name}
 use Rattle.tui_port.specs.Kinds.Members.{member, optional_member}

@@ -1,5 +1,5 @@
 -- The fields of `fill`.
-use Rattle.std.specs.Prelude.{ℕ, Option, Result, Ok, Err, unwrap_or}
+use Rattle.std.specs.Prelude.{ℕ, Option, Result, Ok, unwrap_or}
 use Rattle.serde_json.specs.Data.{Data}
 use Rattle.tui_cells.specs.Style.{no_style}
 use Rattle.tui_frames.specs.Fill.{FillData}

@@ -1,5 +1,5 @@
 -- The fields of `paragraph`.
-use Rattle.std.specs.Prelude.{ℕ, Option, Some, None, Result, Ok, Err, unwrap_or}
+use Rattle.std.specs.Prelude.{ℕ, Option, Result, Ok, unwrap_or}
 use Rattle.std.specs.Option.{option_or}
 use Rattle.serde_json.specs.Data.{Data}
 use Rattle.tui_cells.specs.declared.style.Style.{Style}

@@ -1,7 +1,7 @@
 -- Colours: a name, `#` and six hexadecimal digits, or a place in the palette.
-use Rattle.std.specs.Prelude.{ℕ, List, [], ◌∷◌, map, ◌+◌, ◌*◌, ◌-◌, ◌==◌, ◌&&◌, nat_le, nat_lt, if◌then◌else◌, Option, Some, None, option_map, option_and_then}
+use Rattle.std.specs.Prelude.{ℕ, List, [], ◌∷◌, map, ◌+◌, ◌*◌, ◌-◌, ◌==◌, ◌&&◌, nat_le, nat_lt, if◌then◌else◌, Option, Some, None, option_and_then}
 use Rattle.std.specs.Option.{option_or}
-use Rattle.serde_json.specs.Data.{Data, null, boolean, number, string, array, object}
+use Rattle.serde_json.specs.Data.{Data, number, string}
 use Rattle.serde_json.specs.Find.{as_u64}
 use Rattle.tui_cells.specs.declared.color.Color.{Color}
 use Rattle.tui_cells.specs.declared.color.Color.TheVariants as colors

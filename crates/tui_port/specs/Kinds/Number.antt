@@ -1,5 +1,5 @@
 -- Whole numbers and truth values.
-use Rattle.std.specs.Prelude.{ℕ, Bool, Option, Some, None, option_and_then, nat_lt, if◌then◌else◌}
+use Rattle.std.specs.Prelude.{ℕ, Option, Some, None, option_and_then, nat_lt, if◌then◌else◌}
 use Rattle.serde_json.specs.Data.{Data}
 use Rattle.serde_json.specs.Find.{as_number, as_u64}
 

@@ -1,6 +1,6 @@
 -- Spans: a text, or an object with `text` and perhaps `style`.
-use Rattle.std.specs.Prelude.{ℕ, List, Option, Some, None, unwrap_or, codes}
-use Rattle.serde_json.specs.Data.{Data, null, boolean, number, string, array, object}
+use Rattle.std.specs.Prelude.{Option, Some, unwrap_or, codes}
+use Rattle.serde_json.specs.Data.{Data, string}
 use Rattle.serde_json.specs.Find.{as_str}
 use Rattle.tui_cells.specs.Style.{no_style}
 use Rattle.tui_text.specs.Span.{SpanData, raw_span}

@@ -1,6 +1,6 @@
 -- Texts: a text that is cut into lines, an array of lines, or an object with `lines` and perhaps `style` and `alignment`.
-use Rattle.std.specs.Prelude.{Option, Some, None, unwrap_or, codes}
-use Rattle.serde_json.specs.Data.{Data, null, boolean, number, string, array, object}
+use Rattle.std.specs.Prelude.{Option, Some, unwrap_or, codes}
+use Rattle.serde_json.specs.Data.{Data, string, array}
 use Rattle.tui_cells.specs.Style.{no_style}
 use Rattle.tui_text.specs.Text.{TextData, empty_text, raw_text}
 use Rattle.tui_port.specs.Kinds.Members.{◌>>=◌, list_of, member, optional_member}

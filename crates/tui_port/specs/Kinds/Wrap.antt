@@ -1,5 +1,5 @@
 -- How lines are broken: an object with the member `trim`.
-use Rattle.std.specs.Prelude.{Option, Some, None, codes}
+use Rattle.std.specs.Prelude.{Option, Some, codes}
 use Rattle.serde_json.specs.Data.{Data}
 use Rattle.serde_json.specs.Find.{as_bool}
 use Rattle.tui_para.specs.declared.wrap.Wrap.{Wrap}

@@ -1,6 +1,5 @@
-use Rattle.std.proofs.Common.{◌≡◌, drop, map}
+use Rattle.std.proofs.Common.{◌≡◌, drop}
 use Rattle.serde_json.specs.View.{items_view}
-use Rattle.tui_scene.specs.Item.{placed_data}
 use Rattle.tui_port.specs.Items.{items_of}
 use Rattle.tui_port.proofs.Numbered.{after}
 use Rattle.tui_port.proofs.reading.read_items.Given as goal
