@@ -1,8 +1,6 @@
 -- An ending with what was written for it.
-use Rattle.std.proofs.Common.{◌≡◌, ℕ, List, Option, Some, Result, Ok, Err, Bool, true, false, cond, String, Global, arith}
-use Rattle.std.specs.Prelude.{IsUtf8}
+use Rattle.std.proofs.Common.{◌≡◌, ℕ, List, Option, Result, Ok, Err, Bool, true, false, cond, String, Global, arith}
 use Rattle.serde_json.specs.Data.{Data}
-use Rattle.serde_json.specs.Read.{read}
 use Rattle.std.specs.Result.{is_ok}
 use Rattle.tui_port.specs.Causes.{Puts, Writes}
 use Rattle.tui_show.specs.declared.ended.Ended.{Ended}

@@ -1,5 +1,5 @@
 -- The line that names a refused field.
-use Rattle.std.specs.Prelude.{ℕ, List, [], ◌∷◌, ◌++◌, Option, Some, None, codes, decimal}
+use Rattle.std.specs.Prelude.{ℕ, List, ◌++◌, Option, Some, None, codes, decimal}
 use Rattle.tui_port.specs.declared.field.Field.{Field}
 use Rattle.tui_port.specs.Field.{field_name}
 

@@ -1,4 +1,4 @@
-use Rattle.std.proofs.Common.{◌≡◌, Err, ap, codes, refl, rules, sym, true≢false, ◌∙◌}
+use Rattle.std.proofs.Common.{Err, ap, codes, refl, rules, sym, true≢false, ◌∙◌}
 use Rattle.serde_json.specs.View.{view}
 use Rattle.tui_show.specs.declared.ended.Ended.TheVariants as ended
 use Rattle.tui_show.specs.Endings.{AreScene}
