@@ -17,8 +17,6 @@ mod sink;
 mod source;
 mod standard;
 mod table;
-#[cfg(test)]
-mod tests;
 
 pub use error::SceneError;
 pub use field::Field;

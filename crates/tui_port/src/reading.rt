@@ -1,8 +1,5 @@
 //! Scenes in JSON.
 
-#[cfg(test)]
-mod tests;
-
 ghost use Rattle.serde_json.specs.Data.{Items};
 ghost use Rattle.serde_json.specs.View.{view, items_view};
 ghost use Rattle.tui_port.specs.Items.{items_of};

@@ -1,13 +1,13 @@
 //! Inputs and outputs over memory, with a fault at each call in turn, and the print of small buffers.
 
-use crate::{
-    CHUNK, LIMIT, MemSink, MemSource, ReadEnd, StdSink, StdSource, WriteFault, put_all, read_all,
-    write_screen,
-};
 use std::alloc::Global;
 use std::io;
 use std::io::{Cursor, ErrorKind, Read};
 use tui_cells::{Buffer, Color, Mem, Modifier, Position, Rect, Style};
+use tui_port::{
+    CHUNK, LIMIT, MemSink, MemSource, ReadEnd, StdSink, StdSource, WriteFault, put_all, read_all,
+    write_screen,
+};
 use tui_scene::Scene;
 
 /// The number of blanks that are read of so many.

@@ -1,12 +1,12 @@
 //! Scenes worked by hand from the schema: each kind wrong in turn, and each in its right forms.
 
-use crate::{Field, SceneError, scene_of};
 use serde_json::Value;
 use std::alloc::{AllocError, Global};
 use std::test::Fail;
 use tui_cells::{Color, Mem, Modifier, Rect, Style};
 use tui_frames::Fill;
 use tui_para::{Paragraph, Wrap};
+use tui_port::{Field, SceneError, scene_of};
 use tui_scene::{Item, Placed};
 use tui_text::{Alignment, Line, Span, Text};
 
