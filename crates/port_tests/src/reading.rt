@@ -24,6 +24,7 @@ scene     width     {"width":1001,"height":2,"items":[]}
 scene     width     {"width":4.0,"height":2,"items":[]}
 scene     width     {"width":1e3,"height":2,"items":[]}
 scene     width     {"width":-4,"height":2,"items":[]}
+scene     width     {"width":-0,"height":2,"items":[]}
 scene     width     {"width":"4","height":2,"items":[]}
 scene     height    {"width":4,"items":[{}]}
 scene     height    {"width":1000,"height":1001,"items":[{}]}
@@ -123,6 +124,7 @@ item      -         {"widget":"paragraph","area":[0,0,4,2],"text":{"lines":["a"]
 item      -         {"widget":"paragraph","area":[0,0,4,2],"text":{"lines":["a"],"style":{"fg":"red"},"alignment":"Center"}}
 item      -         {"widget":"paragraph","area":[0,0,4,2],"text":"a","block":null,"style":null,"wrap":null,"scroll":null,"alignment":null}
 item      -         {"widget":"paragraph","area":[0,0,4,2],"text":"a","wrap":{"trim":false,"more":5}}
+item      -         {"widget":"paragraph","area":[0,0,4,2],"text":"a","wrap":{"trim":true,"hyphens":5.5}}
 item      -         {"widget":"paragraph","area":[0,0,4,2],"text":"a","scroll":[65535,65535]}
 item      -         {"widget":"paragraph","area":[0,0,4,2],"text":"a","alignment":"Left"}
 item      -         {"widget":"paragraph","area":[0,0,4,2],"text":"a\u0007","alignment":"Center"}

@@ -14,8 +14,6 @@ pub mod rect;
 mod row;
 pub mod style;
 pub mod styled;
-#[cfg(test)]
-mod tests;
 pub mod widget;
 
 pub use attributes::Attributes;

@@ -3,8 +3,6 @@
 
 pub mod clear;
 pub mod fill;
-#[cfg(test)]
-mod tests;
 
 pub use clear::Clear;
 pub use fill::Fill;

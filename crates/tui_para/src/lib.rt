@@ -8,16 +8,12 @@ mod counting;
 mod cut;
 mod ends;
 mod laws;
-#[cfg(test)]
-mod line_tests;
 mod mark;
 mod marked;
 mod painting;
 pub mod paragraph;
 mod part;
 mod prefix;
-#[cfg(test)]
-mod tests;
 mod text_line;
 pub mod text_lines;
 mod truncating;

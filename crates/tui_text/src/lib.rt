@@ -8,8 +8,6 @@ pub mod graphemes;
 pub mod line;
 mod printable;
 pub mod span;
-#[cfg(test)]
-mod tests;
 pub mod text;
 pub mod width;
 

@@ -1,21 +1,10 @@
 //! Values worked by hand, and each call once with ample memory.
 
-use crate::{Buffer, Cell, Color, Mem, Modifier, ParseError, Position, Rect, Style};
+use crate::shown::shown;
 use bitflags::Flags;
 use std::alloc::Global;
 use std::test::Fail;
-
-/// The symbols of a buffer, with a newline after each row.
-fn shown(alloc: Global, buffer: &Buffer) -> Mem<String> {
-    let mut text = String::new(alloc);
-    for y in 0..buffer.height() {
-        for cell in buffer.row_at(y) {
-            text.push_str(cell.symbol())?;
-        }
-        text.push('\n')?;
-    }
-    Ok(text)
-}
+use tui_cells::{Buffer, Cell, Color, Mem, Modifier, ParseError, Position, Rect, Style};
 
 fn symbol_at(buffer: &Buffer, x: u16, y: u16) -> Option<&str> {
     buffer.cell(Position::new(x, y)).map(|cell| cell.symbol())

@@ -1,7 +1,7 @@
 //! Worked values, and each public call once.
 
-use crate::{Paragraph, Wrap};
 use tui_cells::{Color, Mem, Style, Styled};
+use tui_para::{Paragraph, Wrap};
 use tui_text::{Alignment, Line, Text};
 
 /// Texts, widths, whether lines are trimmed, and how many lines there are.

@@ -1,9 +1,8 @@
 //! Worked lines, by the calls of both composers and by drawing.
 
-use crate::composer::LineComposer;
-use crate::{LineTruncator, Paragraph, TextLines, WordWrapper, Wrap};
 use std::alloc::Global;
 use tui_cells::{Buffer, Mem, Position, Rect, Widget};
+use tui_para::{LineComposer, LineTruncator, Paragraph, TextLines, WordWrapper, Wrap};
 use tui_text::{Alignment, Text};
 
 /// More lines than any text here has.

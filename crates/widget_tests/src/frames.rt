@@ -1,21 +1,10 @@
 //! Areas filled and cleared, worked by hand.
 
-use crate::{Clear, Fill};
+use crate::shown::shown;
 use std::alloc::Global;
 use std::test::Fail;
 use tui_cells::{Buffer, Color, Mem, Modifier, Position, Rect, Style, Styled, Widget};
-
-/// The symbols of a buffer, with a newline after each row.
-fn shown(alloc: Global, buffer: &Buffer) -> Mem<String> {
-    let mut text = String::new(alloc);
-    for y in 0..buffer.height() {
-        for cell in buffer.row_at(y) {
-            text.push_str(cell.symbol())?;
-        }
-        text.push('\n')?;
-    }
-    Ok(text)
-}
+use tui_frames::{Clear, Fill};
 
 /// A buffer of blanks after a widget.
 fn drawn<W: Widget>(alloc: Global, widget: &W, area: Rect, width: u16, height: u16) -> Mem<Buffer> {

@@ -1,8 +1,8 @@
 //! Values from the standards, and each public call once.
 
-use crate::{Alignment, Line, Span, StyledGrapheme, Text, cell_width};
 use std::str::FromStr;
 use tui_cells::{Color, Mem, ParseError, Style};
+use tui_text::{Alignment, Line, Span, StyledGrapheme, Text, cell_width};
 
 /// Texts and their graphemes, with a bar between two: samples of UAX #29, table 1a and its test
 /// file, where clusters with a control character are left out.

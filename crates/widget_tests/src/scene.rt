@@ -1,22 +1,11 @@
 //! Scenes worked by hand.
 
-use crate::{DrawError, Item, Placed, Scene, draw, drawing_laws};
+use crate::shown::shown;
 use std::alloc::Global;
 use std::test::Fail;
 use tui_cells::{Buffer, Mem, Rect};
 use tui_frames::{Clear, Fill};
-
-/// The symbols of a buffer, with a newline after each row.
-fn shown(alloc: Global, buffer: &Buffer) -> Mem<String> {
-    let mut text = String::new(alloc);
-    for y in 0..buffer.height() {
-        for cell in buffer.row_at(y) {
-            text.push_str(cell.symbol())?;
-        }
-        text.push('\n')?;
-    }
-    Ok(text)
-}
+use tui_scene::{DrawError, Item, Placed, Scene, draw, drawing_laws};
 
 fn fill(symbol: &str, area: Rect) -> Placed<'_> {
     Placed {

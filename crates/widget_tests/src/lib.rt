@@ -1,0 +1,17 @@
+//! The tests of the crates from tui_cells to tui_scene, apart from them, so that each is proved but once.
+#![tactic(auto)]
+
+#[cfg(test)]
+mod cells;
+#[cfg(test)]
+mod frames;
+#[cfg(test)]
+mod lines;
+#[cfg(test)]
+mod paragraph;
+#[cfg(test)]
+mod scene;
+#[cfg(test)]
+mod shown;
+#[cfg(test)]
+mod text;
