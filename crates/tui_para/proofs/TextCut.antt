@@ -1,5 +1,6 @@
 -- A text is cut into one list of lines.
-use Rattle.std.proofs.Common.{◌≡◌, ℕ, List, [], ◌∷◌, ◌++◌, map, Bool, Some, None, Option, refl, sym, ap, ◌∙◌}
+use Rattle.std.proofs.Common.{◌≡◌, ℕ, List, [], ◌∷◌, ◌++◌, map, drop, Bool, Some, None, Option, refl, sym, ap, ◌∙◌}
+use Rattle.std.proofs.lemmas.List.{drop-map}
 use Rattle.std.specs.Iterator.{YieldsFirstBy}
 use Rattle.std.specs.Option.{option_map_or}
 use Rattle.std.specs.Prelude.{MatchOption, OnOk, Result, Ok, Err}
@@ -44,6 +45,14 @@ truncates_to w offset t = (truncate glyph_width w (is_left t.alignment) offset t
 
 pub truncates_only_to : (w offset : ℕ) (t : GlyphLine) (parts : List (List Glyph)) → TruncatesLine w offset t parts → parts ≡ truncate glyph_width w (is_left t.alignment) offset t.glyphs ∷ []
 truncates_only_to w offset t parts (line, h, e) = e ∙ ap (λ k. k ∷ []) ((truncates_once glyph_width w (is_left t.alignment) offset t.glyphs).alone line h)
+
+-- text lines of one line each, without the first ones
+one_each : (f : GlyphLine → List Glyph) (ts : List GlyphLine) → cut_all (λ t. f t ∷ []) ts ≡ map (λ t. glyph_line t.alignment (f t)) ts
+one_each f [] = refl
+one_each f (t ∷ ts) = ap (λ ls. glyph_line t.alignment (f t) ∷ ls) (one_each f ts)
+
+pub one_each-drop : (f : GlyphLine → List Glyph) (n : ℕ) (ts : List GlyphLine) → cut_all (λ t. f t ∷ []) (drop n ts) ≡ drop n (cut_all (λ t. f t ∷ []) ts)
+one_each-drop f n ts = one_each f (drop n ts) ∙ (sym (drop-map (λ t. glyph_line t.alignment (f t)) n ts) ∙ sym (ap (drop n) (one_each f ts)))
 
 -- exactly one list of lines
 pub text_wraps_once : (w : ℕ) (trim : Bool) (a : Alignment) (text : TextData) → IsTheOne (WrappedText w trim a text) (wrap_text w trim a text)

@@ -1,6 +1,6 @@
 //! The lines of a text, to be cut.
 
-ghost use Rattle.std.specs.Prelude.{◌≡◌};
+ghost use Rattle.std.specs.Prelude.{◌≡◌, drop};
 ghost use Rattle.std.specs.Iterator.{item_count, YieldsFirstBy};
 ghost use Rattle.tui_text.specs.Text.{text_data};
 ghost use Rattle.tui_para.specs.Given.{WillBe, WillGive};
@@ -27,9 +27,17 @@ impl<'s, 'a> TextLines<'s, 'a> {
         ensures left { glyph_lines_left result ≡ text_glyph_lines (text_data text.now) alignment }
         ensures gives { WillGive gives_lines (WillBe gives_graphemes) result (text_glyph_lines (text_data text.now) alignment) }
     {
+        TextLines::after(text, alignment, 0)
+    }
+
+    /// The lines of the text after the first `passed` ones.
+    pub(crate) fn after(text: &'s Text<'a>, alignment: Alignment, passed: u16) -> TextLines<'s, 'a>
+        ensures left { glyph_lines_left result ≡ drop passed (text_glyph_lines (text_data text.now) alignment) }
+        ensures gives { WillGive gives_lines (WillBe gives_graphemes) result (drop passed (text_glyph_lines (text_data text.now) alignment)) }
+    {
         TextLines {
             lines: text.lines(),
-            place: 0,
+            place: usize::from(passed),
             style: text.text_style(),
             alignment,
         }

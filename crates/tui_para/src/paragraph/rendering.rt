@@ -23,16 +23,18 @@ impl<'a> Paragraph<'a> {
         ensures ok { OnOk result (Painted (glyph_lines_layers clip clip.y (drop (paragraph_data self.now).scroll_y (paragraph_lines (paragraph_data self.now) clip.width))) buf.old buf.new) }
         ensures kept { KeptOutside (covers clip) buf.old buf.new }
     {
-        let lines = TextLines::new(&self.text, self.alignment);
         match self.wrap {
             Some(wrap) => {
+                let lines = TextLines::new(&self.text, self.alignment);
                 let mut wrapper = WordWrapper::new(alloc, lines, clip.width, wrap.trim);
                 paint_lines(buf, clip, &mut wrapper, self.scroll.y)
             }
             None => {
+                // Each text line is one line, so those above the scroll line need not be read.
+                let lines = TextLines::after(&self.text, self.alignment, self.scroll.y);
                 let mut truncator = LineTruncator::new(alloc, lines, clip.width);
                 truncator.set_horizontal_offset(self.scroll.x);
-                paint_lines(buf, clip, &mut truncator, self.scroll.y)
+                paint_lines(buf, clip, &mut truncator, 0)
             }
         }
     }

@@ -1,7 +1,9 @@
-use Rattle.std.proofs.Common.{◌≡◌, List, Option, drop, sym, ap, subst, inr}
+use Rattle.std.proofs.Common.{◌≡◌, List, [], ◌∷◌, Option, drop, sym, ap, ◌∙◌, subst, inr}
 use Rattle.std.specs.Option.{option_map_or}
 use Rattle.tui_cells.specs.Layers.{Painted}
-use Rattle.tui_para.specs.Lines.{GlyphLine}
+use Rattle.tui_para.specs.Lines.{GlyphLine, TruncatesLine, cut_all, is_left}
+use Rattle.tui_para.specs.Truncated.{truncate}
+use Rattle.tui_text.specs.Grapheme.{glyph_width}
 use Rattle.tui_para.specs.Paragraph.{paragraph_data}
 use Rattle.tui_para.specs.Rendering.{paragraph_lines}
 use Rattle.tui_para.specs.Strokes.{glyph_lines_layers}
@@ -12,7 +14,7 @@ use Rattle.tui_text.specs.declared.graphemes.Graphemes.{Graphemes}
 use Rattle.tui_para.specs.declared.text_lines.TextLines.{TextLines}
 use Rattle.tui_para.specs.declared.truncator.LineTruncator.{LineTruncator}
 use Rattle.tui_para.specs.declared.wrap.Wrap.{Wrap}
-use Rattle.tui_para.proofs.TextCut.{text_wraps_once, text_truncates_once, on_ok}
+use Rattle.tui_para.proofs.TextCut.{cut_is, on_ok, one_each-drop, text_wraps_once, truncates_to}
 use Rattle.tui_para.proofs.paragraph.Paragraph.paint_text.Goals as goal
 
 pub returns-in-Some-clause-ok : goal.returns-in-Some-clause-ok
@@ -32,11 +34,16 @@ pub returns-in-None-clause-ok : goal.returns-in-None-clause-ok
 returns-in-None-clause-ok c =
     let p = paragraph_data c.args.self.now in
     let w = c.args.clip.width in
-    let all = truncate_text w p.scroll_x p.alignment p.text in
-    let awaits = (c.new-truncator.ensures.will p.scroll_x all).1
-    (inr (c.requires, (text_glyph_lines p.text p.alignment, c.new-lines.ensures.gives, (text_truncates_once w p.scroll_x p.alignment p.text).meets))) in
-    let lines : all ≡ paragraph_lines p w =
-    sym (ap (λ (o : Option Wrap). option_map_or (λ (wrap : Wrap). wrap_text w wrap.trim p.alignment p.text) o (truncate_text w p.scroll_x p.alignment p.text)) c.in-None.is) in
+    let y = p.scroll_y in
+    let cut = λ (t : GlyphLine). truncate glyph_width w (is_left t.alignment) p.scroll_x t.glyphs in
+    let left = drop y (text_glyph_lines p.text p.alignment) in
+    let shown = cut_all (λ t. cut t ∷ []) left in
+    let awaits = (c.new-truncator.ensures.will p.scroll_x shown).1
+    (inr (c.requires, (left, c.after-lines.ensures.gives, cut_is (TruncatesLine w p.scroll_x) (λ t. cut t ∷ []) (truncates_to w p.scroll_x) left))) in
+    let lines : shown ≡ drop y (paragraph_lines p w) =
+    one_each-drop cut y (text_glyph_lines p.text p.alignment)
+    ∙ sym (ap (λ (o : Option Wrap). drop y (option_map_or (λ (wrap : Wrap). wrap_text w wrap.trim p.alignment p.text) o (truncate_text w p.scroll_x p.alignment p.text))) c.in-None.is) in
     on_ok c.paint_lines-in-None.result
-    (λ paints. subst (λ (ls : List GlyphLine). Painted (glyph_lines_layers c.args.clip c.args.clip.y (drop p.scroll_y ls)) c.args.buf.now c.paint_lines-in-None.new.buf) lines (paints all (subst (λ (s : LineTruncator TextLines Graphemes). TruncatorWillLend gives_lines gives_graphemes s all) (sym c.set_horizontal_offset.ensures) awaits)))
+    (λ paints. subst (λ (ls : List GlyphLine). Painted (glyph_lines_layers c.args.clip c.args.clip.y ls) c.args.buf.now c.paint_lines-in-None.new.buf) lines
+    (paints shown (subst (λ (s : LineTruncator TextLines Graphemes). TruncatorWillLend gives_lines gives_graphemes s shown) (sym c.set_horizontal_offset.ensures) awaits)))
     c.paint_lines-in-None.ensures.ok
