@@ -1,9 +1,8 @@
-use Rattle.std.proofs.Common.{◌≡◌, map, drop, sym, ap, ◌∙◌}
+use Rattle.std.proofs.Common.{map, drop, sym, ap, ◌∙◌}
 use Rattle.std.proofs.lemmas.List.{drop-map}
 use Rattle.tui_text.specs.Line.{line_data}
 use Rattle.tui_text.specs.Text.{text_data}
-use Rattle.tui_para.specs.TextLines.{glyph_lines_left}
-use Rattle.tui_para.specs.WrappedText.{text_glyph_line, text_glyph_lines}
+use Rattle.tui_para.specs.WrappedText.{text_glyph_line}
 use Rattle.tui_para.proofs.TextCut.{glyph_lines_will}
 use Rattle.tui_para.proofs.text_lines.TextLines.after.Goals as goal
 
