@@ -22,3 +22,4 @@ mod FirstLines
 mod PartsRead
 mod Beginning
 mod TextLends
+mod LeftOut

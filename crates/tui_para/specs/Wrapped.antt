@@ -1,5 +1,5 @@
 -- How a list of graphemes is wrapped into lines of a width. `blank` tells which graphemes are blanks, `size` a grapheme's width.
-use Rattle.std.specs.Prelude.{◌≡◌, ◌≢◌, ℕ, ◌-◌, ◌<◌, ◌≤◌, ◌⊎◌, Bool, true, false, cond, not, nat_le, List, [], ◌∷◌, ◌++◌, sum_by, filter}
+use Rattle.std.specs.Prelude.{◌≡◌, ◌≢◌, ℕ, ◌-◌, ◌<◌, ◌≤◌, ◌⊎◌, Bool, true, false, cond, not, nat_le, All, List, [], ◌∷◌, ◌++◌, sum_by, filter}
 
 -- the part of a word that stands at the front
 abbrev pub word : {A : Type 0} → (A → Bool) → List A → List A
@@ -82,6 +82,12 @@ WrapsKept blank size w trim xs lines = ((xs ≡ []) × (lines ≡ [] ∷ [])) �
 -- the graphemes are wrapped into these lines
 abbrev pub Wrapped : {A : Type 0} → (A → Bool) → (A → ℕ) → ℕ → Bool → List A → List (List A) → Type 0
 Wrapped blank size w trim xs lines = WrapsKept blank size w trim (kept size w xs) lines
+
+-- the lines one after another are the list, but for blanks before and behind each line
+abbrev pub LeavesOutBlanks : {A : Type 0} → (A → Bool) → List A → List (List A) → Type 0
+LeavesOutBlanks blank xs [] = xs ≡ []
+LeavesOutBlanks {A} blank xs (line ∷ lines) =
+    (before behind rest : List A) × All (λ x. blank x ≡ true) before × All (λ x. blank x ≡ true) behind × (xs ≡ before ++ (line ++ (behind ++ rest))) × LeavesOutBlanks blank rest lines
 
 -- the value meets the relation, and no other does
 pub record IsTheOne {A : Type 0} (R : A → Type 0) (x : A) : Type 0 where

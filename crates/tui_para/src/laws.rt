@@ -8,7 +8,7 @@ ghost use Rattle.tui_para.specs.Lines.{GlyphLine};
 ghost use Rattle.tui_para.specs.Places.{wrap};
 ghost use Rattle.tui_para.specs.TextLines.{gives_graphemes, gives_lines};
 ghost use Rattle.tui_para.specs.Truncated.{Truncated, truncate};
-ghost use Rattle.tui_para.specs.Wrapped.{Wrapped, IsTheOne};
+ghost use Rattle.tui_para.specs.Wrapped.{IsTheOne, LeavesOutBlanks, Wrapped, kept};
 ghost use Rattle.tui_para.specs.WrappedText.{TruncatedText, WrappedText, truncate_text, wrap_text};
 ghost use Rattle.tui_para.specs.Wrapping.{TruncatorCanLend, TruncatorMayLend, TruncatorWillLend, WrapperCanLend, WrapperMayLend, WrapperWillLend};
 
@@ -21,6 +21,13 @@ use tui_text::{Alignment, Graphemes, StyledGrapheme};
 pub fn wraps_exactly_once()
     ensures { (w : ℕ) (trim : Bool) (graphemes : List Glyph) → 0 < w
         → IsTheOne (Wrapped glyph_blank glyph_width w trim graphemes) (wrap glyph_blank glyph_width w trim graphemes) }
+{}
+
+/// Wrapping leaves out nothing but graphemes that are wider than the width, and blanks before and behind the lines: all
+/// others stand in the lines, each once and in their order.
+pub fn wrapping_leaves_out_blanks()
+    ensures { (w : ℕ) (trim : Bool) (graphemes : List Glyph) (lines : List (List Glyph)) → Wrapped glyph_blank glyph_width w trim graphemes lines
+        → LeavesOutBlanks glyph_blank (kept glyph_width w graphemes) lines }
 {}
 
 /// Exactly one line of a list of graphemes is shown at a width where it isn't wrapped, whatever the offset.

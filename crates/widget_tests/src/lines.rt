@@ -190,6 +190,10 @@ fn paragraphs_show_their_lines(rt: HostRuntime) -> Mem<()> {
     assert!(&rt; drawn(rt.alloc(), &wrapping, 5, 3)?.as_str() == "hello|world|foo  |");
     let scrolled = wrapping.scroll((1, 0));
     assert!(&rt; drawn(rt.alloc(), &scrolled, 5, 3)?.as_str() == "world|foo  |     |");
+    let plain = Paragraph::new(Text::raw(rt.alloc(), "a\nb\nc")?).scroll((1, 0));
+    assert!(&rt; drawn(rt.alloc(), &plain, 1, 3)?.as_str() == "b|c| |");
+    let past = plain.scroll((4, 0));
+    assert!(&rt; drawn(rt.alloc(), &past, 1, 2)?.as_str() == " | |");
     let centered = Paragraph::new(Text::raw(rt.alloc(), "ab")?).centered();
     assert!(&rt; drawn(rt.alloc(), &centered, 5, 1)?.as_str() == " ab  |");
     Ok(())
