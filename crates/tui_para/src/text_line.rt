@@ -138,7 +138,7 @@ impl<'a, I> TextLine<'a, I> {
 impl<'a, I: Iterator<Item = StyledGrapheme<'a>>> TextLine<'a, I> {
     ghost use Rattle.tui_para.specs.Wrapping.{PartsLeft};
 
-    /// Reads what is left to its end.
+    /// Reads what is left of it to its end, and lets all go.
     pub(crate) fn read_to_end(self)
         requires { IfSome self.source (Ready I.can_next I.remaining) }
         ensures { (glyphs : List Glyph) × SourceGives (MayGive I.next_gives IsGlyph) self.entry.source glyphs }

@@ -64,17 +64,6 @@ where
         self.offset = offset;
     }
 
-    /// Reads its iterators to their ends.
-    pub(crate) fn read_to_end(self)
-        requires { TruncatorCanLend O.can_next O.next_gives O.remaining I.can_next I.remaining self }
-        ensures { (glyph_lines : List GlyphLine) × UnlessDone self.entry.done (MayGive O.next_gives (MayBe I.next_gives) self.entry.lines) glyph_lines }
-    {
-        let LineTruncator { lines, done, .. } = self;
-        if !done {
-            read_lines(lines);
-        }
-    }
-
     /// Goes on to the next line, and answers its columns.
     fn advance(&mut self) -> Mem<Option<u16>>
         requires { TruncatorCanLend O.can_next O.next_gives O.remaining I.can_next I.remaining self.old }
@@ -108,6 +97,17 @@ where
                     Ok(columns) => Ok(Some(columns)),
                 }
             }
+        }
+    }
+
+    /// Reads its iterators to their ends, and lets all go.
+    pub(crate) fn read_to_end(self)
+        requires { TruncatorCanLend O.can_next O.next_gives O.remaining I.can_next I.remaining self }
+        ensures { (glyph_lines : List GlyphLine) × UnlessDone self.entry.done (MayGive O.next_gives (MayBe I.next_gives) self.entry.lines) glyph_lines }
+    {
+        let LineTruncator { lines, done, .. } = self;
+        if !done {
+            read_lines(lines);
         }
     }
 }

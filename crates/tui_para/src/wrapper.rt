@@ -69,25 +69,7 @@ where
         found
     }
 
-    /// Reads its iterators to their ends.
-    pub(crate) fn read_to_end(self)
-        requires { WrapperCanLend O.can_next O.next_gives O.remaining I.can_next I.remaining self }
-        ensures source { (glyphs : List Glyph) × SourceGives (MayGive I.next_gives IsGlyph) self.entry.current.source glyphs }
-        ensures lines { (glyph_lines : List GlyphLine) × UnlessDone self.entry.done (MayGive O.next_gives (MayBe I.next_gives) self.entry.lines) glyph_lines }
-    {
-        let WordWrapper {
-            lines,
-            current,
-            done,
-            ..
-        } = self;
-        current.read_to_end();
-        if !done {
-            read_lines(lines);
-        }
-    }
-
-    /// The same of a wrapper that has not failed.
+    /// Goes on to the next line of a wrapper that has not failed.
     fn find_line(&mut self) -> Mem<Option<Part>>
         requires { WrapperCanLend O.can_next O.next_gives O.remaining I.can_next I.remaining self.old }
         ensures ready { WrapperCanLend O.can_next O.next_gives O.remaining I.can_next I.remaining self.new }
@@ -117,6 +99,24 @@ where
                 self.current.start(line);
                 self.current.advance()
             }
+        }
+    }
+
+    /// Reads its iterators to their ends, and lets all go.
+    pub(crate) fn read_to_end(self)
+        requires { WrapperCanLend O.can_next O.next_gives O.remaining I.can_next I.remaining self }
+        ensures source { (glyphs : List Glyph) × SourceGives (MayGive I.next_gives IsGlyph) self.entry.current.source glyphs }
+        ensures lines { (glyph_lines : List GlyphLine) × UnlessDone self.entry.done (MayGive O.next_gives (MayBe I.next_gives) self.entry.lines) glyph_lines }
+    {
+        let WordWrapper {
+            lines,
+            current,
+            done,
+            ..
+        } = self;
+        current.read_to_end();
+        if !done {
+            read_lines(lines);
         }
     }
 }

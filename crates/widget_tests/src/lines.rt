@@ -2,7 +2,10 @@
 
 use std::alloc::Global;
 use tui_cells::{Buffer, Mem, Position, Rect, Widget};
-use tui_para::{LineComposer, LineTruncator, Paragraph, TextLines, WordWrapper, Wrap};
+use tui_para::{
+    LineComposer, LineTruncator, Paragraph, TextLines, WordWrapper, Wrap, text_truncator_lends_one,
+    text_wrapper_lends_one, truncator_lends_what_is_known, wrapper_lends_what_is_known,
+};
 use tui_text::{Alignment, Text};
 
 /// More lines than any text here has.
@@ -166,6 +169,25 @@ fn text_is_cut_at_the_width(rt: HostRuntime) -> Mem<()> {
     Ok(())
 }
 
+/// The laws hold whatever is given; those that take a composer read it to its end, also one that has lent a line.
+#[test]
+fn laws_read_composers_to_their_ends(rt: HostRuntime) -> Mem<()> {
+    let text = Text::raw(rt.alloc(), "ab cd\nef")?;
+    let mut lent = String::new(rt.alloc());
+    let texts = TextLines::new(&text, Alignment::Left);
+    let mut wrapper = WordWrapper::new(rt.alloc(), texts, 2, true);
+    put_line(&mut lent, &mut wrapper)?;
+    wrapper_lends_what_is_known(&wrapper);
+    text_wrapper_lends_one(wrapper);
+    let texts = TextLines::new(&text, Alignment::Left);
+    let mut truncator = LineTruncator::new(rt.alloc(), texts, 2);
+    put_line(&mut lent, &mut truncator)?;
+    truncator_lends_what_is_known(&truncator);
+    text_truncator_lends_one(truncator);
+    assert!(&rt; lent.as_str() == "ab|ab|");
+    Ok(())
+}
+
 /// The symbols of a buffer of this size after drawing, with a bar behind each row.
 fn drawn(alloc: Global, paragraph: &Paragraph<'_>, width: u16, height: u16) -> Mem<String> {
     let area = Rect::new(0, 0, width, height);
@@ -183,18 +205,56 @@ fn drawn(alloc: Global, paragraph: &Paragraph<'_>, width: u16, height: u16) -> M
     Ok(shown)
 }
 
+fn paragraph<'a>(
+    alloc: Global,
+    content: &'a str,
+    is_wrapped: bool,
+    scroll: u16,
+    alignment: Alignment,
+) -> Mem<Paragraph<'a>> {
+    let paragraph = Paragraph::new(Text::raw(alloc, content)?)
+        .scroll((scroll, 0))
+        .alignment(alignment);
+    if is_wrapped {
+        return Ok(paragraph.wrap(Wrap { trim: true }));
+    }
+    Ok(paragraph)
+}
+
+/// Texts, whether they are wrapped, scroll lines, alignments, widths, heights and the rows.
+const DRAWN: [(&str, bool, u16, Alignment, u16, u16, &str); 5] = [
+    (
+        "hello world foo",
+        true,
+        0,
+        Alignment::Left,
+        5,
+        3,
+        "hello|world|foo  |",
+    ),
+    (
+        "hello world foo",
+        true,
+        1,
+        Alignment::Left,
+        5,
+        3,
+        "world|foo  |     |",
+    ),
+    ("a\nb\nc", false, 1, Alignment::Left, 1, 3, "b|c| |"),
+    ("a\nb\nc", false, 4, Alignment::Left, 1, 2, " | |"),
+    ("ab", false, 0, Alignment::Center, 5, 1, " ab  |"),
+];
+
 #[test]
 fn paragraphs_show_their_lines(rt: HostRuntime) -> Mem<()> {
-    let text = Text::raw(rt.alloc(), "hello world foo")?;
-    let wrapping = Paragraph::new(text).wrap(Wrap { trim: true });
-    assert!(&rt; drawn(rt.alloc(), &wrapping, 5, 3)?.as_str() == "hello|world|foo  |");
-    let scrolled = wrapping.scroll((1, 0));
-    assert!(&rt; drawn(rt.alloc(), &scrolled, 5, 3)?.as_str() == "world|foo  |     |");
-    let plain = Paragraph::new(Text::raw(rt.alloc(), "a\nb\nc")?).scroll((1, 0));
-    assert!(&rt; drawn(rt.alloc(), &plain, 1, 3)?.as_str() == "b|c| |");
-    let past = plain.scroll((4, 0));
-    assert!(&rt; drawn(rt.alloc(), &past, 1, 2)?.as_str() == " | |");
-    let centered = Paragraph::new(Text::raw(rt.alloc(), "ab")?).centered();
-    assert!(&rt; drawn(rt.alloc(), &centered, 5, 1)?.as_str() == " ab  |");
+    for (content, is_wrapped, scroll, alignment, width, height, rows) in DRAWN {
+        let paragraph = paragraph(rt.alloc(), content, is_wrapped, scroll, alignment)?;
+        let shown = drawn(rt.alloc(), &paragraph, width, height)?;
+        assert!(&rt;
+            shown.as_str() == rows,
+            "of {content:?} from {scroll}: {shown}"
+        );
+    }
     Ok(())
 }
