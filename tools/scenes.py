@@ -46,6 +46,7 @@ SCENES = {
     "line20": lambda: scene(20, 10, [paragraph(words(1_000_000), (0, 0, 20, 10), wrap={"trim": True}, scroll=[65535, 0])]),
     "line1000": lambda: scene(1000, 10, [paragraph(words(1_000_000), (0, 0, 1000, 10), wrap={"trim": True}, scroll=[65535, 0])]),
     "unwrapped": lambda: scene(1000, 10, [paragraph(words(1_000_000), (0, 0, 1000, 10))]),
+    "blanks": lambda: scene(20, 10, [paragraph(" " * 1_000_000, (0, 0, 20, 10), wrap={"trim": True})]),
     "styled": styled,
 }
 
