@@ -1,19 +1,11 @@
 //! The program `tui_show`: it reads a scene in JSON from standard input and writes the drawn screen to standard output.
 #![tactic(auto)]
 
-mod ended;
-mod json;
-mod refusal;
-mod show;
-#[cfg(test)]
-mod tests;
-
-use ended::Ended;
-use show::show;
 use std::alloc::Global;
 use std::process::ExitCode;
 use std::{env, io};
 use tui_port::{StdSink, StdSource};
+use tui_shell::{Ended, show};
 
 fn main(rt: HostRuntime) -> ExitCode {
     ExitCode::from(run(&rt).status())

@@ -1,0 +1,53 @@
+//! How a run of the program ends.
+
+ghost use Rattle.std.specs.Prelude.{◌≡◌, if◌then◌else◌};
+
+use tui_port::Field;
+
+/// How a run ends. Only `Ok` has written a screen whole; the endings from `Usage` to `BadField` have written one line that says so.
+#[derive(Clone, Copy, Debug, PartialEq, Eq)]
+pub enum Ended {
+    /// All was read, drawn and written.
+    Ok,
+    /// The words name no command.
+    Usage,
+    /// The input has more than 1,048,576 bytes.
+    TooLong,
+    /// The input is no JSON in UTF-8.
+    NotJson,
+    /// A field of the scene, or of the item of this number from 0, is missing or of the wrong kind.
+    BadField { item: Option<usize>, field: Field },
+    /// A read failed; nothing is written.
+    ReadFault,
+    /// A put failed; the sink holds the first bytes of the output.
+    WriteFault,
+    /// The memory was not there; nothing is written.
+    NoMemory,
+}
+
+impl Ended {
+    ghost use Rattle.tui_shell.specs.Status.{status_of};
+
+    /// The exit status of the program.
+    pub fn status(&self) -> u8
+        ensures { result ≡ status_of self.now }
+    {
+        match self {
+            Ended::Ok => 0,
+            Ended::Usage => 2,
+            Ended::TooLong => 3,
+            Ended::NotJson => 4,
+            Ended::BadField { .. } => 5,
+            Ended::ReadFault => 6,
+            Ended::WriteFault => 7,
+            Ended::NoMemory => 8,
+        }
+    }
+
+    /// This ending where everything was put, else a fault of the sink.
+    pub(crate) fn if_put(self, all: bool) -> Ended
+        ensures { result ≡ (if all then self else Ended.WriteFault) }
+    {
+        if all { self } else { Ended::WriteFault }
+    }
+}
