@@ -6,7 +6,7 @@ use Rattle.tui_cells.specs.Rect.{covers, is_empty}
 use Rattle.tui_cells.specs.Layers.{StayIn}
 use Rattle.tui_cells.specs.Cell.{Look, Edit, edited}
 use Rattle.tui_cells.specs.Buffer.{Screen, cell_at}
-use Rattle.tui_cells.specs.Layers.{Painted, KeptOutside, Layer, stroke, layers_at, over, edits}
+use Rattle.tui_cells.specs.Layers.{Painted, KeptOutside, SameCells, Layer, stroke, layers_at, over, edits}
 
 -- at one place, the third region is the first two together, which do not meet
 abbrev pub Joins : (r s t : Bool) → Type 0
@@ -117,8 +117,9 @@ Painted-region R S es a b p e = Painted-same (λ x y c. region_at R S es x y (R 
 pub KeptOutside-weaker : {R S : ℕ → ℕ → Bool} {a b : Screen} → ((x y : ℕ) → S x y ≡ false → R x y ≡ false) → KeptOutside R a b → KeptOutside S a b
 KeptOutside-weaker e p = record { area = p.area; cells = λ x y out. p.cells x y (e x y out) }
 
-empty_covers : (clip : Rect) (x y : ℕ) → is_empty clip ≡ true → covers clip x y ≡ false
-empty_covers clip x y e = grind (arith, nat_tests)
+-- an empty rectangle covers no position
+pub covers_nowhere : (clip : Rect) → is_empty clip ≡ true → (x y : ℕ) → covers clip x y ≡ false
+covers_nowhere clip e x y = grind (arith, nat_tests)
 
 still_at : (ls : List Layer) (x y : ℕ) (o : Option Look) → ((c : Look) → layers_at ls x y c ≡ c) → o ≡ option_map (layers_at ls x y) o
 still_at ls x y None e = refl
@@ -128,5 +129,13 @@ still_at ls x y (Some c) e = ap Some (sym (e c))
 pub Painted-empty : {ls : List Layer} (clip : Rect) (b : Screen) → StayIn (covers clip) ls → is_empty clip ≡ true → Painted ls b b
 Painted-empty {ls = ls} clip b s e = record {
   area = refl;
-  cells = λ x y. still_at ls x y (cell_at b x y) (s.cell x y (empty_covers clip x y e));
+  cells = λ x y. still_at ls x y (cell_at b x y) (s.cell x y (covers_nowhere clip e x y));
+}
+
+-- strokes that stay in a region where there is none change nothing
+pub Painted-nowhere : {region : ℕ → ℕ → Bool} {ls : List Layer} {a b : Screen} → StayIn region ls → ((x y : ℕ) → region x y ≡ false) →
+    Painted ls a b → SameCells a b
+Painted-nowhere {ls = ls} {a = a} s none p = record {
+  area = p.area;
+  cells = λ x y. p.cells x y ∙ sym (still_at ls x y (cell_at a x y) (s.cell x y (none x y)));
 }

@@ -6,3 +6,4 @@ pub mod Buffer
 pub mod Text
 pub mod Layers
 pub mod Stays
+pub mod Drawing

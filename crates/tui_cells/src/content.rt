@@ -1,6 +1,6 @@
 //! How a cell keeps what it shows.
 
-ghost use Rattle.std.specs.Prelude.{◌≡◌, ◌<◌, IsOk, IfOk, length, string_bytes};
+ghost use Rattle.std.specs.Prelude.{◌≡◌, ◌<◌, [], ◌∷◌, IsOk, IfOk, IfSome, None, length, string_bytes};
 ghost use Rattle.std.specs.Char.{encode_utf8};
 ghost use Rattle.tui_cells.specs.Attributes.{content_look, look_of};
 ghost use Rattle.tui_cells.specs.Cell.{IsLight, dressed, space, symbol_of};
@@ -47,15 +47,43 @@ pub(crate) fn char_symbol(c: char) -> ArrayString<SHORT>
     symbol
 }
 
+/// A character of one byte.
+#[inline]
+fn byte_symbol(byte: u8) -> ArrayString<SHORT>
+    requires { byte < 128 }
+    ensures { result.bytes ≡ byte ∷ [] }
+{
+    let mut symbol = ArrayString::new();
+    symbol.push(byte as char);
+    symbol
+}
+
+/// A text in place, where it has at most 8 bytes. A single byte needs no copy of memory.
+#[inline]
+fn short_symbol(text: &str) -> Option<ArrayString<SHORT>>
+    ensures some { IfSome result (λ symbol. symbol.bytes ≡ text.now) }
+    ensures none { result ≡ None → 8 < length text.now }
+{
+    if let [byte] = text.as_bytes()
+        && *byte < 128
+    {
+        return Some(byte_symbol(*byte));
+    }
+    match ArrayString::from(text) {
+        Ok(short) => Some(short),
+        Err(_) => None,
+    }
+}
+
 impl Content {
     pub(crate) fn of(alloc: Global, text: &str, attributes: Attributes) -> Mem<Content>
         ensures ok { IfOk result (λ c. content_look c ≡ look_of (symbol_of text.now) attributes) }
         ensures light { IsLight text.now → IsOk result }
     {
         let text = shown(text);
-        match ArrayString::from(text) {
-            Ok(short) => Ok(Content::Short(attributes, short)),
-            Err(_) => {
+        match short_symbol(text) {
+            Some(short) => Ok(Content::Short(attributes, short)),
+            None => {
                 let text = String::from_str(alloc, text)?;
                 Ok(Content::Long(attributes, Rc::new(alloc, text)?))
             }

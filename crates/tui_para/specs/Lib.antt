@@ -17,3 +17,4 @@ pub mod Shows
 pub mod Rendering
 pub mod TextLines
 pub mod Stays
+pub mod Drawing

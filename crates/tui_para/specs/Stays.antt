@@ -4,8 +4,8 @@ use Rattle.std.proofs.Common.{◌∙◌, ap, refl, sym}
 use Rattle.std.proofs.lemmas.Bool.{eqb-true, and_parts, false_from_ne_true, false≢true}
 use Rattle.tui_cells.specs.declared.rect.Rect.{Rect}
 use Rattle.tui_cells.specs.Rect.{covers}
-use Rattle.tui_cells.specs.Cell.{Look, put, dress}
-use Rattle.tui_cells.specs.Layers.{StayIn, at_place, layers_at, stroke}
+use Rattle.tui_cells.specs.Cell.{put, dress}
+use Rattle.tui_cells.specs.Layers.{StayIn, at_place, stroke}
 use Rattle.tui_cells.specs.Stays.{StayIn-none, StayIn-append, StayIn-stroke}
 use Rattle.tui_text.specs.Grapheme.{Glyph, glyph_width}
 use Rattle.tui_para.specs.Lines.{GlyphLine}
@@ -41,6 +41,3 @@ glyph_lines_stay rect y (s ∷ ss) = StayIn-append (glyph_line_stays rect y s) (
 pub paragraph_stay : (p : ParagraphData) (clip : Rect) → StayIn (covers clip) (paragraph_layers p clip)
 unfolding paragraph_layers
 paragraph_stay p clip = StayIn-append (StayIn-stroke (covers clip) (dress p.style) (λ x y out. out)) (glyph_lines_stay clip clip.y (drop p.scroll_y (paragraph_lines p clip.width)))
-
-pub paragraph_stays : (p : ParagraphData) (clip : Rect) (x y : ℕ) → covers clip x y ≡ false → (c : Look) → layers_at (paragraph_layers p clip) x y c ≡ c
-paragraph_stays p clip = (paragraph_stay p clip).cell

@@ -14,7 +14,8 @@ use tui_cells::{Buffer, Mem, Position, Rect, Style};
 use tui_text::{Alignment, StyledGrapheme, cell_width};
 
 /// Sets the style of the cells in an area. A style that sets nothing costs no step.
-fn dress_area(buf: &mut Buffer, area: Rect, style: Style)
+#[inline(always)]
+pub(crate) fn dress_area(buf: &mut Buffer, area: Rect, style: Style)
     ensures { Painted (stroke (covers area) (dress style)) buf.old buf.new }
 {
     if style == Style::new() {

@@ -4,7 +4,7 @@ pub mod Paragraph
 pub mod Names
 use Rattle.std.specs.Prelude.{ℕ, ◌+◌, List, [], ◌∷◌, Option, Some, None, Result, Ok, Err}
 use Rattle.serde_json.specs.Data.{Data, Items, no_items, item}
-use Rattle.tui_scene.specs.Item.{ItemData, clear, fill, paragraph, PlacedData}
+use Rattle.tui_scene.specs.Item.{ItemData, PlacedData, clear, fill, paragraph, still}
 use Rattle.tui_port.specs.declared.field.Field.TheVariants as fields
 use Rattle.tui_port.specs.declared.items.widget.Widget.{Widget}
 use Rattle.tui_port.specs.declared.items.widget.Widget.TheVariants as widgets
@@ -16,13 +16,13 @@ use Rattle.tui_port.specs.Refusals.{Refusal, ◌>>=◌, required}
 
 -- the fields of a widget
 abbrev pub shown_of : Widget → Option ℕ → Data → Result ItemData Refusal
-shown_of widgets.Clear i d = Ok clear
+shown_of widgets.Clear i d = Ok (still clear)
 shown_of widgets.Fill i d = do
   x ← fill_of i d
-  Ok (fill x)
+  Ok (still (fill x))
 shown_of widgets.Paragraph i d = do
   x ← paragraph_of i d
-  Ok (paragraph x)
+  Ok (still (paragraph x))
 
 -- the item of number i
 unfoldable pub item_of : ℕ → Data → Result PlacedData Refusal

@@ -1,7 +1,8 @@
 -- One more widget of a scene is drawn.
-use Rattle.std.proofs.Common.{◌≡◌, ℕ, ◌+◌, ◌<◌, List, ◌∷◌, ◌++◌, map, take, drop, length, get_or, All, refl, ◌∙◌, ap, sym, subst, arith, Option, Some, None, Bool, true, false, option_map, Result, Ok, Err, OnOk, add-one, drop-cons}
+use Rattle.std.proofs.Common.{◌≡◌, ℕ, ◌+◌, ◌<◌, ◌≤◌, List, [], ◌∷◌, ◌++◌, map, take, drop, length, get_or, set, All, refl, ◌∙◌, ap, sym, subst, arith, Option, Some, None, Bool, true, false, option_map, Result, Ok, Err, OnOk, add-one, drop-cons}
 use Rattle.std.proofs.lemmas.Grind.{common_steps}
-use Rattle.std.proofs.lemmas.List.{get_or-map, length-map, take_more}
+use Rattle.std.proofs.lemmas.List.{get_or-map, length-map, map-set, set-get_or, drop_all, take_more}
+use Rattle.std.proofs.lemmas.List.Edits.{map_over_more}
 use Rattle.std.proofs.lemmas.Option.{get_or_from_slice_get}
 use Rattle.std.proofs.lemmas.List.Elements.{All-get_or}
 use Rattle.std.proofs.lemmas.List.Concat.{flat_map-append}
@@ -9,95 +10,144 @@ use Rattle.tui_cells.specs.declared.rect.Rect.{Rect}
 use Rattle.tui_cells.specs.Rect.{intersection_of}
 use Rattle.tui_cells.specs.Buffer.{Screen, cell_at}
 use Rattle.tui_cells.specs.Cell.{Look}
-use Rattle.tui_cells.specs.Layers.{KeptOutside, Layer, Painted, layers_at}
+use Rattle.tui_cells.specs.Layers.{KeptOutside, Layer, Painted, StayIn, layers_at}
 use Rattle.tui_cells.proofs.Painting.{Painted-append}
-use Rattle.tui_scene.specs.Item.{IsLightPlaced, ItemShows, PlacedData, placed_footprint, placed_layers}
+use Rattle.tui_scene.specs.Item.{IsLightPlaced, PlacedData, item_drawing, placed_after, placed_footprint, placed_layers}
 use Rattle.tui_scene.specs.Scene.{Run, Step, in_footprints, scene_layers}
 use Rattle.tui_scene.specs.Draw.{Stopped}
-use Rattle.tui_scene.proofs.Strokes.{item_stays, outside_more, scene_stays}
+use Rattle.tui_scene.proofs.Strokes.{outside_more, scene_stays}
+
+-- the first widgets are drawn and have their states moved
+pub record Drawn (old new : List PlacedData) (before now : Screen) (i : ℕ) : Type 0 where
+  pub painted : Painted (scene_layers before.area (take i old)) before now
+  pub states : new ≡ map (placed_after before.area) (take i old) ++ drop i old
+
+-- a widget that is not drawn yet is as it was
+get_or-drawn : (f : PlacedData → PlacedData) (ps : List PlacedData) (i : ℕ) (d : PlacedData) → i < length ps →
+    get_or (map f (take i ps) ++ drop i ps) i d ≡ get_or ps i d
+get_or-drawn f ps i d lt = grind (arith, common_steps)
+
+length-drawn : (f : PlacedData → PlacedData) (ps : List PlacedData) (i : ℕ) → i < length ps → length (map f (take i ps) ++ drop i ps) ≡ length ps
+length-drawn f ps i lt = grind (arith, common_steps)
 
 -- the strokes of one more widget
 scene_layers-more : (area : Rect) (ps : List PlacedData) (i : ℕ) (d : PlacedData) → i < length ps →
     scene_layers area (take (i + 1) ps) ≡ scene_layers area (take i ps) ++ placed_layers area (get_or ps i d)
 scene_layers-more area ps i d lt = grind (arith, common_steps, take_more, flat_map-append)
 
--- the widget in a place, as plain data
-widget_at : {A : Type 0} (f : A → PlacedData) (xs : List A) (i : ℕ) (x : A) → i < length xs → x ≡ get_or xs i x → get_or (map f xs) i (f x) ≡ f x
-widget_at f xs i x lt at = get_or-map f xs i x (f x) lt ∙ sym (ap f at)
+-- the widget in a place, among those that are as they were
+record IsNext {A : Type 0} (f : A → PlacedData) (xs : List A) (old : List PlacedData) (i : ℕ) (x : A) : Type 0 where
+  pub now : get_or (map f xs) i (f x) ≡ f x
+  pub was : f x ≡ get_or old i (f x)
 
-within : {A : Type 0} (f : A → PlacedData) (xs : List A) (i : ℕ) → i < length xs → i < length (map f xs)
-within f xs i lt = rw (length-map xs f) lt
+next_is : {A : Type 0} (f : A → PlacedData) (xs : List A) (old : List PlacedData) (before mid : Screen) (i : ℕ) (x d : A) → i < length old →
+    Drawn old (map f xs) before mid i → x ≡ get_or xs i d → IsNext f xs old i x
+next_is f xs old before mid i x d lt drawn at =
+    let long : length (map f xs) ≡ length old = rw drawn.states (length-drawn (placed_after before.area) old i lt) in
+    let within : i < length xs = rw (← length-map xs f, long) lt in
+    let here : get_or (map f xs) i (f x) ≡ f x = get_or-map f xs i d (f x) within ∙ sym (ap f at) in
+    record { now = here; was = sym here ∙ rw drawn.states (get_or-drawn (placed_after before.area) old i (f x) lt) }
 
 -- the first widgets and one more are drawn
-pub drawn_more : {A : Type 0} (f : A → PlacedData) (xs : List A) (before mid after : Screen) (i : ℕ) (x : A) → i < length xs → x ≡ get_or xs i x →
-    Painted (scene_layers before.area (take i (map f xs))) before mid → Painted (placed_layers mid.area (f x)) mid after →
-    Painted (scene_layers before.area (take (i + 1) (map f xs))) before after
-drawn_more f xs before mid after i x lt at drawn p =
-    rw (scene_layers-more before.area (map f xs) i (f x) (within f xs i lt), widget_at f xs i x lt at)
-    (Painted-append _ _ before mid after drawn (subst (λ (r : Rect). Painted (placed_layers r (f x)) mid after) drawn.area p))
+pub drawn_more : {A : Type 0} (f : A → PlacedData) (xs : List A) (old : List PlacedData) (before mid after : Screen) (i : ℕ) (x d q : A) → i < length old →
+    Drawn old (map f xs) before mid i → x ≡ get_or xs i d → Painted (placed_layers mid.area (f x)) mid after → f q ≡ placed_after mid.area (f x) →
+    Drawn old (map f (set xs i q)) before after (i + 1)
+drawn_more f xs old before mid after i x d q lt drawn at p e =
+    let next = next_is f xs old before mid i x d lt drawn at in
+    let area : mid.area ≡ before.area = drawn.painted.area in
+    let here : Painted (placed_layers before.area (f x)) mid after = subst (λ (r : Rect). Painted (placed_layers r (f x)) mid after) area p in
+    let moved : f q ≡ placed_after before.area (f x) = e ∙ ap (λ (r : Rect). placed_after r (f x)) area in
+    let more = map_over_more (placed_after before.area) old (map f xs) i (f x) lt drawn.states (sym next.now) in
+    record {
+      painted = rw (scene_layers-more before.area old i (f x) lt, ← next.was) (Painted-append _ _ before mid after drawn.painted here);
+      states = map-set f xs i q ∙ (ap (set (map f xs) i) moved ∙ more);
+    }
 
 -- a run goes on by one step
-pub run_more : {A : Type 0} (f : A → PlacedData) (xs : List A) (mid after last : Screen) (i : ℕ) (x : A) → i < length xs → x ≡ get_or xs i x →
-    Step (f x) mid after → Run (drop (i + 1) (map f xs)) after last → Run (drop i (map f xs)) mid last
-run_more f xs mid after last i x lt at step rest =
-    let whole : drop i (map f xs) ≡ f x ∷ drop (i + 1) (map f xs) =
-    rw (add-one, drop-cons (map f xs) i (f x) (within f xs i lt), widget_at f xs i x lt at) refl in
-    subst (λ (qs : List PlacedData). Run qs mid last) (sym whole) (after, (step, rest))
+pub run_more : {A : Type 0} (f : A → PlacedData) (xs : List A) (old : List PlacedData) (before mid after last : Screen) (i : ℕ) (x d q : A) → i < length old →
+    Drawn old (map f xs) before mid i → x ≡ get_or xs i d → Step (f x) (f q) mid after → f q ≡ placed_after mid.area (f x) →
+    Run (drop (i + 1) old) (map (placed_after before.area) (drop (i + 1) old)) after last → Run (drop i old) (map (placed_after before.area) (drop i old)) mid last
+run_more f xs old before mid after last i x d q lt drawn at step e rest =
+    let next = next_is f xs old before mid i x d lt drawn at in
+    let moved : f q ≡ placed_after before.area (f x) = e ∙ ap (λ (r : Rect). placed_after r (f x)) drawn.painted.area in
+    let whole : drop i old ≡ f x ∷ drop (i + 1) old = rw (add-one, drop-cons old i (f x) lt, ← next.was) refl in
+    let one : Step (f x) (placed_after before.area (f x)) mid after = subst (λ (r : PlacedData). Step (f x) r mid after) moved step in
+    subst (λ (qs : List PlacedData). Run qs (map (placed_after before.area) qs) mid last) (sym whole) (after, (one, rest))
+
+-- all widgets are drawn
+pub all_moved : (g : PlacedData → PlacedData) (ps : List PlacedData) (i : ℕ) → length ps ≤ i → map g (take i ps) ++ drop i ps ≡ map g ps
+all_moved g ps i le = grind (arith, common_steps)
+
+pub run_done : (old new : List PlacedData) (before last : Screen) (i : ℕ) → length old ≤ i → Drawn old new before last i →
+    ((end : Screen) → Run (drop i old) (map (placed_after before.area) (drop i old)) last end → Run old (map (placed_after before.area) old) before end) →
+    Run old new before last
+run_done old new before last i le drawn run =
+    let none : drop i old ≡ [] = drop_all i old le in
+    let whole : Run old (map (placed_after before.area) old) before last =
+    run last (subst (λ (qs : List PlacedData). Run qs (map (placed_after before.area) qs) last last) (sym none) refl) in
+    subst (λ (qs : List PlacedData). Run old qs before last) (sym (drawn.states ∙ all_moved (placed_after before.area) old i le)) whole
 
 still : (ls : List Layer) (x y : ℕ) (o : Option Look) → ((c : Look) → layers_at ls x y c ≡ c) → option_map (layers_at ls x y) o ≡ o
 still ls x y None e = refl
 still ls x y (Some c) e = ap Some (e c)
 
 -- a widget wanted memory
-stopped_at : (ps : List PlacedData) (before mid after : Screen) (i : ℕ) (d : PlacedData) → i < length ps →
-    Painted (scene_layers before.area (take i ps)) before mid → KeptOutside (placed_footprint mid.area (get_or ps i d)) mid after →
-    Stopped ps before after i
-stopped_at ps before mid after i d lt drawn kept =
-    let here : KeptOutside (placed_footprint before.area (get_or ps i d)) mid after =
-    subst (λ (r : Rect). KeptOutside (placed_footprint r (get_or ps i d)) mid after) drawn.area kept in
+stopped_at : (old new : List PlacedData) (before mid after : Screen) (i : ℕ) (d : PlacedData) → i < length old →
+    Drawn old new before mid i → KeptOutside (placed_footprint mid.area (get_or old i d)) mid after →
+    Stopped old new before after i
+stopped_at old new before mid after i d lt drawn kept =
+    let here : KeptOutside (placed_footprint before.area (get_or old i d)) mid after =
+    subst (λ (r : Rect). KeptOutside (placed_footprint r (get_or old i d)) mid after) drawn.painted.area kept in
     record {
       within = lt;
+      states = drawn.states;
       kept = record {
-        area = here.area ∙ drawn.area;
+        area = here.area ∙ drawn.painted.area;
         cells = λ x y out.
-            let apart : (in_footprints before.area (take i ps) x y ≡ false) × (placed_footprint before.area (get_or ps i d) x y ≡ false) =
-            outside_more before.area (take i ps) (get_or ps i d) x y (rw (← take_more ps i d lt) out) in
-            here.cells x y apart.1 ∙ (drawn.cells x y
-            ∙ still (scene_layers before.area (take i ps)) x y (cell_at before x y) (scene_stays before.area (take i ps) x y apart.0));
+            let apart : (in_footprints before.area (take i old) x y ≡ false) × (placed_footprint before.area (get_or old i d) x y ≡ false) =
+            outside_more before.area (take i old) (get_or old i d) x y (rw (← take_more old i d lt) out) in
+            here.cells x y apart.1 ∙ (drawn.painted.cells x y
+            ∙ still (scene_layers before.area (take i old)) x y (cell_at before x y) (scene_stays before.area (take i old) x y apart.0));
       };
-      drawn = λ x y p h out. here.cells x y (rw (get_or_from_slice_get ps i p d h) out) ∙ drawn.cells x y;
+      drawn = λ x y p h out. here.cells x y (rw (get_or_from_slice_get old i p d h) out) ∙ drawn.painted.cells x y;
     }
 
-pub stopped : {A : Type 0} (f : A → PlacedData) (xs : List A) (before mid after : Screen) (i : ℕ) (x : A) → i < length xs → x ≡ get_or xs i x →
-    Painted (scene_layers before.area (take i (map f xs))) before mid → KeptOutside (placed_footprint mid.area (f x)) mid after →
-    Stopped (map f xs) before after i
-stopped f xs before mid after i x lt at drawn kept =
-    stopped_at (map f xs) before mid after i (f x) (within f xs i lt) drawn (rw (widget_at f xs i x lt at) kept)
+pub stopped : {A : Type 0} (f : A → PlacedData) (xs : List A) (old : List PlacedData) (before mid after : Screen) (i : ℕ) (x d q : A) → i < length old →
+    Drawn old (map f xs) before mid i → x ≡ get_or xs i d → KeptOutside (placed_footprint mid.area (f x)) mid after → f q ≡ f x →
+    Stopped old (map f (set xs i q)) before after i
+stopped f xs old before mid after i x d q lt drawn at kept e =
+    let next = next_is f xs old before mid i x d lt drawn at in
+    let same : map f (set xs i q) ≡ map f xs =
+    map-set f xs i q ∙ (ap (set (map f xs) i) (e ∙ sym next.now) ∙ set-get_or (map f xs) i (f x)) in
+    let now : Drawn old (map f (set xs i q)) before mid i = record { painted = drawn.painted; states = same ∙ drawn.states } in
+    stopped_at old (map f (set xs i q)) before mid after i (f x) lt now (subst (λ (p : PlacedData). KeptOutside (placed_footprint mid.area p) mid after) next.was kept)
 
 -- a widget of a scene whose widgets take no memory, where the area is the one that is reached
-pub light_at : {A : Type 0} (f : A → PlacedData) (xs : List A) (area now : Rect) (i : ℕ) (x : A) → i < length xs → x ≡ get_or xs i x → now ≡ area →
-    All (IsLightPlaced area) (map f xs) → IsLightPlaced now (f x)
-light_at f xs area now i x lt at same all =
-    subst (λ (r : Rect). IsLightPlaced r (f x)) (sym same)
-    (subst (IsLightPlaced area) (widget_at f xs i x lt at) (All-get_or (IsLightPlaced area) (map f xs) i (f x) (within f xs i lt) all))
+pub light_at : {A : Type 0} (f : A → PlacedData) (xs : List A) (old : List PlacedData) (before mid : Screen) (i : ℕ) (x d : A) → i < length old →
+    Drawn old (map f xs) before mid i → x ≡ get_or xs i d → All (IsLightPlaced before.area) old → IsLightPlaced mid.area (f x)
+light_at f xs old before mid i x d lt drawn at all =
+    let next = next_is f xs old before mid i x d lt drawn at in
+    subst (λ (r : Rect). IsLightPlaced r (f x)) (sym drawn.painted.area)
+    (subst (IsLightPlaced before.area) (sym next.was) (All-get_or (IsLightPlaced before.area) old i (f x) lt all))
 
 -- a drawing that stays in a region leaves all outside it
-pub kept_of : (region : ℕ → ℕ → Bool) (ls : List Layer) (before after : Screen) → Painted ls before after →
-    ((x y : ℕ) → region x y ≡ false → (c : Look) → layers_at ls x y c ≡ c) → KeptOutside region before after
+pub kept_of : (region : ℕ → ℕ → Bool) (ls : List Layer) (before after : Screen) → Painted ls before after → StayIn region ls → KeptOutside region before after
 kept_of region ls before after painted stays = record {
   area = painted.area;
-  cells = λ x y out. painted.cells x y ∙ still ls x y (cell_at before x y) (stays x y out);
+  cells = λ x y out. painted.cells x y ∙ still ls x y (cell_at before x y) (stays.cell x y out);
 }
 
 -- a widget that was drawn made a step
-pub step_of : {T E : Type 0} (result : Result T E) (p : PlacedData) (before after : Screen) →
-    OnOk result (Painted (placed_layers before.area p) before after) → OnOk result (ItemShows p.item (intersection_of p.area before.area) before after) →
-    OnOk result (Step p before after)
-step_of (Ok x) p before after painted shows = record {
-  kept = kept_of (placed_footprint before.area p) (placed_layers before.area p) before after painted (item_stays p.item (intersection_of p.area before.area));
+pub step_of : {T E : Type 0} (result : Result T E) (p q : PlacedData) (before after : Screen) → q.area ≡ p.area →
+    OnOk result (Painted (placed_layers before.area p) before after) →
+    OnOk result ((item_drawing p.item).shows q.item (intersection_of p.area before.area) before after) →
+    OnOk result (Step p q before after)
+step_of (Ok x) p q before after same painted shows = record {
+  kept = kept_of (placed_footprint before.area p) (placed_layers before.area p) before after painted ((item_drawing p.item).stays (intersection_of p.area before.area));
+  placed = same;
   shows = shows;
 }
-step_of (Err e) p before after painted shows = tt
+step_of (Err e) p q before after same painted shows = tt
 
 -- what follows from an empty clip, and from what is asked where it is not
 pub either : (b : Bool) (P R : Type 0) → (b ≡ true → R) → (P → R) → (b ≡ false → P) → R

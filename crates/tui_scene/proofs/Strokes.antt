@@ -1,24 +1,16 @@
--- Strokes of widgets, and what they leave alone.
-use Rattle.std.proofs.Common.{◌≡◌, ℕ, Bool, ◌&&◌, ◌||◌, true, false, List, ◌++◌, [], ◌∷◌, refl, ◌∙◌, ap, sym, Some, None, Option, option_map}
+-- Strokes of widgets, what they leave alone, and the states that they leave.
+use Rattle.std.proofs.Common.{◌≡◌, ℕ, Bool, ◌&&◌, ◌||◌, true, false, List, ◌++◌, [], ◌∷◌, refl, ◌∙◌, ap, sym, Some, None, Option, option_map, map}
+use Rattle.std.proofs.lemmas.List.Concat.{flat_map-append}
+use Rattle.std.proofs.lemmas.List.{map-append}
 use Rattle.tui_cells.specs.declared.rect.Rect.{Rect}
-use Rattle.tui_cells.specs.Rect.{covers}
+use Rattle.tui_cells.specs.Rect.{intersection_of}
 use Rattle.tui_cells.specs.Buffer.{cell_at}
-use Rattle.tui_cells.specs.Cell.{Look, wipe}
+use Rattle.tui_cells.specs.Cell.{Look}
 use Rattle.tui_cells.specs.Layers.{Layer, layers_at}
-use Rattle.tui_cells.specs.Stays.{stroke_stays}
-use Rattle.tui_cells.proofs.Painting.{layers_at-append}
-use Rattle.tui_frames.specs.Fill.{fill_stays}
-use Rattle.tui_para.specs.Stays.{paragraph_stays}
-use Rattle.tui_scene.specs.Item.{ItemData, clear, fill, paragraph, PlacedData, item_footprint, item_layers, placed_footprint, placed_layers}
+use Rattle.tui_cells.proofs.Painting.{Painted-nowhere, layers_at-append}
+use Rattle.tui_scene.specs.Item.{ItemData, PlacedData, item_drawing, item_lasts, placed_after, placed_footprint, placed_layers}
 use Rattle.tui_scene.specs.Scene.{in_footprints, scene_layers}
-use Rattle.tui_scene.specs.Laws.{DisjointItemsCommute}
-
--- the strokes of a widget change nothing outside its footprint
-pub item_stays : (item : ItemData) (clip : Rect) (x y : ℕ) → item_footprint item clip x y ≡ false →
-    (c : Look) → layers_at (item_layers item clip) x y c ≡ c
-item_stays clear clip x y out c = stroke_stays (covers clip) wipe x y out c
-item_stays (fill f) clip x y out c = fill_stays f clip x y out c
-item_stays (paragraph p) clip x y out c = paragraph_stays p clip x y out c
+use Rattle.tui_scene.specs.Laws.{DisjointItemsCommute, StatesSettle, UnmetRests}
 
 -- strokes that change nothing outside a footprint, of which there are two with no position in common
 swapped : (P Q : List Layer) (f g : Bool) (x y : ℕ) → (f && g) ≡ false →
@@ -28,22 +20,68 @@ swapped P Q true true x y apart p q c = cc
 swapped P Q true false x y apart p q c = q refl (layers_at P x y c) ∙ ap (layers_at P x y) (sym (q refl c))
 swapped P Q false g x y apart p q c = ap (layers_at Q x y) (p refl c) ∙ sym (p refl (layers_at Q x y c))
 
-both : (P Q : List Layer) (x y : ℕ) (c : Look) → layers_at (P ++ (Q ++ [])) x y c ≡ layers_at Q x y (layers_at P x y c)
-both P Q x y c = layers_at-append P (Q ++ []) x y c ∙ layers_at-append Q [] x y (layers_at P x y c)
+-- the strokes of one scene and then those of another
+through : (area : Rect) (ps qs : List PlacedData) (x y : ℕ) (c : Look) →
+    layers_at (scene_layers area (ps ++ qs)) x y c ≡ layers_at (scene_layers area qs) x y (layers_at (scene_layers area ps) x y c)
+through area ps qs x y c =
+    ap (λ ls. layers_at ls x y c) (flat_map-append (placed_layers area) ps qs) ∙ layers_at-append (scene_layers area ps) (scene_layers area qs) x y c
 
-swapped_cell : (P Q : List Layer) (f g : Bool) (x y : ℕ) → (f && g) ≡ false →
-    (f ≡ false → (c : Look) → layers_at P x y c ≡ c) → (g ≡ false → (c : Look) → layers_at Q x y c ≡ c) →
-    (o : Option Look) → option_map (layers_at (P ++ (Q ++ [])) x y) o ≡ option_map (layers_at (Q ++ (P ++ [])) x y) o
-swapped_cell P Q f g x y apart p q None = refl
-swapped_cell P Q f g x y apart p q (Some c) =
-    ap Some (both P Q x y c ∙ (swapped P Q f g x y apart p q c ∙ sym (both Q P x y c)))
+-- the strokes of two widgets, and of those behind them
+two : (area : Rect) (p q : PlacedData) (qs : List PlacedData) (x y : ℕ) (c : Look) →
+    layers_at (scene_layers area (p ∷ q ∷ qs)) x y c
+    ≡ layers_at (scene_layers area qs) x y (layers_at (placed_layers area q) x y (layers_at (placed_layers area p) x y c))
+two area p q qs x y c =
+    layers_at-append (placed_layers area p) (scene_layers area (q ∷ qs)) x y c
+    ∙ layers_at-append (placed_layers area q) (scene_layers area qs) x y (layers_at (placed_layers area p) x y c)
+
+swapped_cell : (area : Rect) (ps : List PlacedData) (p q : PlacedData) (qs : List PlacedData) (x y : ℕ) →
+    (placed_footprint area p x y && placed_footprint area q x y) ≡ false → (o : Option Look) →
+    option_map (layers_at (scene_layers area (ps ++ p ∷ q ∷ qs)) x y) o ≡ option_map (layers_at (scene_layers area (ps ++ q ∷ p ∷ qs)) x y) o
+swapped_cell area ps p q qs x y apart None = refl
+swapped_cell area ps p q qs x y apart (Some c) =
+    let k = layers_at (scene_layers area ps) x y c in
+    let turned : layers_at (placed_layers area q) x y (layers_at (placed_layers area p) x y k)
+    ≡ layers_at (placed_layers area p) x y (layers_at (placed_layers area q) x y k) =
+    swapped (placed_layers area p) (placed_layers area q) (placed_footprint area p x y) (placed_footprint area q x y) x y apart
+    (λ out j. ((item_drawing p.item).stays (intersection_of p.area area)).cell x y out j)
+    (λ out j. ((item_drawing q.item).stays (intersection_of q.area area)).cell x y out j) k in
+    ap Some (through area ps (p ∷ q ∷ qs) x y c ∙ (two area p q qs x y k
+    ∙ (ap (layers_at (scene_layers area qs) x y) turned ∙ sym (through area ps (q ∷ p ∷ qs) x y c ∙ two area q p qs x y k))))
 
 pub order : DisjointItemsCommute
-order p q a b c apart first second x y =
-    first.cells x y ∙ (swapped_cell (placed_layers a.area p) (placed_layers a.area q)
-    (placed_footprint a.area p x y) (placed_footprint a.area q x y) x y (apart x y)
-    (λ out k. item_stays p.item _ x y out k) (λ out k. item_stays q.item _ x y out k) (cell_at a x y)
-    ∙ sym (second.cells x y))
+order ps p q qs firsts seconds a b c apart first second = (
+  λ x y. first.cells.cells x y ∙ (swapped_cell a.area ps p q qs x y (apart x y) (cell_at a x y) ∙ sym (second.cells.cells x y)),
+  record {
+    before = map (placed_after a.area) ps;
+    one = placed_after a.area p;
+    other = placed_after a.area q;
+    behind = map (placed_after a.area) qs;
+    first_is = first.states ∙ map-append (placed_after a.area) ps (p ∷ q ∷ qs);
+    second_is = second.states ∙ map-append (placed_after a.area) ps (q ∷ p ∷ qs);
+  },
+)
+
+placed_settles : (area : Rect) (p : PlacedData) → placed_after area (placed_after area p) ≡ placed_after area p
+placed_settles area p =
+    let clip = intersection_of p.area area in ap (λ (i : ItemData). record { area = p.area; item = i }) ((item_lasts p.item clip).settles)
+
+all_settle : (area : Rect) (ps : List PlacedData) → map (placed_after area) (map (placed_after area) ps) ≡ map (placed_after area) ps
+all_settle area [] = refl
+all_settle area (p ∷ ps) =
+    ap (λ (q : PlacedData). q ∷ map (placed_after area) (map (placed_after area) ps)) (placed_settles area p)
+    ∙ ap (λ (qs : List PlacedData). placed_after area p ∷ qs) (all_settle area ps)
+
+pub settled : StatesSettle
+settled old new again a b c d same first second =
+    second.states ∙ (ap (λ (r : Rect). map (placed_after r) new) same
+    ∙ (ap (map (placed_after a.area)) first.states ∙ (all_settle a.area old ∙ sym first.states)))
+
+pub unmet : UnmetRests
+unmet p a b e = (
+  ap (λ (i : ItemData). record { area = p.area; item = i }) ((item_lasts p.item (intersection_of p.area a.area)).rests e),
+  λ painted. (Painted-nowhere ((item_drawing p.item).stays (intersection_of p.area a.area))
+      ((item_drawing p.item).nowhere (intersection_of p.area a.area) e) painted).cells,
+)
 
 neither : (a b : Bool) → (a || b) ≡ false → (a ≡ false) × (b ≡ false)
 neither true b e = cc
@@ -56,7 +94,8 @@ scene_stays area [] x y out c = refl
 scene_stays area (p ∷ ps) x y out c =
     let each : (placed_footprint area p x y ≡ false) × (in_footprints area ps x y ≡ false) = neither _ _ out in
     layers_at-append (placed_layers area p) (scene_layers area ps) x y c
-    ∙ (scene_stays area ps x y each.1 (layers_at (placed_layers area p) x y c) ∙ item_stays p.item _ x y each.0 c)
+    ∙ (scene_stays area ps x y each.1 (layers_at (placed_layers area p) x y c)
+    ∙ ((item_drawing p.item).stays (intersection_of p.area area)).cell x y each.0 c)
 
 -- the footprints of widgets one after another
 pub outside_more : (area : Rect) (ps : List PlacedData) (p : PlacedData) (x y : ℕ) → in_footprints area (ps ++ p ∷ []) x y ≡ false →

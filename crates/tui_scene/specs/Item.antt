@@ -1,67 +1,103 @@
--- The widgets of a scene: what each draws, what it shows, and where.
-use Rattle.std.specs.Prelude.{◌≡◌, ℕ, ⊤, Bool, false, List}
+-- The widgets of a scene: what each is to the scene, and where.
+use Rattle.std.specs.Prelude.{◌≡◌, refl, ℕ, Bool, true, false, List}
 use Rattle.tui_cells.specs.declared.rect.Rect.{Rect}
-use Rattle.tui_cells.specs.Rect.{covers, intersection_of, is_empty}
+use Rattle.tui_cells.specs.Rect.{intersection_of, is_empty}
 use Rattle.tui_cells.specs.Buffer.{Screen}
-use Rattle.tui_cells.specs.Cell.{IsLight, wipe}
-use Rattle.tui_cells.specs.Layers.{Layer, Painted, stroke}
-use Rattle.tui_frames.specs.Fill.{FillData, fill_data, fill_layers}
+use Rattle.tui_cells.specs.Drawing.{Drawing, Moving}
+use Rattle.tui_cells.specs.Layers.{Layer, StayIn}
+use Rattle.tui_frames.specs.Clear.{clear_drawing}
+use Rattle.tui_frames.specs.Fill.{FillData, fill_data, fill_drawing}
+use Rattle.tui_para.specs.Drawing.{paragraph_drawing}
 use Rattle.tui_para.specs.Paragraph.{ParagraphData, paragraph_data}
-use Rattle.tui_para.specs.Rendering.{ParagraphShows, paragraph_layers}
 use Rattle.tui_scene.specs.declared.item.Item.{Item}
 use Rattle.tui_scene.specs.declared.item.Item.TheVariants as items
 use Rattle.tui_scene.specs.declared.placed.Placed.{Placed}
 
--- a widget as plain data
+-- a widget without a state, as plain data
+pub data StillData : Type 0 where
+  clear : StillData
+  fill : FillData → StillData
+  paragraph : ParagraphData → StillData
+
+-- a widget, with its state where it has one
 pub data ItemData : Type 0 where
-  clear : ItemData
-  fill : FillData → ItemData
-  paragraph : ParagraphData → ItemData
+  still : StillData → ItemData
+
+abbrev pub item_data : Item → ItemData
+item_data (items.Clear _) = still clear
+item_data (items.Fill f) = still (fill (fill_data f))
+item_data (items.Paragraph p) = still (paragraph (paragraph_data p))
+
+abbrev pub still_drawing : StillData → Drawing
+still_drawing clear = clear_drawing
+still_drawing (fill f) = fill_drawing f
+still_drawing (paragraph p) = paragraph_drawing p
+
+-- what a widget is to a scene, over the clip that it is given
+pub record ItemDrawing : Type 1 where
+  pub layers : Rect → List Layer
+  pub footprint : Rect → ℕ → ℕ → Bool
+  -- the widget with the state that a drawing leaves
+  pub after : Rect → ItemData
+  -- what is to be seen afterwards, by the widget as it is then
+  pub shows : ItemData → Rect → Screen → Screen → Type 0
+  pub light : Type 0
+  pub stays : (clip : Rect) → StayIn (footprint clip) (layers clip)
+  pub nowhere : (clip : Rect) → is_empty clip ≡ true → (x y : ℕ) → footprint clip x y ≡ false
+
+-- a widget without a state stays as it is
+abbrev pub without_state : ItemData → Drawing → ItemDrawing
+without_state item d = record {
+  layers = d.layers;
+  footprint = d.footprint;
+  after = λ clip. item;
+  shows = λ new clip before after. (new ≡ item) × d.shows clip before after;
+  light = d.light;
+  stays = d.stays;
+  nowhere = d.nowhere;
+}
+
+-- a widget with a state moves its state and nothing else of itself
+abbrev pub with_state : {S : Type 0} (item : S → ItemData) → Moving S → S → ItemDrawing
+with_state {S = S} item m s = record {
+  layers = m.layers s;
+  footprint = m.footprint;
+  after = λ clip. item (m.after clip s);
+  shows = λ new clip before after. (t : S) × (new ≡ item t) × m.shows s t clip before after;
+  light = m.light;
+  stays = m.stays s;
+  nowhere = m.nowhere;
+}
+
+abbrev pub item_drawing : ItemData → ItemDrawing
+item_drawing (still w) = without_state (still w) (still_drawing w)
+
+-- over an empty clip a widget rests, and drawn again over the same clip it keeps the state that the first drawing left
+pub record Lasts (item : ItemData) (clip : Rect) : Type 0 where
+  pub rests : is_empty clip ≡ true → (item_drawing item).after clip ≡ item
+  pub settles : (item_drawing ((item_drawing item).after clip)).after clip ≡ (item_drawing item).after clip
+
+pub item_lasts : (item : ItemData) (clip : Rect) → Lasts item clip
+item_lasts (still w) clip = record { rests = λ e. refl; settles = refl }
 
 -- a widget and its area
 pub record PlacedData : Type 0 where
   pub area : Rect
   pub item : ItemData
 
-abbrev pub item_data : Item → ItemData
-item_data (items.Clear _) = clear
-item_data (items.Fill f) = fill (fill_data f)
-item_data (items.Paragraph p) = paragraph (paragraph_data p)
-
 abbrev pub placed_data : Placed → PlacedData
 placed_data p = record { area = p.area; item = item_data p.item }
 
--- the strokes of a widget over its clip
-abbrev pub item_layers : ItemData → Rect → List Layer
-item_layers clear clip = stroke (covers clip) wipe
-item_layers (fill f) clip = fill_layers f clip
-item_layers (paragraph p) clip = paragraph_layers p clip
-
--- the positions that a widget may change
-abbrev pub item_footprint : ItemData → Rect → ℕ → ℕ → Bool
-item_footprint clear clip = covers clip
-item_footprint (fill f) clip = covers clip
-item_footprint (paragraph p) clip = covers clip
-
--- what a widget leaves to be seen: a Clear and a Fill their strokes, a Paragraph the lines of its text
-abbrev pub ItemShows : ItemData → Rect → Screen → Screen → Type 0
-ItemShows clear clip before after = Painted (item_layers clear clip) before after
-ItemShows (fill f) clip before after = Painted (item_layers (fill f) clip) before after
-ItemShows (paragraph p) clip before after = ParagraphShows p clip before after
-
--- a widget whose drawing takes no memory
-abbrev pub IsLightItem : ItemData → Type 0
-IsLightItem clear = ⊤
-IsLightItem (fill f) = IsLight f.symbol
-IsLightItem (paragraph p) = ⊥
-
 -- the same of a widget in a buffer of an area
 abbrev pub placed_layers : Rect → PlacedData → List Layer
-placed_layers area p = item_layers p.item (intersection_of p.area area)
+placed_layers area p = (item_drawing p.item).layers (intersection_of p.area area)
 
 abbrev pub placed_footprint : Rect → PlacedData → ℕ → ℕ → Bool
-placed_footprint area p = item_footprint p.item (intersection_of p.area area)
+placed_footprint area p = (item_drawing p.item).footprint (intersection_of p.area area)
+
+abbrev pub placed_after : Rect → PlacedData → PlacedData
+placed_after area p = record { area = p.area; item = (item_drawing p.item).after (intersection_of p.area area) }
 
 -- a widget that draws in a buffer of an area without taking memory: one that takes none, or one that does not meet the area
 abbrev pub IsLightPlaced : Rect → PlacedData → Type 0
-IsLightPlaced area p = is_empty (intersection_of p.area area) ≡ false → IsLightItem p.item
+IsLightPlaced area p = is_empty (intersection_of p.area area) ≡ false → (item_drawing p.item).light

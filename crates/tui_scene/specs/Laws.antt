@@ -1,8 +1,9 @@
 -- Laws of drawings.
-use Rattle.std.specs.Prelude.{◌≡◌, ℕ, ◌&&◌, List, [], ◌∷◌, false}
+use Rattle.std.specs.Prelude.{◌≡◌, ℕ, ◌&&◌, List, ◌∷◌, ◌++◌, map, false, true}
 use Rattle.tui_cells.specs.Buffer.{Screen, cell_at}
 use Rattle.tui_cells.specs.Layers.{Painted}
-use Rattle.tui_scene.specs.Item.{PlacedData, placed_footprint}
+use Rattle.tui_cells.specs.Rect.{intersection_of, is_empty}
+use Rattle.tui_scene.specs.Item.{PlacedData, placed_after, placed_footprint, placed_layers}
 use Rattle.tui_scene.specs.Scene.{scene_layers}
 
 -- two buffers of one area that agree at a position agree there after the same drawing
@@ -12,9 +13,34 @@ AgreementIsKept = (ps : List PlacedData) (a b after_a after_b : Screen) (x y : �
     Painted (scene_layers a.area ps) a after_a → Painted (scene_layers b.area ps) b after_b →
     cell_at after_a x y ≡ cell_at after_b x y
 
--- two widgets whose footprints have no position in common may be drawn in either order
+-- a drawing of widgets: the cells and the states that it leaves
+pub record Draws (old new : List PlacedData) (before after : Screen) : Type 0 where
+  pub cells : Painted (scene_layers before.area old) before after
+  pub states : new ≡ map (placed_after before.area) old
+
+-- two lists that differ in that two neighbours have changed places
+pub record AreSwapped (first second : List PlacedData) : Type 0 where
+  pub before : List PlacedData
+  pub one : PlacedData
+  pub other : PlacedData
+  pub behind : List PlacedData
+  pub first_is : first ≡ before ++ one ∷ other ∷ behind
+  pub second_is : second ≡ before ++ other ∷ one ∷ behind
+
+-- Two neighbours anywhere in a scene whose footprints have no position in common may be drawn in either order: the cells are
+-- the same, and so are the states, in turn.
 abbrev pub DisjointItemsCommute : Type 0
-DisjointItemsCommute = (p q : PlacedData) (a b c : Screen) →
+DisjointItemsCommute = (ps : List PlacedData) (p q : PlacedData) (qs first second : List PlacedData) (a b c : Screen) →
     ((x y : ℕ) → (placed_footprint a.area p x y && placed_footprint a.area q x y) ≡ false) →
-    Painted (scene_layers a.area (p ∷ q ∷ [])) a b → Painted (scene_layers a.area (q ∷ p ∷ [])) a c →
-    (x y : ℕ) → cell_at b x y ≡ cell_at c x y
+    Draws (ps ++ p ∷ q ∷ qs) first a b → Draws (ps ++ q ∷ p ∷ qs) second a c →
+    ((x y : ℕ) → cell_at b x y ≡ cell_at c x y) × AreSwapped first second
+
+-- widgets drawn a second time, in a buffer of the same area, keep their states
+abbrev pub StatesSettle : Type 0
+StatesSettle = (old new again : List PlacedData) (a b c d : Screen) →
+    c.area ≡ a.area → Draws old new a b → Draws new again c d → again ≡ new
+
+-- a widget that does not meet the buffer changes no cell and keeps its state
+abbrev pub UnmetRests : Type 0
+UnmetRests = (p : PlacedData) (a b : Screen) → is_empty (intersection_of p.area a.area) ≡ true →
+    (placed_after a.area p ≡ p) × (Painted (placed_layers a.area p) a b → (x y : ℕ) → cell_at b x y ≡ cell_at a x y)

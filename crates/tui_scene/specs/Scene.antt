@@ -5,17 +5,20 @@ use Rattle.tui_cells.specs.declared.rect.Rect.{Rect}
 use Rattle.tui_cells.specs.Rect.{intersection_of}
 use Rattle.tui_cells.specs.Buffer.{Screen}
 use Rattle.tui_cells.specs.Layers.{KeptOutside, Layer}
-use Rattle.tui_scene.specs.Item.{ItemShows, PlacedData, placed_footprint, placed_layers}
+use Rattle.tui_scene.specs.Item.{PlacedData, item_drawing, placed_footprint, placed_layers}
 
--- one step: the area and every cell outside the footprint are as before, and the widget shows what it shows
-pub record Step (p : PlacedData) (before after : Screen) : Type 0 where
-  pub kept : KeptOutside (placed_footprint before.area p) before after
-  pub shows : ItemShows p.item (intersection_of p.area before.area) before after
+-- One step: the buffer's area, every cell outside the footprint and the widget's own area are as before, and the widget shows
+-- what it shows, by its state before and after.
+pub record Step (old new : PlacedData) (before after : Screen) : Type 0 where
+  pub kept : KeptOutside (placed_footprint before.area old) before after
+  pub placed : new.area ≡ old.area
+  pub shows : (item_drawing old.item).shows new.item (intersection_of old.area before.area) before after
 
--- a run: a buffer between each two widgets, one step for each widget, in order
-abbrev pub Run : List PlacedData → Screen → Screen → Type 0
-Run [] first last = first ≡ last
-Run (p ∷ ps) first last = (next : Screen) × (Step p first next × Run ps next last)
+-- a run: a buffer between each two widgets, one step for each widget, in order, each from its own state
+abbrev pub Run : List PlacedData → List PlacedData → Screen → Screen → Type 0
+Run [] [] first last = first ≡ last
+Run (p ∷ ps) (q ∷ qs) first last = (next : Screen) × (Step p q first next × Run ps qs next last)
+Run _ _ first last = ⊥
 
 -- the strokes of widgets in order
 abbrev pub scene_layers : Rect → List PlacedData → List Layer

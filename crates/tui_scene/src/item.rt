@@ -1,6 +1,6 @@
 //! Widgets of a scene.
 
-ghost use Rattle.std.specs.Prelude.{IsOk, IsTrue, OnErr, OnOk};
+ghost use Rattle.std.specs.Prelude.{◌≡◌, IsOk, IsTrue, OnErr, OnOk};
 ghost use Rattle.tui_cells.specs.Layers.{KeptOutside, Painted};
 ghost use Rattle.tui_cells.specs.Rect.{intersection_of, is_empty};
 
@@ -18,17 +18,21 @@ pub enum Item<'a> {
 }
 
 impl<'a> Item<'a> {
-    ghost use Rattle.tui_scene.specs.Item.{IsLightItem, ItemShows, item_data, item_footprint, item_layers};
+    ghost use Rattle.tui_scene.specs.Item.{item_data, item_drawing};
 
-    /// Draws the widget in its area.
-    pub(crate) fn render(&self, alloc: Global, area: Rect, buf: &mut Buffer) -> Mem<()>
-        ensures ok { OnOk result (Painted (item_layers (item_data self.now) (intersection_of area buf.old.area)) buf.old buf.new) }
-        ensures shows { OnOk result (ItemShows (item_data self.now) (intersection_of area buf.old.area) buf.old buf.new) }
-        ensures err { OnErr result (KeptOutside (item_footprint (item_data self.now) (intersection_of area buf.old.area)) buf.old buf.new) }
+    /// Draws the widget in its area, and leaves its state moved. At NoMemory the item is as before.
+    pub(crate) fn render(&mut self, alloc: Global, area: Rect, buf: &mut Buffer) -> Mem<()>
+        ensures ok { OnOk result (Painted ((item_drawing (item_data self.old)).layers (intersection_of area buf.old.area)) buf.old buf.new) }
+        ensures state { OnOk result (item_data self.new ≡ (item_drawing (item_data self.old)).after (intersection_of area buf.old.area)) }
+        ensures shows { OnOk result
+            ((item_drawing (item_data self.old)).shows (item_data self.new) (intersection_of area buf.old.area) buf.old buf.new) }
+        ensures err { OnErr result
+            (KeptOutside ((item_drawing (item_data self.old)).footprint (intersection_of area buf.old.area)) buf.old buf.new) }
+        ensures err_state { OnErr result (item_data self.new ≡ item_data self.old) }
         ensures empty { IsTrue (is_empty (intersection_of area buf.old.area)) → IsOk result }
-        ensures light { IsLightItem (item_data self.now) → IsOk result }
+        ensures light { (item_drawing (item_data self.old)).light → IsOk result }
     {
-        match self {
+        match &*self {
             Item::Clear(clear) => clear.render(alloc, area, buf),
             Item::Fill(fill) => fill.render(alloc, area, buf),
             Item::Paragraph(paragraph) => paragraph.render(alloc, area, buf),

@@ -8,7 +8,7 @@ use Rattle.tui_cells.specs.Buffer.{IsFilled, IsScreen, Screen}
 use Rattle.tui_cells.specs.Cell.{blank}
 use Rattle.tui_cells.specs.Layers.{Painted}
 use Rattle.tui_cells.specs.Rect.{area_of}
-use Rattle.tui_scene.specs.Item.{PlacedData}
+use Rattle.tui_scene.specs.Item.{PlacedData, placed_after}
 use Rattle.tui_scene.specs.Scene.{Run, scene_layers}
 use Rattle.tui_port.specs.Causes.{Gave, Puts, Rose}
 use Rattle.tui_port.specs.Print.{IsPrint}
@@ -76,18 +76,20 @@ pub record Unwritten (call : Call) : Type 0 where
   pub held : Keeps call.held call.held_then
   pub quiet : call.writes_then ≡ call.writes
 
--- A run over the widgets leads from the blank buffer of a size to this screen. Besides, each cell is the blank one under the
--- strokes of the widgets in turn, so there is no other such screen.
-pub record IsDrawn (width height : ℕ) (items : List PlacedData) (last : Screen) : Type 0 where
+-- A run over the widgets leads from the blank buffer of a size and the old states to this screen and the new states. Besides,
+-- each cell is the blank one under the strokes of the widgets in turn, and each state is the one that its widget leaves, so
+-- there is no other such screen and there are no other such states.
+pub record IsDrawn (width height : ℕ) (old new : List PlacedData) (last : Screen) : Type 0 where
   pub first : Screen
   pub blank_first : IsFilled (area_of 0 0 width height) blank first
-  pub run : Run items first last
-  pub strokes : Painted (scene_layers first.area items) first last
+  pub run : Run old new first last
+  pub strokes : Painted (scene_layers first.area old) first last
+  pub states : new ≡ map (placed_after first.area) old
   pub shape : IsScreen last
 
 -- what is to be written for a scene, and how the run then ends
 abbrev pub IsDueOf : SceneData → List ℕ → Ended → Type 0
-IsDueOf s text ended.Ok = (last : Screen) × IsDrawn s.width s.height s.items last × IsPrint last s.items text
+IsDueOf s text ended.Ok = (new : List PlacedData) × (last : Screen) × IsDrawn s.width s.height s.items new last × IsPrint last new text
 IsDueOf s text e = ⊥
 
 -- the same for a value

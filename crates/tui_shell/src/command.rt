@@ -91,10 +91,9 @@ fn show_scene<K: Sink>(alloc: Global, reading: &mut Reading<'_>, sink: &mut K) -
     }
 }
 
-/// The buffer of this size that a run over the widgets reaches from a blank one.
+/// The buffer of this size that a run over the widgets reaches from a blank one; the scene has the new states.
 fn drawn(alloc: Global, width: u16, height: u16, scene: &mut Scene<'_>) -> Mem<Buffer>
-    ensures drawn { IfOk result (IsDrawn width height scene.old) }
-    ensures scene { scene.new ≡ scene.old }
+    ensures { IfOk result (IsDrawn width height scene.old scene.new) }
 {
     let mut buffer = Buffer::empty(alloc, Rect::new(0, 0, width, height))?;
     match draw(alloc, scene, &mut buffer) {

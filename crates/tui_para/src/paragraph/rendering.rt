@@ -1,14 +1,14 @@
 //! How a paragraph is drawn.
 
-ghost use Rattle.std.specs.Prelude.{◌≡◌, ◌<◌, ℕ, false, drop, IsOk, IsTrue, OnErr, OnOk};
+ghost use Rattle.std.specs.Prelude.{◌<◌, drop, IsOk, IsTrue, OnOk};
 ghost use Rattle.tui_cells.specs.Layers.{KeptOutside, Painted};
-ghost use Rattle.tui_cells.specs.Rect.{covers, intersection_of, is_empty};
-ghost use Rattle.tui_para.specs.Stays.{paragraph_stays};
+ghost use Rattle.tui_cells.specs.Rect.{covers, is_empty};
+ghost use Rattle.tui_para.specs.Drawing.{paragraph_drawing};
 ghost use Rattle.tui_para.specs.Paragraph.{paragraph_data};
-ghost use Rattle.tui_para.specs.Rendering.{ParagraphShows, paragraph_layers, paragraph_lines};
+ghost use Rattle.tui_para.specs.Rendering.{paragraph_layers, paragraph_lines};
 ghost use Rattle.tui_para.specs.Strokes.{glyph_lines_layers};
 
-use crate::painting::paint_lines;
+use crate::painting::{dress_area, paint_lines};
 use crate::paragraph::Paragraph;
 use crate::text_lines::TextLines;
 use crate::truncator::LineTruncator;
@@ -48,26 +48,16 @@ impl<'a> Paragraph<'a> {
         if clip.is_empty() {
             return Ok(());
         }
-        buf.set_style(clip, self.style);
+        dress_area(buf, clip, self.style);
         self.paint_text(alloc, buf, clip)
     }
 }
 
 impl<'a> Widget for Paragraph<'a> {
-    ghost layers = { λ paragraph clip. paragraph_layers (paragraph_data paragraph) clip };
+    ghost drawing = { λ paragraph. paragraph_drawing (paragraph_data paragraph) };
 
-    ghost footprint = { λ _ clip. covers clip };
-
-    /// Draws. Besides what every widget promises: the clip shows the paragraph's lines from the scroll line on.
-    fn render(&self, alloc: Global, area: Rect, buf: &mut Buffer) -> Mem<()>
-        ensures ok { OnOk result (Painted (paragraph_layers (paragraph_data self.now) (intersection_of area buf.old.area)) buf.old buf.new) }
-        ensures err { OnErr result (KeptOutside (covers (intersection_of area buf.old.area)) buf.old buf.new) }
-        ensures empty { IsTrue (is_empty (intersection_of area buf.old.area)) → IsOk result }
-        ensures shows { OnOk result (ParagraphShows (paragraph_data self.now) (intersection_of area buf.old.area) buf.old buf.new) }
-    {
+    fn render(&self, alloc: Global, area: Rect, buf: &mut Buffer) -> Mem<()> {
         let clip = area.intersection(buf.area());
         self.paint_in(alloc, buf, clip)
     }
-
-    ghost stays = { λ paragraph clip. paragraph_stays (paragraph_data paragraph) clip };
 }

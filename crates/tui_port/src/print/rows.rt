@@ -31,8 +31,9 @@ fn put_row<K: Sink>(gather: &mut Gather, row: &[Cell], sink: &mut K)
         if hidden > 0 {
             hidden -= 1;
         } else {
-            put_symbol(gather, cell.symbol(), sink);
-            hidden = steps.step(cell.symbol()).saturating_sub(1);
+            let symbol = cell.symbol();
+            put_symbol(gather, symbol, sink);
+            hidden = steps.step(symbol).saturating_sub(1);
         }
     }
     gather.push(sink, b'\n');

@@ -1,5 +1,11 @@
-use Rattle.tui_scene.proofs.Strokes.{order}
+use Rattle.tui_scene.proofs.Strokes.{order, settled, unmet}
 use Rattle.tui_scene.proofs.laws.drawing_laws.Goals as goal
 
 pub returns-clause-order : goal.returns-clause-order
 returns-clause-order c = order
+
+pub returns-clause-again : goal.returns-clause-again
+returns-clause-again c = settled
+
+pub returns-clause-unmet : goal.returns-clause-unmet
+returns-clause-unmet c = unmet

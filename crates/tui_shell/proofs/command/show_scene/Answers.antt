@@ -8,7 +8,7 @@ use Rattle.tui_shell.proofs.command.show_scene.Goals as goal
 
 pub returns-in-Ok : goal.returns-in-Ok
 returns-in-Ok g c =
-    let w = rw c.in-Ok.ensures.scene at c.write_screen.ensures in
+    let w = c.write_screen.ensures in
     let puts = puts_of _ _ _ _ c.write_screen.result w.0 w.2 in
     rw (c.if_put.ensures, c.is_ok.ensures.value) (written (IsDueOf (reading_data c.args.reading.now)) (is_ok c.write_screen.result) ended.Ok w.0 _ _ _ _ refl
-    (c.in-Ok.buffer, c.in-Ok.ensures.drawn, w.1) puts)
+    (c.drawn.new.scene, c.in-Ok.buffer, c.in-Ok.ensures, w.1) puts)
