@@ -139,3 +139,10 @@ Painted-nowhere {ls = ls} {a = a} s none p = record {
   area = p.area;
   cells = λ x y. p.cells x y ∙ sym (still_at ls x y (cell_at a x y) (s.cell x y (none x y)));
 }
+
+-- strokes that stay in a region leave all outside it
+pub Painted-kept : {region : ℕ → ℕ → Bool} {ls : List Layer} {a b : Screen} → StayIn region ls → Painted ls a b → KeptOutside region a b
+Painted-kept {ls = ls} {a = a} s p = record {
+  area = p.area;
+  cells = λ x y out. p.cells x y ∙ sym (still_at ls x y (cell_at a x y) (s.cell x y out));
+}

@@ -3,3 +3,8 @@ pub mod OneByte
 pub mod PartClusters
 pub mod Seams
 pub mod Texts
+pub mod RowStays
+pub mod RowStrokes
+pub mod Settings
+pub mod TextRows
+pub mod Elements

@@ -1,0 +1,44 @@
+-- An element of a list that is seen by a function, and answers that hold of an Ok.
+use Rattle.std.proofs.Common.{◌≡◌, ℕ, ◌+◌, ◌<◌, ◌≤◌, List, [], ◌∷◌, All, Result, Ok, Err, OnOk, IfOk, drop, get_or, length, map, nat_lt, sum_by, true, arith, ◌∙◌, ap, sym, subst, add-one, drop-cons}
+use Rattle.std.proofs.lemmas.List.{drop_all, get_or-map, length-map}
+use Rattle.std.proofs.lemmas.Bool.Decides.{nat_tests}
+use Rattle.std.proofs.lemmas.List.Elements.{All-get_or}
+use Rattle.std.proofs.lemmas.List.Sums.{get_or-le-sum_by}
+
+-- what holds of each element, as it is seen, holds of one
+pub seen_at : {A B : Type 0} (f : A → B) (P : B → Type 0) (xs : List A) (i : ℕ) (x d : A) → i < length xs → x ≡ get_or xs i d → All P (map f xs) → P (f x)
+seen_at f P xs i x d lt at all =
+    subst P (get_or-map f xs i d (f x) lt ∙ sym (ap f at)) (All-get_or P (map f xs) i (f x) (rw (length-map xs f) lt) all)
+
+-- the elements from one on are that one and the others
+pub seen_from : {A B : Type 0} (f : A → B) (xs : List A) (i : ℕ) (x d : A) → i < length xs → x ≡ get_or xs i d → map f (drop i xs) ≡ f x ∷ map f (drop (i + 1) xs)
+seen_from f xs i x d lt at =
+    let e : drop i xs ≡ get_or xs i d ∷ drop (i + 1) xs = rw add-one (drop-cons xs i d lt) in
+    ap (map f) (e ∙ ap (λ y. y ∷ drop (i + 1) xs) (sym at))
+
+-- the same of elements that are seen in two steps
+pub seen_twice_from : {A B C : Type 0} (g : B → C) (f : A → B) (xs : List A) (i : ℕ) (x d : A) → i < length xs → x ≡ get_or xs i d →
+    map g (map f (drop i xs)) ≡ g (f x) ∷ map g (map f (drop (i + 1) xs))
+seen_twice_from g f xs i x d lt at = ap (map g) (seen_from f xs i x d lt at)
+
+-- past the last element there is none
+pub none_from : {A : Type 0} (xs : List A) (i : ℕ) → length xs ≤ i → drop i xs ≡ []
+none_from xs i le = drop_all i xs le
+
+positive : (m n : ℕ) → m ≤ n → nat_lt 0 m ≡ true → nat_lt 0 n ≡ true
+positive m n le e = grind (arith, nat_tests)
+
+-- a sum is above 0 where a part of it is
+pub some_in : {A B : Type 0} (g : B → ℕ) (f : A → B) (xs : List A) (i : ℕ) (d : A) → i < length xs → nat_lt 0 (g (f (get_or xs i d))) ≡ true →
+    nat_lt 0 (sum_by g (map f xs)) ≡ true
+some_in g f xs i d lt e =
+    positive (g (get_or (map f xs) i (f d))) (sum_by g (map f xs)) (get_or-le-sum_by g (map f xs) i (f d) (rw (length-map xs f) lt))
+    (rw (get_or-map f xs i d (f d) lt) e)
+
+pub on_ok : {T E P Q : Type 0} (r : Result T E) → (P → Q) → OnOk r P → OnOk r Q
+on_ok (Ok x) f p = f p
+on_ok (Err e) f p = tt
+
+pub if_ok : {T E : Type 0} {P Q : T → Type 0} (r : Result T E) → ((x : T) → P x → Q x) → IfOk r P → IfOk r Q
+if_ok (Ok x) f p = f x p
+if_ok (Err e) f p = tt

@@ -1,0 +1,8 @@
+use Rattle.std.proofs.Common.{rules}
+use Rattle.tui_cells.proofs.Painting.{KeptOutside-then}
+use Rattle.tui_text.proofs.RowStays.{dressed_kept}
+use Rattle.tui_text.proofs.painting.paint_row.Goals as goal
+
+pub returns-clause-kept : goal.returns-clause-kept
+returns-clause-kept c =
+    KeptOutside-then (dressed_kept c.args.row _ _ _ (search rules) c.set_style.ensures) c.paint_glyphs.ensures.kept

@@ -1,0 +1,262 @@
+//! Painting of lines in rows, and of texts in areas.
+
+ghost use Rattle.std.specs.Prelude.{◌≡◌, ◌+◌, ◌-◌, ◌^◌, ◌≤◌, ◌<◌, All, IsOk, OnOk, false, map};
+ghost use Rattle.tui_cells.specs.Cell.{IsLight};
+ghost use Rattle.tui_cells.specs.Layers.{KeptOutside, Painted};
+ghost use Rattle.tui_cells.specs.Rect.{covers, intersection_of};
+ghost use Rattle.tui_text.specs.Grapheme.{glyph_of, glyph_width};
+ghost use Rattle.tui_text.specs.Graphemes.{glyphs_left};
+ghost use Rattle.tui_text.specs.Line.{line_data};
+ghost use Rattle.tui_text.specs.Painting.{
+  alignment_in,
+  before_it,
+  below,
+  cells_at,
+  column_at,
+  glyph_at,
+  lines_layers,
+  row_layers,
+  shown_glyph,
+  shown_glyphs,
+  text_layers,
+};
+ghost use Rattle.tui_text.specs.Setting.{AreLight};
+ghost use Rattle.tui_text.specs.Text.{text_data};
+ghost use Rattle.tui_text.specs.Width.{line_width, saturated};
+
+use crate::alignment::Alignment;
+use crate::grapheme::StyledGrapheme;
+use crate::graphemes::Graphemes;
+use crate::line::Line;
+use crate::text::Text;
+use crate::width::{cell_width, has_columns};
+use tui_cells::{Buffer, Mem, Position, Rect, Style};
+
+/// Puts a grapheme of a width in its columns.
+pub(crate) fn put_glyph(
+    buf: &mut Buffer,
+    x: u16,
+    y: u16,
+    grapheme: &StyledGrapheme<'_>,
+    width: u16,
+) -> Mem<()>
+    requires width { width ≡ glyph_width (glyph_of grapheme.now) }
+    requires within { (0 < width) × (x + width ≤ 65535) }
+    ensures ok { OnOk result (Painted (glyph_at x y (glyph_of grapheme.now)) buf.old buf.new) }
+    ensures kept { KeptOutside (covers (cells_at x y width)) buf.old buf.new }
+    ensures light { IsLight (glyph_of grapheme.now).text → IsOk result }
+{
+    buf.set_symbol(Position { x, y }, grapheme.symbol)?;
+    let cell = Rect {
+        x,
+        y,
+        width: 1,
+        height: 1,
+    };
+    buf.set_style(cell, grapheme.style);
+    let behind = Rect {
+        x: x + 1,
+        y,
+        width: width - 1,
+        height: 1,
+    };
+    buf.reset(behind);
+    Ok(())
+}
+
+/// The column where a grapheme of a width begins, if it lies whole inside the row.
+fn column_at(row: Rect, skip: usize, place: usize, width: u16) -> Option<u16>
+    ensures is { result ≡ column_at row skip place width }
+{
+    if width == 0 || place < skip || row.y >= row.bottom() {
+        return None;
+    }
+    let room = (row.right() - row.x) as usize;
+    let from = place - skip;
+    if from >= room || width as usize > room - from {
+        return None;
+    }
+    Some(row.x + from as u16)
+}
+
+fn paint_glyph(
+    buf: &mut Buffer,
+    row: Rect,
+    skip: usize,
+    place: usize,
+    grapheme: &StyledGrapheme<'_>,
+    width: u16,
+) -> Mem<()>
+    requires { width ≡ glyph_width (glyph_of grapheme.now) }
+    ensures ok { OnOk result (Painted (shown_glyph row skip place (glyph_of grapheme.now)) buf.old buf.new) }
+    ensures kept { KeptOutside (covers row) buf.old buf.new }
+    ensures light { IsLight (glyph_of grapheme.now).text → IsOk result }
+{
+    match column_at(row, skip, place, width) {
+        None => Ok(()),
+        Some(x) => put_glyph(buf, x, row.y, grapheme, width),
+    }
+}
+
+/// Puts graphemes side by side from a place on, each that lies whole inside the row.
+fn paint_glyphs(
+    buf: &mut Buffer,
+    row: Rect,
+    skip: usize,
+    start: usize,
+    graphemes: Graphemes<'_, '_>,
+) -> Mem<()>
+    requires { skip + row.width < 2 ^ 64 }
+    ensures ok { OnOk result (Painted (shown_glyphs row skip start (glyphs_left graphemes.entry)) buf.old buf.new) }
+    ensures kept { KeptOutside (covers row) buf.old buf.new }
+    ensures light { All (λ g. IsLight g.text) (glyphs_left graphemes.entry) → IsOk result }
+{
+    let end = skip.saturating_add(row.width as usize);
+    let mut place = start;
+    for grapheme in graphemes {
+        if place >= end {
+            return Ok(());
+        }
+        let width = cell_width(grapheme.symbol);
+        paint_glyph(buf, row, skip, place, &grapheme, width)?;
+        place = place.saturating_add(width as usize);
+    }
+    Ok(())
+}
+
+/// How much of what is left of a room lies before what is placed in it.
+fn before_it(alignment: Alignment, room: usize, width: usize) -> usize
+    ensures is { result ≡ before_it alignment room width }
+    ensures within { result ≤ room - width }
+{
+    match alignment {
+        Alignment::Left => 0,
+        Alignment::Center => room.saturating_sub(width) / 2,
+        Alignment::Right => room.saturating_sub(width),
+    }
+}
+
+/// Paints a line in the first row of an area, as `paint_line` does where the area lies in its clip and in the buffer.
+///
+/// A line that begins at the left is read once, and another once more for its width.
+#[tactic(auto, using(crate::proofs::TextRows::light_glyphs), unfolding(crate::specs::Painting::row_layers))]
+pub fn paint_row(buf: &mut Buffer, row: Rect, line: &Line<'_>, alignment: Alignment) -> Mem<()>
+    ensures ok { OnOk result (Painted (row_layers row alignment (line_data line.now)) buf.old buf.new) }
+    ensures kept { KeptOutside (covers row) buf.old buf.new }
+    ensures light { AreLight (line_data line.now).spans → IsOk result }
+{
+    if row.is_empty() || !has_columns(line.spans()) {
+        return Ok(());
+    }
+    let (skip, start) = beginning(line, alignment, row.width);
+    buf.set_style(Rect { height: 1, ..row }, line.line_style());
+    paint_glyphs(
+        buf,
+        row,
+        skip,
+        start,
+        Graphemes::new(line.spans(), Style::new()),
+    )
+}
+
+/// The columns of a line that are cut at its left, and the columns of a row before a line that fits.
+fn beginning(line: &Line<'_>, alignment: Alignment, room: u16) -> (usize, usize)
+    ensures skip { result.0 ≡ before_it alignment (saturated (line_width false (line_data line.now))) room }
+    ensures start { result.1 ≡ before_it alignment room (saturated (line_width false (line_data line.now))) }
+    ensures within { result.0 + room < 2 ^ 64 }
+{
+    match alignment {
+        Alignment::Left => (0, 0),
+        Alignment::Center | Alignment::Right => {
+            let width = line.width();
+            let room = room as usize;
+            (
+                before_it(alignment, width, room),
+                before_it(alignment, room, width),
+            )
+        }
+    }
+}
+
+/// Paints a line in the first row of its area within the clip and the buffer: its style on the row, then each grapheme that
+/// lies whole inside, in its span's style, the cells behind a wide one made blank. A line that fits is indented by its free
+/// columns: none (Left), half of them (Center) or all (Right); a wider one loses columns at its left in the same way. A line
+/// without columns changes nothing. At NoMemory nothing outside that part has changed; graphemes of at most 8 bytes take no
+/// memory.
+pub fn paint_line(
+    buf: &mut Buffer,
+    clip: Rect,
+    area: Rect,
+    line: &Line<'_>,
+    alignment: Alignment,
+) -> Mem<()>
+    ensures ok { OnOk result
+        (Painted (row_layers (intersection_of area (intersection_of clip buf.old.area)) alignment (line_data line.now)) buf.old buf.new) }
+    ensures kept { KeptOutside (covers (intersection_of area (intersection_of clip buf.old.area))) buf.old buf.new }
+    ensures light { AreLight (line_data line.now).spans → IsOk result }
+{
+    let part = clip.intersection(buf.area());
+    paint_row(buf, area.intersection(part), line, alignment)
+}
+
+/// What is left of an area below its first row.
+fn below(area: Rect) -> Rect
+    ensures { result ≡ below area }
+{
+    Rect {
+        x: area.x,
+        y: area.y.saturating_add(1),
+        width: area.width,
+        height: area.height.saturating_sub(1),
+    }
+}
+
+/// A line's own alignment, else the text's, else Left.
+fn alignment_in(given: Option<Alignment>, line: &Line<'_>) -> Alignment
+    ensures { result ≡ alignment_in given (line_data line.now) }
+{
+    line.line_alignment().or(given).unwrap_or(Alignment::Left)
+}
+
+fn paint_lines(
+    buf: &mut Buffer,
+    area: Rect,
+    lines: &[Line<'_>],
+    given: Option<Alignment>,
+) -> Mem<()>
+    ensures ok { OnOk result (Painted (lines_layers area given (map line_data lines.now)) buf.old buf.new) }
+    ensures kept { KeptOutside (covers area) buf.old buf.new }
+    ensures light { All (λ l. AreLight l.spans) (map line_data lines.now) → IsOk result }
+{
+    let mut rest = area;
+    for line in lines {
+        if rest.is_empty() {
+            return Ok(());
+        }
+        paint_row(buf, rest, line, alignment_in(given, line))?;
+        rest = below(rest);
+    }
+    Ok(())
+}
+
+/// Paints a text in an area, as `paint_text` does where the area lies in its clip and in the buffer.
+pub fn paint_rows(buf: &mut Buffer, area: Rect, text: &Text<'_>) -> Mem<()>
+    ensures ok { OnOk result (Painted (text_layers area (text_data text.now)) buf.old buf.new) }
+    ensures kept { KeptOutside (covers area) buf.old buf.new }
+    ensures light { All (λ l. AreLight l.spans) (text_data text.now).lines → IsOk result }
+{
+    buf.set_style(area, text.text_style());
+    paint_lines(buf, area, text.lines(), text.text_alignment())
+}
+
+/// Paints a text in its area within the clip and the buffer: its style on that part, then line i in row i as `paint_line` does,
+/// by the line's alignment, else the text's, else Left. Lines past the last row are left out. At NoMemory as `paint_line`.
+pub fn paint_text(buf: &mut Buffer, clip: Rect, area: Rect, text: &Text<'_>) -> Mem<()>
+    ensures ok { OnOk result
+        (Painted (text_layers (intersection_of area (intersection_of clip buf.old.area)) (text_data text.now)) buf.old buf.new) }
+    ensures kept { KeptOutside (covers (intersection_of area (intersection_of clip buf.old.area))) buf.old buf.new }
+    ensures light { All (λ l. AreLight l.spans) (text_data text.now).lines → IsOk result }
+{
+    let part = clip.intersection(buf.area());
+    paint_rows(buf, area.intersection(part), text)
+}

@@ -1,0 +1,167 @@
+//! Texts set from a position on.
+
+ghost use Rattle.std.specs.Prelude.{◌≡◌, ◌+◌, ◌≤◌, [], ◌∷◌, All, IfOk, IsOk, OnOk, map, true};
+ghost use Rattle.tui_cells.specs.Cell.{IsLight};
+ghost use Rattle.tui_cells.specs.Layers.{KeptOutside, Painted};
+ghost use Rattle.tui_cells.specs.Rect.{covers, intersection_of, right_of};
+ghost use Rattle.tui_text.specs.Grapheme.{width_of};
+ghost use Rattle.tui_text.specs.Graphemes.{clusters};
+ghost use Rattle.tui_text.specs.Line.{line_data};
+ghost use Rattle.tui_text.specs.Painting.{cells_at};
+ghost use Rattle.tui_text.specs.Span.{span_data};
+ghost use Rattle.tui_text.specs.Setting.{AreLight, in_line, line_spans, room_in, set_cluster, set_clusters, set_column, set_end, set_layers, spans_end, spans_layers, styled_text};
+
+use crate::clusters::Clusters;
+use crate::grapheme::StyledGrapheme;
+use crate::line::Line;
+use crate::painting::put_glyph;
+use crate::span::Span;
+use crate::width::cell_width;
+use tui_cells::{Buffer, Mem, Position, Rect, Style};
+
+/// Puts a grapheme of a width in its columns, if it has any.
+fn put_cluster(buf: &mut Buffer, x: u16, y: u16, text: &str, style: Style, width: u16) -> Mem<()>
+    requires width { width ≡ width_of text.now }
+    requires within { x + width ≤ 65535 }
+    ensures ok { OnOk result (Painted (set_cluster x y style text.now) buf.old buf.new) }
+    ensures kept { KeptOutside (covers (cells_at x y width)) buf.old buf.new }
+    ensures light { IsLight text.now → IsOk result }
+{
+    if width == 0 {
+        return Ok(());
+    }
+    let grapheme = StyledGrapheme {
+        symbol: text,
+        style,
+    };
+    put_glyph(buf, x, y, &grapheme, width)
+}
+
+/// Sets graphemes in a room of columns, and answers the column after the last one used.
+fn set_clusters(buf: &mut Buffer, at: Position, room: u16, text: &str, style: Style) -> Mem<u16>
+    requires { at.x + room ≤ 65535 }
+    ensures ok { OnOk result (Painted (set_clusters at.x at.y room style (clusters text.now)) buf.old buf.new) }
+    ensures end { IfOk result (λ x. x ≡ set_end at.x room (clusters text.now)) }
+    ensures within { IfOk result (λ x. (at.x ≤ x) × (x ≤ at.x + room)) }
+    ensures kept { KeptOutside (covers (cells_at at.x at.y room)) buf.old buf.new }
+    ensures light { All IsLight (clusters text.now) → IsOk result }
+{
+    let mut x = at.x;
+    let mut left = room;
+    for cluster in Clusters::new(text) {
+        let width = cell_width(cluster);
+        if width > left {
+            return Ok(x);
+        }
+        put_cluster(buf, x, at.y, cluster, style, width)?;
+        x += width;
+        left -= width;
+    }
+    Ok(x)
+}
+
+/// Sets the spans of a line one after another, each in what is left of the room.
+fn set_spans(
+    buf: &mut Buffer,
+    at: Position,
+    room: u16,
+    spans: &[Span<'_>],
+    style: Style,
+) -> Mem<u16>
+    requires { at.x + room ≤ 65535 }
+    ensures ok { OnOk result (Painted (spans_layers at.x at.y room (map (in_line style) (map span_data spans.now))) buf.old buf.new) }
+    ensures end { IfOk result (λ x. x ≡ spans_end at.x room (map (in_line style) (map span_data spans.now))) }
+    ensures kept { KeptOutside (covers (cells_at at.x at.y room)) buf.old buf.new }
+    ensures light { AreLight (map span_data spans.now) → IsOk result }
+{
+    let mut x = at.x;
+    let mut left = room;
+    for span in spans {
+        let next = set_clusters(
+            buf,
+            Position { x, y: at.y },
+            left,
+            span.content,
+            style.patch(span.style),
+        )?;
+        left -= next - x;
+        x = next;
+    }
+    Ok(x)
+}
+
+/// The columns that a text set at a position of a clip may use.
+fn room_in(clip: Rect, at: Position, room: usize) -> u16
+    requires { covers clip at.x at.y ≡ true }
+    ensures is { result ≡ room_in clip at.x room }
+    ensures within { at.x + result ≤ right_of clip }
+{
+    room.min((clip.right() - at.x) as usize) as u16
+}
+
+/// Sets a text from a position on in `room` columns at most, as far as the clip and the buffer go: each grapheme of width above
+/// 0 with the style, until the first that does not fit, the cells behind a wide one made blank. Answers the column after the
+/// last one used. A position outside the clip changes nothing, and the answer is its column. At NoMemory no cell outside the
+/// clip has changed; graphemes of at most 8 bytes take no memory.
+pub fn set_stringn(
+    buf: &mut Buffer,
+    clip: Rect,
+    at: Position,
+    text: &str,
+    room: usize,
+    style: Style,
+) -> Mem<u16>
+    ensures ok { OnOk result (Painted (set_layers (intersection_of clip buf.old.area) at (styled_text text.now style) room) buf.old buf.new) }
+    ensures end { IfOk result (λ x. x ≡ set_column (intersection_of clip buf.old.area) at (styled_text text.now style) room) }
+    ensures kept { KeptOutside (covers (intersection_of clip buf.old.area)) buf.old buf.new }
+    ensures light { AreLight (styled_text text.now style) → IsOk result }
+{
+    let clip = clip.intersection(buf.area());
+    if !clip.contains(at) {
+        return Ok(at.x);
+    }
+    set_clusters(buf, at, room_in(clip, at, room), text, style)
+}
+
+/// Sets a span's text in its style, as `set_stringn` does.
+pub fn set_span(
+    buf: &mut Buffer,
+    clip: Rect,
+    at: Position,
+    span: &Span<'_>,
+    room: usize,
+) -> Mem<u16>
+    ensures ok { OnOk result (Painted (set_layers (intersection_of clip buf.old.area) at (span_data span.now ∷ []) room) buf.old buf.new) }
+    ensures end { IfOk result (λ x. x ≡ set_column (intersection_of clip buf.old.area) at (span_data span.now ∷ []) room) }
+    ensures kept { KeptOutside (covers (intersection_of clip buf.old.area)) buf.old buf.new }
+    ensures light { AreLight (span_data span.now ∷ []) → IsOk result }
+{
+    set_stringn(buf, clip, at, span.content, room, span.style)
+}
+
+/// Sets the spans of a line one after another as `set_stringn` does, each in the line's style patched by its own and in the
+/// room that is left. A grapheme that does not fit ends its span; the next span goes on in the columns left.
+pub fn set_line(
+    buf: &mut Buffer,
+    clip: Rect,
+    at: Position,
+    line: &Line<'_>,
+    room: usize,
+) -> Mem<u16>
+    ensures ok { OnOk result (Painted (set_layers (intersection_of clip buf.old.area) at (line_spans (line_data line.now)) room) buf.old buf.new) }
+    ensures end { IfOk result (λ x. x ≡ set_column (intersection_of clip buf.old.area) at (line_spans (line_data line.now)) room) }
+    ensures kept { KeptOutside (covers (intersection_of clip buf.old.area)) buf.old buf.new }
+    ensures light { AreLight (line_data line.now).spans → IsOk result }
+{
+    let clip = clip.intersection(buf.area());
+    if !clip.contains(at) {
+        return Ok(at.x);
+    }
+    set_spans(
+        buf,
+        at,
+        room_in(clip, at, room),
+        line.spans(),
+        line.line_style(),
+    )
+}
