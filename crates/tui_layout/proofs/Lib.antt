@@ -1,0 +1,11 @@
+pub mod Found
+pub mod Halving
+pub mod Heights
+pub mod OneWindow
+pub mod Order
+pub mod Placing
+pub mod Settling
+pub mod Shares
+pub mod Totals
+pub mod Wholes
+pub mod Windows

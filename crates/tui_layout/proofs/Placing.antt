@@ -1,0 +1,84 @@
+-- Columns by their places.
+use Rattle.std.proofs.Common.{◌≡◌, ℕ, ◌+◌, ◌-◌, ◌*◌, ◌^◌, ◌<◌, ◌≤◌, min, List, [], ◌∷◌, ◌++◌, length, get_or, take, map, refl, sym, ap, ◌∙◌, arith, sum}
+use Rattle.std.proofs.Math.Nat.{suc-mul}
+use Rattle.std.proofs.lemmas.List.{get_or-map, length-map, take_all, take_more}
+use Rattle.std.proofs.lemmas.List.FromFn.{get_or-enumerate_from, length-enumerate_from}
+use Rattle.std.proofs.lemmas.List.Sums.{sum_by_more}
+use Rattle.std.specs.List.{enumerate_from, sum_by}
+use Rattle.tui_layout.specs.Constraint.{wanted}
+use Rattle.tui_layout.specs.Sharing.{weight}
+use Rattle.tui_layout.specs.Columns.{column_at, columns_in, columns_of, plan_of, share, shift, width_at, widths_of}
+use Rattle.tui_layout.specs.declared.constraint.Constraint.{Constraint}
+use Rattle.tui_layout.specs.declared.flex.Flex.{Flex}
+use Rattle.tui_layout.specs.declared.plan.Plan.{Plan}
+use Rattle.tui_layout.specs.declared.segment.Segment.{Segment}
+
+pub length-made : {X : Type 0} (f : ℕ → Constraint → X) (cs : List Constraint) → length (map (λ (i, c). f i c) (enumerate_from 0 cs)) ≡ length cs
+length-made f cs = length-map (enumerate_from 0 cs) (λ (i, c). f i c) ∙ length-enumerate_from 0 cs
+
+-- what is made at a place from the constraint there
+pub made_at : {X : Type 0} (f : ℕ → Constraint → X) (cs : List Constraint) (i : ℕ) (c d : Constraint) (e : X) → i < length cs → c ≡ get_or cs i d
+    → get_or (map (λ (i, c). f i c) (enumerate_from 0 cs)) i e ≡ f i c
+made_at f cs i c d e h read =
+    let within : i < length (enumerate_from 0 cs) = omega (arith, length-enumerate_from 0 cs) in
+    let place : 0 + i ≡ i = omega arith in
+    get_or-map (λ (i, c). f i c) (enumerate_from 0 cs) i (0, d) e within ∙ ap (λ (p : ℕ × Constraint). f p.0 p.1) (get_or-enumerate_from 0 cs i (0, d) h)
+    ∙ ap (λ n. f n (get_or cs i d)) place ∙ ap (f i) (sym read)
+
+segment : ℕ → ℕ → Segment
+segment start width = record { start = start; width = width }
+
+segment_along : (a b c d : ℕ) → a ≡ c → b ≡ d → segment a b ≡ segment c d
+segment_along a b c d e f = cc
+
+pub same_segment : (start width : ℕ) (s : Segment) → start ≡ s.start → width ≡ s.width → record { start = start; width = width } ≡ s
+unfolding segment
+same_segment start width s e f = segment_along start width s.start s.width e f
+
+-- the first columns are placed, and the code's numbers are those of the next place
+pub record IsPlacing (plan : Plan) (cs : List Constraint) (i left before at : ℕ) (columns : List Segment) : Type 0 where
+  pub placed : columns ≡ take i (columns_in plan cs)
+  pub room : left ≡ plan.space - sum_by (wanted plan.length) (take i cs)
+  pub weighs : before ≡ sum_by (weight plan.sharing) (take i cs)
+  pub place : at ≡ sum (take i (widths_of plan cs)) + i * plan.spacing
+  pub near : at ≤ i * 2 ^ 18
+
+pub width_is : (plan : Plan) (cs : List Constraint) (i left before : ℕ) (c : Constraint) (took w width : ℕ)
+    → left ≡ plan.space - sum_by (wanted plan.length) (take i cs) → before ≡ sum_by (weight plan.sharing) (take i cs)
+    → took ≡ min (wanted plan.length c) left → w ≡ weight plan.sharing c → width ≡ took + share plan i before w → width ≡ width_at plan cs i c
+width_is plan cs i left before c took w width l b t e f = rw (f, t, l, b, e) refl
+
+pub placing_more : (plan : Plan) (cs : List Constraint) (i left before at : ℕ) (columns next : List Segment) (c d : Constraint) (took w u width begin wide gap : ℕ)
+    → IsPlacing plan cs i left before at columns → i < length cs → c ≡ get_or cs i d
+    → took ≡ min (wanted plan.length c) left → w ≡ weight plan.sharing c → u ≡ w → width ≡ took + share plan i before w
+    → begin ≡ min (at + shift plan i) plan.length → wide ≡ min width plan.length
+    → width ≤ 2 ^ 17 → gap ≡ plan.spacing → gap < 2 ^ 16
+    → next ≡ columns ++ record { start = begin; width = wide } ∷ []
+    → IsPlacing plan cs (i + 1) (left - took) (before + u) (at + width + gap) next
+placing_more plan cs i left before at columns next c d took w u width begin wide gap x h read t e v f g k small between short n =
+    let own : width ≡ width_at plan cs i c = width_is plan cs i left before c took w width x.room x.weighs t e f in
+    let s : record { start = begin; width = wide } ≡ column_at plan cs i c =
+    same_segment begin wide (column_at plan cs i c) (omega (arith, g, x.place)) (omega (arith, k, own)) in
+    let whole = columns_in plan cs in
+    let more : take (i + 1) whole ≡ take i whole ++ column_at plan cs i c ∷ [] =
+    take_more whole i (column_at plan cs i c) (omega (arith, length-made (column_at plan cs) cs)) ∙
+    ap (λ y. take i whole ++ y ∷ []) (made_at (column_at plan cs) cs i c d (column_at plan cs i c) h read) in
+    let sums : sum (take (i + 1) (widths_of plan cs)) ≡ sum (take i (widths_of plan cs)) + width_at plan cs i c =
+    sum_by_more (λ (y : ℕ). y) (widths_of plan cs) i 0 (omega (arith, length-made (width_at plan cs) cs)) ∙
+    ap (λ y. sum (take i (widths_of plan cs)) + y) (made_at (width_at plan cs) cs i c d 0 h read) in
+    record {
+      placed = n ∙ ap (λ ys. columns ++ ys ∷ []) s ∙ ap (λ ys. ys ++ column_at plan cs i c ∷ []) x.placed ∙ sym more;
+      room = omega (arith, x.room, t, sum_by_more (wanted plan.length) cs i d h, ap (wanted plan.length) read);
+      weighs = omega (arith, x.weighs, v, e, sum_by_more (weight plan.sharing) cs i d h, ap (weight plan.sharing) read);
+      place = omega (arith, x.place, sums, own, between, suc-mul i plan.spacing);
+      near = omega (arith, x.near);
+    }
+
+pub placing_end : (plan : Plan) (cs : List Constraint) (i left before at : ℕ) (columns : List Segment) → length cs ≤ i
+    → IsPlacing plan cs i left before at columns → columns ≡ columns_in plan cs
+placing_end plan cs i left before at columns h x = x.placed ∙ take_all i (columns_in plan cs) (omega (arith, length-made (column_at plan cs) cs))
+
+pub columns_are : (size spacing : ℕ) (cs : List Constraint) (flex : Flex) (plan : Plan) (columns : List Segment) → plan ≡ plan_of size spacing cs flex
+    → columns ≡ columns_in plan cs → columns ≡ columns_of size spacing cs flex
+unfolding columns_of
+columns_are size spacing cs flex plan columns e f = f ∙ ap (λ (p : Plan). columns_in p cs) e

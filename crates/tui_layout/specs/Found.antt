@@ -1,0 +1,37 @@
+-- The window as a function.
+use Rattle.std.specs.Prelude.{ℕ, zero, suc, ◌-◌, ◌==◌, min, max, nat_le, nat_lt, List, length, slice_index, Option, Some, None, if◌then◌else◌}
+use Rattle.tui_layout.specs.Sums.{total}
+use Rattle.tui_layout.specs.Window.{end_around}
+use Rattle.tui_layout.specs.declared.window.Window.{Window}
+
+-- the greatest number up to n at which a sum is at most the height, 0 where there is none
+unfoldable pub greatest : (ℕ → ℕ) → ℕ → ℕ → ℕ
+greatest g height zero = 0
+greatest g height (suc n) = if nat_le (g (suc n)) height then suc n else greatest g height n
+
+abbrev pub end_of : List ℕ → ℕ → ℕ → ℕ
+end_of heights height first = greatest (λ m. total heights first m) height (length heights)
+
+abbrev pub padding_of : List ℕ → ℕ → ℕ → ℕ → ℕ
+padding_of heights height s asked = greatest (λ p. total heights (s - p) (end_around heights s p)) height (min asked (length heights))
+
+-- the lowest offset that serves, and the one that is nearest to the old one
+abbrev pub lowest_of : List ℕ → ℕ → ℕ → ℕ → ℕ
+lowest_of heights height s p = s - p - greatest (λ k. total heights (s - p - k) (end_around heights s p)) height (s - p)
+
+abbrev pub nearest_of : List ℕ → ℕ → ℕ → ℕ → ℕ → ℕ
+nearest_of heights height s p old = max (lowest_of heights height s p) (min old (s - p))
+
+abbrev pub first_from : List ℕ → ℕ → ℕ → Option ℕ → ℕ → ℕ
+first_from heights height old None asked = old
+first_from heights height old (Some s) asked =
+    let place = min s (length heights - 1) in
+    if nat_lt height (slice_index heights place) then place else nearest_of heights height place (padding_of heights height place asked) old
+
+abbrev pub first_of : List ℕ → ℕ → ℕ → Option ℕ → ℕ → ℕ
+first_of heights height offset selected asked =
+    if length heights == 0 then 0 else first_from heights height (min offset (length heights - 1)) selected asked
+
+unfoldable pub window_of : List ℕ → ℕ → ℕ → Option ℕ → ℕ → Window
+window_of heights height offset selected asked =
+    let first = first_of heights height offset selected asked in record { first = first; end = end_of heights height first }

@@ -1,0 +1,12 @@
+pub mod Columns
+pub mod Constraint
+pub mod Direction
+pub mod Flex
+pub mod Found
+pub mod Halves
+pub mod HighlightSpacing
+pub mod Laws
+pub mod Names
+pub mod Sharing
+pub mod Sums
+pub mod Window

@@ -1,0 +1,75 @@
+//! When columns are kept for a highlight symbol.
+
+ghost use Rattle.std.specs.Prelude.{◌≡◌};
+ghost use Rattle.tui_layout.specs.HighlightSpacing.{should_add};
+
+use std::fmt;
+use std::str::FromStr;
+use tui_cells::ParseError;
+
+/// When the columns of a highlight symbol are kept free. `Display` writes the variant's name, and `FromStr` reads it.
+#[derive(Clone, Copy, Debug, PartialEq, Eq, Hash)]
+pub enum HighlightSpacing {
+    /// At all times.
+    Always,
+    /// Where something is selected.
+    WhenSelected,
+    /// Never; then the symbol is not drawn either.
+    Never,
+}
+
+impl HighlightSpacing {
+    /// Whether the columns are kept, where something is selected or not.
+    pub fn should_add(&self, has_selection: bool) -> bool
+        ensures { result ≡ should_add self.now has_selection }
+    {
+        match self {
+            HighlightSpacing::Always => true,
+            HighlightSpacing::WhenSelected => has_selection,
+            HighlightSpacing::Never => false,
+        }
+    }
+}
+
+impl Default for HighlightSpacing {
+    /// `WhenSelected`.
+    fn default() -> HighlightSpacing
+        ensures { result ≡ HighlightSpacing.WhenSelected }
+    {
+        HighlightSpacing::WhenSelected
+    }
+}
+
+impl fmt::Display for HighlightSpacing {
+    ghost use Rattle.std.specs.Prelude.{Some};
+    ghost use Rattle.tui_layout.specs.HighlightSpacing.{name_of};
+
+    ghost output = { λ spacing. Some (name_of spacing) };
+
+    fn fmt<W: fmt::Write>(&self, f: &mut fmt::Formatter<W>) -> fmt::Result {
+        f.write_str(match self {
+            HighlightSpacing::Always => "Always",
+            HighlightSpacing::WhenSelected => "WhenSelected",
+            HighlightSpacing::Never => "Never",
+        })
+    }
+}
+
+impl FromStr for HighlightSpacing {
+    ghost use Rattle.tui_layout.specs.HighlightSpacing.{name_of};
+    ghost use Rattle.tui_layout.specs.Names.{IsParsed};
+
+    type Err = ParseError;
+
+    ghost from_str_gives = { IsParsed name_of };
+
+    /// Answers `VariantNotFound` exactly where the text is no variant's name.
+    fn from_str(text: &str) -> Result<HighlightSpacing, ParseError> {
+        match text {
+            "Always" => Ok(HighlightSpacing::Always),
+            "WhenSelected" => Ok(HighlightSpacing::WhenSelected),
+            "Never" => Ok(HighlightSpacing::Never),
+            _ => Err(ParseError::VariantNotFound),
+        }
+    }
+}

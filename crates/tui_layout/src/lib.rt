@@ -1,0 +1,29 @@
+//! Rows and columns: the columns of a length, heights and their sums, and the window of a scrolled list.
+#![tactic(auto)]
+
+pub mod columns;
+pub mod constraint;
+pub mod direction;
+pub mod flex;
+pub mod fraction;
+mod halves;
+pub mod highlight_spacing;
+pub mod laws;
+mod plan;
+pub mod segment;
+mod sharing;
+pub mod steps;
+pub mod sums;
+pub mod window;
+
+pub use columns::split;
+pub use constraint::Constraint;
+pub use direction::Direction;
+pub use flex::Flex;
+pub use fraction::Fraction;
+pub use highlight_spacing::HighlightSpacing;
+pub use laws::window_laws;
+pub use segment::Segment;
+pub use steps::Steps;
+pub use sums::Sums;
+pub use window::{Window, scroll_window, uncounted_window};

@@ -1,0 +1,54 @@
+//! Who shares the columns that are left.
+
+ghost use Rattle.std.specs.Prelude.{◌≡◌, ◌*◌, ◌≤◌, length, sum_by};
+ghost use Rattle.tui_layout.specs.Sharing.{sharing_of, weight};
+
+use crate::constraint::Constraint;
+
+/// Who shares the columns that are left when each constraint has taken what it asks for.
+#[derive(Clone, Copy, Debug)]
+pub(crate) enum Sharing {
+    /// Each `Fill`, by its weight.
+    Weights,
+    /// Each `Fill`, alike.
+    Fills,
+    /// Each `Min`, alike; without one nobody.
+    Mins,
+}
+
+impl Sharing {
+    pub(crate) fn new(constraints: &[Constraint]) -> Sharing
+        ensures { result ≡ sharing_of constraints.now }
+    {
+        if Sharing::Weights.sum(constraints) > 0 {
+            Sharing::Weights
+        } else if Sharing::Fills.sum(constraints) > 0 {
+            Sharing::Fills
+        } else {
+            Sharing::Mins
+        }
+    }
+
+    pub(crate) fn weight(self, constraint: Constraint) -> u16
+        ensures { result ≡ weight self constraint }
+    {
+        match (self, constraint) {
+            (Sharing::Weights, Constraint::Fill(weight)) => weight,
+            (Sharing::Fills, Constraint::Fill(_weight)) => 1,
+            (Sharing::Mins, Constraint::Min(_width)) => 1,
+            _ => 0,
+        }
+    }
+
+    /// What the constraints weigh together.
+    pub(crate) fn sum(self, constraints: &[Constraint]) -> u128
+        ensures sum { result ≡ sum_by (weight self) constraints.now }
+        ensures small { result ≤ length constraints.now * 65535 }
+    {
+        let mut sum = 0;
+        for constraint in constraints {
+            sum += u128::from(self.weight(*constraint));
+        }
+        sum
+    }
+}
