@@ -9,7 +9,7 @@ use Rattle.tui_layout.specs.Window.{end_around}
 use Rattle.tui_layout.specs.Halves.{IsLowest, IsMost, IsProbing, IsReady, IsSearch, sum_at}
 use Rattle.tui_layout.proofs.Totals.{total_wider}
 
-pub sum_grows : (xs : List ℕ) (reach : Reach) (a b : ℕ) → IsReady xs reach a → IsReady xs reach b → a ≤ b → sum_at xs reach a ≤ sum_at xs reach b
+sum_grows : (xs : List ℕ) (reach : Reach) (a b : ℕ) → IsReady xs reach a → IsReady xs reach b → a ≤ b → sum_at xs reach a ≤ sum_at xs reach b
 sum_grows xs (Around s) a b u v le =
     total_wider xs (s - a) (end_around xs s a) (s - b) (end_around xs s b) (omega arith) (omega arith) (omega arith)
 sum_grows xs (From first) a b u v le = total_wider xs first a first b (omega arith) le u.0
@@ -26,6 +26,7 @@ pub record IsHalved (xs : List ℕ) (reach : Reach) (height least most low high 
   pub cost : 2 ^ (now - before) * (high - low) ≤ length xs
   pub spent : 2 ^ (now - before) ≤ 2 * length xs
 
+-- what one step more costs
 next_power : (before now : ℕ) → before ≤ now → 2 ^ (now + 1 - before) ≡ 2 * 2 ^ (now - before)
 next_power before now h =
     let e : suc (now - before) ≡ now + 1 - before = omega arith in
@@ -37,14 +38,15 @@ next_cost power left right size h le = omega (arith, h, mul-le-mul_left power le
 next_spent : (power left size : ℕ) → power * left ≤ size → 1 ≤ left → 2 * power ≤ 2 * size
 next_spent power left size h le = omega (arith, h, mul-le-mul_left power le)
 
+-- a step upwards, and one downwards
 pub halved_up : (xs : List ℕ) (reach : Reach) (height least most low high before now after middle : ℕ)
     → IsHalved xs reach height least most low high before now → low < high → middle ≡ high - (high - low) / 2
     → sum_at xs reach middle ≤ height → after ≡ now + 1
     → IsHalved xs reach height least most middle high before after
 halved_up xs reach height least most low high before now after middle x lt e f step =
     let two = next_power before now x.grows in
-    let P : ℕ → Type 0 = λ n. IsHalved xs reach height least most middle high before n in
-    subst P (sym step) (record {
+    rw step
+    (record {
       above = omega (arith, x.above);
       order = omega arith;
       within = x.within;
@@ -62,42 +64,29 @@ pub halved_down : (xs : List ℕ) (reach : Reach) (height least most low high be
     → IsHalved xs reach height least most low (middle - 1) before after
 halved_down xs reach height least most low high before now after middle x lt e ready f step =
     let two = next_power before now x.grows in
-    let P : ℕ → Type 0 = λ n. IsHalved xs reach height least most low (middle - 1) before n in
-    subst P (sym step) (record {
+    let over = λ (q : ℕ) (ql : least ≤ q) (qm : q ≤ most) (le : middle ≤ q).
+    sum_grows xs reach middle q (ready middle (omega (arith, x.above)) (omega (arith, x.within))) (ready q ql qm) le in
+    rw step
+    (record {
       above = x.above;
       order = omega arith;
       within = omega (arith, x.within);
       fits = x.fits;
       greatest = λ q ql qm qf. elim (cases_lt q middle) [
         | inl low ↦ omega arith
-        | inr over ↦ absurd (omega (arith, qf, f, sum_grows xs reach middle q (ready middle (omega (arith, x.above)) (omega (arith, x.within))) (ready q ql qm) over))
+        | inr le ↦ absurd (omega (arith, qf, f, over q ql qm le))
       ];
       grows = omega (arith, x.grows);
       cost = rw two (next_cost (2 ^ (now - before)) (high - low) (middle - 1 - low) (length xs) x.cost (omega arith));
       spent = rw two (next_spent (2 ^ (now - before)) (high - low) (length xs) x.cost (omega arith));
     })
 
-pub lowest_from_most : (xs : List ℕ) (height s p back : ℕ) → s < length xs
-    → IsMost xs (Back (s - p) (end_around xs s p)) height 0 (s - p) back → IsLowest xs height s p (s - p - back)
-lowest_from_most xs height s p back h x = record {
-  serves = record { before = omega arith; fits = x.fits };
-  least = λ o serves.
-      let P : ℕ → Type 0 = λ o. total xs o (end_around xs s p) ≤ height in
-      let e : o ≡ s - p - (s - p - o) = omega (arith, serves.before) in
-      omega (arith, serves.before, x.greatest (s - p - o) (omega arith) (omega arith) (subst P e serves.fits));
-}
-
+-- the numbers of steps of three searches
 pow_max : (a b m : ℕ) → 2 ^ a ≤ m → 2 ^ b ≤ m → 2 ^ max a b ≤ m
 pow_max a b m u v = elim (cases_lt a b) [
   | inl lt ↦ let e : b ≡ max a b = omega arith in let P : ℕ → Type 0 = λ n. 2 ^ n ≤ m in subst P e v
   | inr le ↦ let e : a ≡ max a b = omega arith in let P : ℕ → Type 0 = λ n. 2 ^ n ≤ m in subst P e u
 ]
-
-pub probing_one : (n a b : ℕ) → IsSearch n a b → IsProbing n a b
-probing_one n a b x = record { d = b - a; small = x.cost; grows = omega (arith, x.grows); bound = omega (arith, x.grows) }
-
-pub probing_tall : (n start a b : ℕ) → a ≡ start + 1 → IsSearch n a b → IsProbing n start b
-probing_tall n start a b e x = record { d = b - a; small = x.cost; grows = omega (arith, x.grows); bound = omega (arith, x.grows) }
 
 pub probing_three : (n start a b c d : ℕ) → a ≡ start + 1 → IsSearch n a b → IsSearch n b c → IsSearch n c d → IsProbing n start d
 probing_three n start a b c d e x y z = record {
@@ -105,6 +94,17 @@ probing_three n start a b c d e x y z = record {
   small = pow_max (b - a) (max (c - b) (d - c)) (2 * n) x.cost (pow_max (c - b) (d - c) (2 * n) y.cost z.cost);
   grows = omega (arith, x.grows, y.grows, z.grows);
   bound = omega (arith, x.grows, y.grows, z.grows);
+}
+
+-- the items farthest back begin at the lowest offset
+lowest_from_most : (xs : List ℕ) (height s p back : ℕ) → s < length xs
+    → IsMost xs (Back (s - p) (end_around xs s p)) height 0 (s - p) back → IsLowest xs height s p (s - p - back)
+lowest_from_most xs height s p back h x = record {
+  serves = record { before = omega arith; fits = x.fits };
+  least = λ o serves.
+      let P : ℕ → Type 0 = λ o. total xs o (end_around xs s p) ≤ height in
+      let e : o ≡ s - p - (s - p - o) = omega (arith, serves.before) in
+      omega (arith, serves.before, x.greatest (s - p - o) (omega arith) (omega arith) (subst P e serves.fits));
 }
 
 pub lowest_found_back : (xs : List ℕ) (height s p latest last back : ℕ) → s < length xs → latest ≡ s - p → last ≡ end_around xs s p

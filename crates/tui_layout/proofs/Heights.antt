@@ -1,5 +1,7 @@
 -- Heights from the sums of the first ones.
 use Rattle.std.proofs.Common.{◌≡◌, ℕ, zero, suc, ◌+◌, ◌-◌, ◌*◌, ◌^◌, ◌<◌, ◌≤◌, List, [], ◌∷◌, ◌++◌, length, get_or, take, refl, sym, ap, subst, ◌∙◌, arith, sum}
+use Rattle.std.proofs.lemmas.Grind.{get_or_default_zero}
+use Rattle.std.proofs.lemmas.List.{take_all}
 use Rattle.std.proofs.lemmas.List.Sums.{sum_by-cons}
 use Rattle.tui_layout.specs.Sums.{IsRising, heights_of, total}
 use Rattle.tui_layout.proofs.Totals.{total-upto}
@@ -8,58 +10,55 @@ pub length-heights : (b : ℕ) (xs : List ℕ) → length (heights_of b xs) ≡ 
 length-heights b [] = refl
 length-heights b (x ∷ xs) = ap suc (length-heights x xs)
 
-pub sum-heights : (b : ℕ) (xs : List ℕ) (k : ℕ) → IsRising b xs → k ≤ length xs
-    → b + sum (take k (heights_of b xs)) ≡ get_or (b ∷ xs) k 0
-sum-heights b xs zero r h = omega arith
-sum-heights b [] (suc k) r h = omega arith
-sum-heights b (x ∷ xs) (suc k) r h =
-    omega (arith, sum_by-cons (λ (y : ℕ). y) (x - b) (take k (heights_of x xs)), sum-heights x xs k r.2 (omega arith), r.0)
+-- each sum is that of the heights up to there
+pub sum-take-heights : (b : ℕ) (xs : List ℕ) (k : ℕ) → IsRising b xs → k ≤ length xs → b + sum (take k (heights_of b xs)) ≡ get_or (b ∷ xs) k 0
+sum-take-heights b xs zero r h = omega arith
+sum-take-heights b [] (suc k) r h = omega arith
+sum-take-heights b (x ∷ xs) (suc k) r h =
+    omega (arith, sum_by-cons (λ (y : ℕ). y) (x - b) (take k (heights_of x xs)), sum-take-heights x xs k r.2 (omega arith), r.0)
 
-pub heights-push : (b : ℕ) (xs : List ℕ) (y : ℕ)
-    → heights_of b (xs ++ y ∷ []) ≡ heights_of b xs ++ (y - get_or (b ∷ xs) (length xs) 0) ∷ []
-heights-push b [] y = refl
-heights-push b (x ∷ xs) y = ap (λ hs. (x - b) ∷ hs) (heights-push x xs y)
+pub sum-heights-cons : (b x : ℕ) (xs : List ℕ) → b ≤ x → b + sum (heights_of b (x ∷ xs)) ≡ x + sum (heights_of x xs)
+sum-heights-cons b x xs h = omega (arith, sum_by-cons (λ (y : ℕ). y) (x - b) (heights_of x xs))
 
-pub rising-push : (b : ℕ) (xs : List ℕ) (h : ℕ) → IsRising b xs → h < 2 ^ 64
-    → IsRising b (xs ++ (get_or (b ∷ xs) (length xs) 0 + h) ∷ [])
-rising-push b [] h r s = (omega arith, omega arith, tt)
-rising-push b (x ∷ xs) h r s = (r.0, r.1, rising-push x xs h r.2 s)
+-- a sum of numbers of 64 bits
+pub sum_small : (b : ℕ) (xs : List ℕ) → IsRising b xs → sum (heights_of b xs) ≤ length xs * (2 ^ 64 - 1)
+sum_small b [] r = omega arith
+sum_small b (x ∷ xs) r = omega (arith, sum_small x xs r.2, r.0, r.1, sum_by-cons (λ (y : ℕ). y) (x - b) (heights_of x xs))
 
-pub last_small : (b : ℕ) (xs : List ℕ) → IsRising b xs → get_or (b ∷ xs) (length xs) 0 ≤ b + length xs * (2 ^ 64 - 1)
-last_small b [] r = omega arith
-last_small b (x ∷ xs) r = omega (arith, last_small x xs r.2, r.0, r.1)
+-- one height more
+pub rising_push : (b : ℕ) (xs : List ℕ) (s h : ℕ) → IsRising b xs → h < 2 ^ 64 → s ≡ b + sum (heights_of b xs) + h → IsRising b (xs ++ s ∷ [])
+rising_push b [] s h r small e = (omega (arith, e), omega (arith, e), tt)
+rising_push b (x ∷ xs) s h r small e = (r.0, r.1, rising_push x xs s h r.2 small (omega (arith, e, sum-heights-cons b x xs r.0)))
 
-pub total-heights : (xs : List ℕ) (a c : ℕ) → IsRising 0 xs → a ≤ c → c ≤ length xs
-    → get_or (0 ∷ xs) a 0 + total (heights_of 0 xs) a c ≡ get_or (0 ∷ xs) c 0
-total-heights xs a c r le h =
-    omega (arith, total-upto (heights_of 0 xs) a c le, sum-heights 0 xs a r (omega arith), sum-heights 0 xs c r h)
+pub heights_push : (b : ℕ) (xs : List ℕ) (s h : ℕ) → IsRising b xs → s ≡ b + sum (heights_of b xs) + h → heights_of b (xs ++ s ∷ []) ≡ heights_of b xs ++ h ∷ []
+heights_push b [] s h r e = let d : s - b ≡ h = omega (arith, e) in ap (λ k. k ∷ []) d
+heights_push b (x ∷ xs) s h r e = ap (λ hs. (x - b) ∷ hs) (heights_push x xs s h r.2 (omega (arith, e, sum-heights-cons b x xs r.0)))
 
-pub difference : (xs hs : List ℕ) (a c x y : ℕ) → heights_of 0 xs ≡ hs → IsRising 0 xs → a ≤ c → c ≤ length hs
-    → x ≡ get_or (0 ∷ xs) a 0 → y ≡ get_or (0 ∷ xs) c 0 → (x ≤ y) × (y - x ≡ total hs a c)
-difference xs hs a c x y view r le h e f =
+-- the sum of the first k heights, as it is kept and as it is read
+upto_is : (xs hs : List ℕ) (k : ℕ) → heights_of 0 xs ≡ hs → IsRising 0 xs → k ≤ length hs → get_or (0 ∷ xs) k 0 ≡ sum (take k hs)
+upto_is xs hs k view r h =
     let n : length hs ≡ length xs = ap length (sym view) ∙ length-heights 0 xs in
-    let t = total-heights xs a c r le (omega arith) in
-    let g : total (heights_of 0 xs) a c ≡ total hs a c = ap (λ zs. total zs a c) view in
-    (omega (arith, t), omega (arith, t))
+    let P : List ℕ → Type 0 = λ ys. get_or (0 ∷ xs) k 0 ≡ sum (take k ys) in
+    subst P view (omega (arith, sum-take-heights 0 xs k r (omega arith)))
 
-pub last_is : (xs ys : List ℕ) (n last : ℕ) → ys ≡ xs → n ≡ length ys → last ≡ get_or (0 ∷ ys) n 0 → last ≡ get_or (0 ∷ xs) (length xs) 0
-last_is xs ys n last e f g =
-    let P : List ℕ → Type 0 = λ zs. last ≡ get_or (0 ∷ zs) (length zs) 0 in
-    let Q : ℕ → Type 0 = λ k. last ≡ get_or (0 ∷ ys) k 0 in
-    subst P e (subst Q f g)
+pub read_is : (xs hs : List ℕ) (k value : ℕ) → heights_of 0 xs ≡ hs → IsRising 0 xs → (k ≡ 0 → ⊥) → k ≤ length hs → value ≡ get_or xs (k - 1) value
+    → value ≡ sum (take k hs)
+read_is xs hs zero value view r some h e = absurd (some refl)
+read_is xs hs (suc k) value view r some h e =
+    let n : length hs ≡ length xs = ap length (sym view) ∙ length-heights 0 xs in
+    let place : suc k - 1 ≡ k = omega arith in
+    e ∙ ap (λ j. get_or xs j value) place ∙ get_or_default_zero xs k value (omega arith) ∙ upto_is xs hs (suc k) view r h
 
-pub push_fits : (xs : List ℕ) (last h : ℕ) → IsRising 0 xs → last ≡ get_or (0 ∷ xs) (length xs) 0 → length xs < 2 ^ 64 → h < 2 ^ 64 → last + h < 2 ^ 128
-push_fits xs last h r e n s = omega (arith, last_small 0 xs r)
+pub last_is : (xs hs : List ℕ) (n last : ℕ) → heights_of 0 xs ≡ hs → n ≡ length hs → last ≡ sum (take n hs) → last ≡ sum (heights_of 0 xs)
+last_is xs hs n last view e f = f ∙ ap sum (take_all n hs (omega arith)) ∙ ap sum (sym view)
 
-pub push_rises : (xs new : List ℕ) (last h : ℕ) → IsRising 0 xs → last ≡ get_or (0 ∷ xs) (length xs) 0 → h < 2 ^ 64
-    → new ≡ xs ++ (last + h) ∷ [] → IsRising 0 new
-push_rises xs new last h r e s n =
-    let P : ℕ → Type 0 = λ k. IsRising 0 (xs ++ (k + h) ∷ []) in
-    let Q : List ℕ → Type 0 = λ zs. IsRising 0 zs in
-    subst Q (sym n) (subst P (sym e) (rising-push 0 xs h r s))
+pub pushed_rises : (xs new : List ℕ) (s h : ℕ) → IsRising 0 xs → h < 2 ^ 64 → s ≡ sum (heights_of 0 xs) + h → new ≡ xs ++ s ∷ [] → IsRising 0 new
+pushed_rises xs new s h r small e n =
+    let P : List ℕ → Type 0 = λ ys. IsRising 0 ys in subst P (sym n) (rising_push 0 xs s h r small (omega (arith, e)))
 
-pub push_heights : (xs new hs : List ℕ) (last h : ℕ) → heights_of 0 xs ≡ hs → last ≡ get_or (0 ∷ xs) (length xs) 0
-    → new ≡ xs ++ (last + h) ∷ [] → heights_of 0 new ≡ hs ++ h ∷ []
-push_heights xs new hs last h view e n =
-    let d : last + h - get_or (0 ∷ xs) (length xs) 0 ≡ h = omega arith in
-    ap (heights_of 0) n ∙ heights-push 0 xs (last + h) ∙ ap (λ k. heights_of 0 xs ++ k ∷ []) d ∙ ap (λ zs. zs ++ h ∷ []) view
+pub pushed_heights : (xs new hs : List ℕ) (s h : ℕ) → heights_of 0 xs ≡ hs → IsRising 0 xs → s ≡ sum (heights_of 0 xs) + h → new ≡ xs ++ s ∷ []
+    → heights_of 0 new ≡ hs ++ h ∷ []
+pushed_heights xs new hs s h view r e n = ap (heights_of 0) n ∙ heights_push 0 xs s h r (omega (arith, e)) ∙ ap (λ ys. ys ++ h ∷ []) view
+
+pub difference : (hs : List ℕ) (a b start last : ℕ) → a ≤ b → start ≡ sum (take a hs) → last ≡ sum (take b hs) → (start ≤ last) × (last - start ≡ total hs a b)
+difference hs a b start last le e f = (omega (arith, e, f, total-upto hs a b le), omega (arith, e, f, total-upto hs a b le))

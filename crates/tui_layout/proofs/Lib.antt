@@ -6,6 +6,7 @@ pub mod Order
 pub mod Placing
 pub mod Settling
 pub mod Shares
+pub mod Splitting
 pub mod Totals
 pub mod Wholes
 pub mod Windows

@@ -8,7 +8,7 @@ use Rattle.std.proofs.lemmas.List.Sums.{sum_by-take-le, sum_by_more}
 use Rattle.std.specs.List.{sum_by}
 use Rattle.tui_layout.specs.Constraint.{wanted}
 use Rattle.tui_layout.specs.Sharing.{weight}
-use Rattle.tui_layout.specs.Columns.{AreInOrder, IsBefore, column_at, columns_in, columns_of, last_share, moved, part, plan_of, share, shift, width_at, widths_of}
+use Rattle.tui_layout.specs.Columns.{AreInOrder, IsBefore, column_at, columns_in, last_share, moved, part, plan_of, share, shift, width_at, widths_of}
 use Rattle.tui_layout.specs.declared.constraint.Constraint.{Constraint}
 use Rattle.tui_layout.specs.declared.constraint.Constraint.TheVariants.{Length}
 use Rattle.tui_layout.specs.declared.flex.Flex.{Flex}
@@ -219,7 +219,7 @@ within_at plan cs i c p h read = elim (inside plan cs i c p h read) [ inl z ↦ 
 column_is : (plan : Plan) (cs : List Constraint) (i : ℕ) (d : Segment) → i < length cs → column_at plan cs i (get_or cs i (Length 0)) ≡ get_or (columns_in plan cs) i d
 column_is plan cs i d h = sym (made_at (column_at plan cs) cs i (get_or cs i (Length 0)) (Length 0) d h refl)
 
-in_order : (plan : Plan) (cs : List Constraint) → IsPlanned plan cs → AreInOrder plan.length plan.spacing (columns_in plan cs)
+pub in_order : (plan : Plan) (cs : List Constraint) → IsPlanned plan cs → AreInOrder plan.length plan.spacing (columns_in plan cs)
 in_order plan cs p =
     let count = length-made (column_at plan cs) cs in
     record {
@@ -235,12 +235,3 @@ in_order plan cs p =
           subst P (column_is plan cs i d m)
           (subst Q (column_is plan cs j d n) (before_at plan cs i j (get_or cs i (Length 0)) (get_or cs j (Length 0)) p lt n refl refl));
     }
-
-pub columns_in_order : (size spacing : ℕ) (cs : List Constraint) (flex : Flex) → AreInOrder size spacing (columns_of size spacing cs flex)
-unfolding columns_of
-columns_in_order size spacing cs flex = in_order (plan_of size spacing cs flex) cs (planned size spacing cs flex)
-
-pub are_in_order : (size spacing : ℕ) (cs : List Constraint) (flex : Flex) (columns : List Segment) → columns ≡ columns_of size spacing cs flex
-    → AreInOrder size spacing columns
-are_in_order size spacing cs flex columns e =
-    let P : List Segment → Type 0 = λ s. AreInOrder size spacing s in subst P (sym e) (columns_in_order size spacing cs flex)

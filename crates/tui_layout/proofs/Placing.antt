@@ -7,9 +7,8 @@ use Rattle.std.proofs.lemmas.List.Sums.{sum_by_more}
 use Rattle.std.specs.List.{enumerate_from, sum_by}
 use Rattle.tui_layout.specs.Constraint.{wanted}
 use Rattle.tui_layout.specs.Sharing.{weight}
-use Rattle.tui_layout.specs.Columns.{column_at, columns_in, columns_of, plan_of, share, shift, width_at, widths_of}
+use Rattle.tui_layout.specs.Columns.{column_at, columns_in, share, shift, width_at, widths_of}
 use Rattle.tui_layout.specs.declared.constraint.Constraint.{Constraint}
-use Rattle.tui_layout.specs.declared.flex.Flex.{Flex}
 use Rattle.tui_layout.specs.declared.plan.Plan.{Plan}
 use Rattle.tui_layout.specs.declared.segment.Segment.{Segment}
 
@@ -77,8 +76,3 @@ placing_more plan cs i left before at columns next c d took w u width begin wide
 pub placing_end : (plan : Plan) (cs : List Constraint) (i left before at : ℕ) (columns : List Segment) → length cs ≤ i
     → IsPlacing plan cs i left before at columns → columns ≡ columns_in plan cs
 placing_end plan cs i left before at columns h x = x.placed ∙ take_all i (columns_in plan cs) (omega (arith, length-made (column_at plan cs) cs))
-
-pub columns_are : (size spacing : ℕ) (cs : List Constraint) (flex : Flex) (plan : Plan) (columns : List Segment) → plan ≡ plan_of size spacing cs flex
-    → columns ≡ columns_in plan cs → columns ≡ columns_of size spacing cs flex
-unfolding columns_of
-columns_are size spacing cs flex plan columns e f = f ∙ ap (λ (p : Plan). columns_in p cs) e

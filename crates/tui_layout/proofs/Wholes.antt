@@ -7,7 +7,7 @@ use Rattle.std.proofs.lemmas.List.Sums.{sum-map, sum_by_more_le}
 use Rattle.std.specs.List.{sum_by}
 use Rattle.tui_layout.specs.Constraint.{wanted}
 use Rattle.tui_layout.specs.Sharing.{sharing_of, weight}
-use Rattle.tui_layout.specs.Columns.{RestIsShared, Shares, column_at, columns_in, columns_of, last_share, part, plan_of, share, space_of, width_at, widths_of}
+use Rattle.tui_layout.specs.Columns.{RestIsShared, Shares, column_at, columns_in, last_share, part, plan_of, share, space_of, width_at, widths_of}
 use Rattle.tui_layout.specs.declared.constraint.Constraint.{Constraint}
 use Rattle.tui_layout.specs.declared.constraint.Constraint.TheVariants.{Fill, Length, Max, Min, Percentage, Ratio}
 use Rattle.tui_layout.specs.declared.flex.Flex.{Flex}
@@ -131,8 +131,7 @@ some_column : (cs : List Constraint) (flex : Flex) → RestIsShared cs flex → 
 some_column cs flex shared = elim shared [ inl some ↦ omega (arith, some.2) | inr legacy ↦ legacy.1 ]
 
 pub columns_whole : (size spacing : ℕ) (cs : List Constraint) (flex : Flex) → RestIsShared cs flex
-    → sum_by (λ (s : Segment). s.width) (columns_of size spacing cs flex) ≡ space_of size spacing cs
-unfolding columns_of
+    → sum_by (λ (s : Segment). s.width) (columns_in (plan_of size spacing cs flex) cs) ≡ space_of size spacing cs
 columns_whole size spacing cs flex shared =
     let plan = plan_of size spacing cs flex in
     let p = planned size spacing cs flex in

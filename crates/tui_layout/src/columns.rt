@@ -23,11 +23,11 @@ pub fn split(
 ) -> Mem<Vec<Segment>>
     ensures columns { IfOk result (λ columns. columns.items ≡ columns_of length spacing constraints.now flex) }
     ensures order { IfOk result (λ columns. AreInOrder length spacing columns.items) }
-    ensures whole { RestIsShared constraints.now flex → IfOk result (λ columns. sum_by (λ c. c.width) columns.items ≡ space_of length spacing constraints.now) }
+    ensures whole { RestIsShared constraints.now flex
+        → IfOk result (λ columns. sum_by (λ c. c.width) columns.items ≡ space_of length spacing constraints.now) }
 {
     let plan = Plan::new(length, spacing, constraints, flex);
-    let columns = placed(alloc, plan, constraints)?;
-    Ok(columns)
+    placed(alloc, plan, constraints)
 }
 
 fn placed(alloc: Global, plan: Plan, constraints: &[Constraint]) -> Mem<Vec<Segment>>

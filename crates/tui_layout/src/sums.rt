@@ -1,6 +1,6 @@
 //! Heights, whose sums `window` alone tells.
 
-ghost use Rattle.std.specs.Prelude.{◌≡◌, ◌+◌, ◌≤◌, ◌++◌, [], ◌∷◌, length, slice_index, OnOk, OnErr};
+ghost use Rattle.std.specs.Prelude.{◌≡◌, ◌+◌, ◌≤◌, ◌++◌, [], ◌∷◌, length, sum, take, OnOk, OnErr};
 ghost use Rattle.tui_layout.specs.Sums.{total};
 
 use crate::steps::Steps;
@@ -41,8 +41,8 @@ impl Sums {
         ensures ok { OnOk result (self.new ≡ self.old ++ height ∷ []) }
         ensures err { OnErr result (self.new ≡ self.old) }
     {
-        let last = upto(&self.sums, self.sums.len());
-        self.sums.push(last + u128::from(height))?;
+        let sum = self.upto(self.len()) + u128::from(height);
+        self.sums.push(sum)?;
         Ok(())
     }
 
@@ -61,16 +61,14 @@ impl Sums {
         ensures step { steps.new ≡ steps.old + 1 }
     {
         steps.tick();
-        let end = upto(&self.sums, b);
-        let start = upto(&self.sums, a);
-        end - start
+        self.upto(b) - self.upto(a)
     }
-}
 
-/// The sum of the first heights, `count` of them.
-fn upto(sums: &[u128], count: usize) -> u128
-    requires { count ≤ length sums.now }
-    ensures { result ≡ slice_index (0 ∷ sums.now) count }
-{
-    if count == 0 { 0 } else { sums[count - 1] }
+    /// The sum of the first heights, `count` of them.
+    fn upto(&self, count: usize) -> u128
+        requires { count ≤ length self.now }
+        ensures { result ≡ sum (take count self.now) }
+    {
+        if count == 0 { 0 } else { self.sums[count - 1] }
+    }
 }

@@ -1,0 +1,253 @@
+//! Windows and columns worked by hand.
+
+use std::alloc::Global;
+use std::str::FromStr;
+use std::test::Fail;
+use tui_cells::{Mem, ParseError};
+use tui_layout::{
+    Constraint, Direction, Flex, Fraction, HighlightSpacing, Segment, Sums, Window, split,
+    uncounted_window,
+};
+
+fn sums_of(alloc: Global, heights: &[u64]) -> Mem<Sums> {
+    let mut sums = Sums::new(alloc);
+    for height in heights {
+        sums.push(*height)?;
+    }
+    Ok(sums)
+}
+
+const MOST: usize = usize::MAX;
+
+#[test]
+fn windows_move_least(rt: HostRuntime) -> Result<(), Fail> {
+    let rows = [1; 10];
+    let cases: [(&[u64], u64, usize, Option<usize>, usize, usize, usize); 20] = [
+        (&[2, 2, 1], 3, 0, Some(1), 0, 1, 3),
+        // An item that is taller than the list, from two offsets.
+        (&[1, 5, 1], 3, 0, Some(1), 0, 1, 1),
+        (&[1, 5, 1], 3, 1, Some(1), 0, 1, 1),
+        (&[1, 1, 1], 9, 0, Some(1), MOST, 0, 3),
+        (&rows, 4, 0, Some(5), 1, 3, 7),
+        // Shown already; from below; with a padding; with the widest that fits.
+        (&rows, 4, 2, Some(3), 0, 2, 6),
+        (&rows, 4, 5, Some(2), 0, 2, 6),
+        (&rows, 4, 5, Some(2), 1, 1, 5),
+        (&rows, 3, 0, Some(5), 9, 4, 7),
+        // At the ends of the list there are fewer items for the padding.
+        (&rows, 4, 9, Some(0), 1, 0, 4),
+        (&rows, 4, 0, Some(9), 1, 6, 10),
+        // Without a selection; an offset and a selection past the end.
+        (&rows, 4, 3, None, 2, 3, 7),
+        (&[1, 1, 1], 2, MOST, None, 0, 2, 3),
+        (&[1, 1, 1], 2, 0, Some(MOST), 0, 1, 3),
+        // No rows, and items without rows.
+        (&[1, 1], 0, 0, Some(1), 0, 1, 1),
+        (&[0, 0, 0], 0, 2, Some(0), 0, 0, 3),
+        (&[], 5, 7, Some(2), 1, 0, 0),
+        // Sums that 64 bits do not hold.
+        (&[u64::MAX, u64::MAX, 1], u64::MAX, 0, Some(1), 0, 1, 2),
+        (&[1, u64::MAX, u64::MAX], u64::MAX, 2, None, 0, 2, 3),
+        (&[u64::MAX, 1, 2], u64::MAX, 0, Some(2), MOST, 1, 3),
+    ];
+    for (heights, height, offset, selected, padding, first, end) in cases {
+        let sums = sums_of(rt.alloc(), heights)?;
+        assert_eq!(rt; sums.len(), heights.len());
+        let found = uncounted_window(&sums, height, offset, selected, padding);
+        assert_eq!(rt; found, Window { first, end });
+    }
+    Ok(())
+}
+
+#[test]
+fn windows_of_many_items(rt: HostRuntime) -> Result<(), Fail> {
+    let mut sums = Sums::new(rt.alloc());
+    for _i in 0..1000 {
+        sums.push(1)?;
+    }
+    assert_eq!(rt;
+        uncounted_window(&sums, 10, 0, Some(999), 0),
+        Window {
+            first: 990,
+            end: 1000
+        }
+    );
+    for _i in 1000..65536 {
+        sums.push(1)?;
+    }
+    assert_eq!(rt;
+        uncounted_window(&sums, 1000, 70000, Some(40000), 5),
+        Window {
+            first: 39995,
+            end: 40995
+        }
+    );
+    Ok(())
+}
+
+/// Whether the columns begin and are as wide as these pairs say.
+fn are_columns(columns: &[Segment], wanted: &[(u16, u16)]) -> bool {
+    columns.len() == wanted.len()
+        && columns
+            .iter()
+            .zip(wanted)
+            .all(|(column, wanted)| (column.start, column.width) == *wanted)
+}
+
+#[test]
+fn columns_share_their_length(rt: HostRuntime) -> Result<(), Fail> {
+    use Constraint::{Fill, Length, Max, Min, Percentage, Ratio};
+    let cases: [(&[Constraint], u16, u16, &[(u16, u16)]); 11] = [
+        (
+            &[Length(10), Min(5), Length(10)],
+            40,
+            1,
+            &[(0, 10), (11, 18), (30, 10)],
+        ),
+        (&[Fill(1), Fill(2)], 10, 0, &[(0, 3), (3, 7)]),
+        (&[Length(2), Length(2)], 3, 5, &[(0, 0), (3, 0)]),
+        // Weights that are all 0; a Fill before a Min; two Mins.
+        (&[Fill(0), Fill(0)], 7, 0, &[(0, 3), (3, 4)]),
+        (&[Fill(1), Min(2)], 10, 0, &[(0, 8), (8, 2)]),
+        (&[Min(2), Min(3)], 10, 0, &[(0, 4), (4, 6)]),
+        // Parts of the length, rounded down; the rest is 37 less 13, 13 and 4.
+        (
+            &[Percentage(33), Ratio(1, 3), Max(4), Fill(9)],
+            40,
+            1,
+            &[(0, 13), (14, 13), (28, 4), (33, 7)],
+        ),
+        (&[Ratio(1, 0), Length(3)], 7, 0, &[(0, 7), (7, 0)]),
+        (
+            &[Ratio(u32::MAX, 1), Percentage(u16::MAX)],
+            65535,
+            0,
+            &[(0, 65535), (65535, 0)],
+        ),
+        (
+            &[Fill(u16::MAX), Fill(u16::MAX), Fill(u16::MAX)],
+            65535,
+            65535,
+            &[(0, 0), (65535, 0), (65535, 0)],
+        ),
+        (&[], 7, 1, &[]),
+    ];
+    for (constraints, length, spacing, wanted) in cases {
+        let columns = split(rt.alloc(), length, spacing, constraints, Flex::End)?;
+        assert!(rt; are_columns(&columns, wanted), "at {columns:?}");
+    }
+    Ok(())
+}
+
+// Three columns of 2, 3 and 1 with a spacing of 1. At 40 the space is 38 and the rest 32, at 65535 they are 65533 and
+// 65527; at lengths of up to 7 there is no rest.
+#[test]
+fn flexes_move_columns(rt: HostRuntime) -> Result<(), Fail> {
+    let alloc = rt.alloc();
+    let constraints = [
+        Constraint::Length(2),
+        Constraint::Max(3),
+        Constraint::Length(1),
+    ];
+    let flexes = [
+        (
+            Flex::Legacy,
+            [(0, 2), (3, 3), (7, 33)],
+            [(0, 2), (3, 3), (7, 65528)],
+        ),
+        (
+            Flex::Start,
+            [(0, 2), (3, 3), (7, 1)],
+            [(0, 2), (3, 3), (7, 1)],
+        ),
+        (
+            Flex::End,
+            [(32, 2), (35, 3), (39, 1)],
+            [(65527, 2), (65530, 3), (65534, 1)],
+        ),
+        (
+            Flex::Center,
+            [(16, 2), (19, 3), (23, 1)],
+            [(32763, 2), (32766, 3), (32770, 1)],
+        ),
+        (
+            Flex::SpaceBetween,
+            [(0, 2), (19, 3), (39, 1)],
+            [(0, 2), (32766, 3), (65534, 1)],
+        ),
+        (
+            Flex::SpaceEvenly,
+            [(8, 2), (19, 3), (31, 1)],
+            [(16381, 2), (32766, 3), (49152, 1)],
+        ),
+        (
+            Flex::SpaceAround,
+            [(5, 2), (19, 3), (33, 1)],
+            [(10921, 2), (32766, 3), (54612, 1)],
+        ),
+    ];
+    for (flex, at_40, at_65535) in flexes {
+        let lengths = [
+            (0, [(0, 0), (0, 0), (0, 0)]),
+            (1, [(0, 0), (1, 0), (1, 0)]),
+            (7, [(0, 2), (3, 3), (7, 0)]),
+            (40, at_40),
+            (65535, at_65535),
+        ];
+        for (length, wanted) in lengths {
+            let columns = split(alloc, length, 1, &constraints, flex)?;
+            assert!(rt;
+                are_columns(&columns, &wanted),
+                "at {flex} and {length}: {columns:?}"
+            );
+        }
+    }
+    let one = split(alloc, 10, 1, &[Constraint::Length(3)], Flex::SpaceBetween)?;
+    assert!(rt; are_columns(&one, &[(0, 3)]));
+    Ok(())
+}
+
+#[test]
+fn layouts_have_names(rt: HostRuntime) -> Mem<()> {
+    let alloc = rt.alloc();
+    for (flex, name) in [
+        (Flex::Legacy, "Legacy"),
+        (Flex::Start, "Start"),
+        (Flex::End, "End"),
+        (Flex::Center, "Center"),
+        (Flex::SpaceBetween, "SpaceBetween"),
+        (Flex::SpaceEvenly, "SpaceEvenly"),
+        (Flex::SpaceAround, "SpaceAround"),
+    ] {
+        assert!(&rt; Flex::from_str(name) == Ok(flex));
+        assert!(&rt; format!(in alloc; "{flex}")?.as_str() == name);
+    }
+    for (direction, name) in [
+        (Direction::Horizontal, "Horizontal"),
+        (Direction::Vertical, "Vertical"),
+    ] {
+        assert!(&rt; Direction::from_str(name) == Ok(direction));
+        assert!(&rt; format!(in alloc; "{direction}")?.as_str() == name);
+    }
+    for (spacing, name, without, with) in [
+        (HighlightSpacing::Always, "Always", true, true),
+        (HighlightSpacing::WhenSelected, "WhenSelected", false, true),
+        (HighlightSpacing::Never, "Never", false, false),
+    ] {
+        assert!(&rt; HighlightSpacing::from_str(name) == Ok(spacing));
+        assert!(&rt; format!(in alloc; "{spacing}")?.as_str() == name);
+        assert!(&rt; spacing.should_add(false) == without && spacing.should_add(true) == with);
+    }
+    assert!(&rt; HighlightSpacing::from_str("") == Err(ParseError::VariantNotFound));
+    assert!(&rt; Flex::from_str("start") == Err(ParseError::VariantNotFound));
+    assert!(&rt; Direction::from_str("Vertical ") == Err(ParseError::VariantNotFound));
+    assert!(&rt;
+        Flex::default() == Flex::Start
+            && HighlightSpacing::default() == HighlightSpacing::WhenSelected
+    );
+    assert!(&rt;
+        Fraction::new(1, 2) == Fraction { num: 1, den: 2 }
+            && Fraction::new(2, 4) != Fraction::new(1, 2)
+    );
+    Ok(())
+}
