@@ -1,5 +1,5 @@
 -- Searches by halves.
-use Rattle.std.proofs.Common.{◌≡◌, ℕ, suc, ◌+◌, ◌-◌, ◌*◌, ◌/◌, ◌^◌, ◌<◌, ◌≤◌, max, List, length, sym, subst, inl, inr, arith}
+use Rattle.std.proofs.Common.{◌≡◌, ℕ, suc, ◌+◌, ◌-◌, ◌*◌, ◌^◌, ◌<◌, ◌≤◌, max, List, length, sym, subst, inl, inr, arith}
 use Rattle.std.proofs.Math.Nat.{mul-le-mul_left, pow-suc}
 use Rattle.std.proofs.lemmas.Bool.{cases_lt}
 use Rattle.tui_layout.specs.declared.halves.Reach.{Reach}
@@ -40,29 +40,29 @@ next_spent power left size h le = omega (arith, h, mul-le-mul_left power le)
 
 -- a step upwards, and one downwards
 pub halved_up : (xs : List ℕ) (reach : Reach) (height least most low high before now after middle : ℕ)
-    → IsHalved xs reach height least most low high before now → low < high → middle ≡ high - (high - low) / 2
+    → IsHalved xs reach height least most low high before now → low < middle → middle ≤ high → 2 * (high - middle) ≤ high - low
     → sum_at xs reach middle ≤ height → after ≡ now + 1
     → IsHalved xs reach height least most middle high before after
-halved_up xs reach height least most low high before now after middle x lt e f step =
+halved_up xs reach height least most low high before now after middle x above within half f step =
     let two = next_power before now x.grows in
     rw step
     (record {
       above = omega (arith, x.above);
-      order = omega arith;
+      order = within;
       within = x.within;
       fits = f;
       greatest = x.greatest;
       grows = omega (arith, x.grows);
-      cost = rw two (next_cost (2 ^ (now - before)) (high - low) (high - middle) (length xs) x.cost (omega arith));
+      cost = rw two (next_cost (2 ^ (now - before)) (high - low) (high - middle) (length xs) x.cost half);
       spent = rw two (next_spent (2 ^ (now - before)) (high - low) (length xs) x.cost (omega arith));
     })
 
 pub halved_down : (xs : List ℕ) (reach : Reach) (height least most low high before now after middle : ℕ)
-    → IsHalved xs reach height least most low high before now → low < high → middle ≡ high - (high - low) / 2
+    → IsHalved xs reach height least most low high before now → low < middle → middle ≤ high → 2 * (middle - 1 - low) ≤ high - low
     → ((m : ℕ) → least ≤ m → m ≤ most → IsReady xs reach m)
     → height < sum_at xs reach middle → after ≡ now + 1
     → IsHalved xs reach height least most low (middle - 1) before after
-halved_down xs reach height least most low high before now after middle x lt e ready f step =
+halved_down xs reach height least most low high before now after middle x above within half ready f step =
     let two = next_power before now x.grows in
     let over = λ (q : ℕ) (ql : least ≤ q) (qm : q ≤ most) (le : middle ≤ q).
     sum_grows xs reach middle q (ready middle (omega (arith, x.above)) (omega (arith, x.within))) (ready q ql qm) le in
@@ -72,12 +72,9 @@ halved_down xs reach height least most low high before now after middle x lt e r
       order = omega arith;
       within = omega (arith, x.within);
       fits = x.fits;
-      greatest = λ q ql qm qf. elim (cases_lt q middle) [
-        | inl low ↦ omega arith
-        | inr le ↦ absurd (omega (arith, qf, f, over q ql qm le))
-      ];
+      greatest = λ q ql qm qf. elim (cases_lt q middle) [ inl lt ↦ omega arith | inr le ↦ absurd (omega (arith, qf, f, over q ql qm le)) ];
       grows = omega (arith, x.grows);
-      cost = rw two (next_cost (2 ^ (now - before)) (high - low) (middle - 1 - low) (length xs) x.cost (omega arith));
+      cost = rw two (next_cost (2 ^ (now - before)) (high - low) (middle - 1 - low) (length xs) x.cost half);
       spent = rw two (next_spent (2 ^ (now - before)) (high - low) (length xs) x.cost (omega arith));
     })
 

@@ -194,7 +194,8 @@ before_at plan cs i j a b p lt h read also =
     let grows = upto_grows (widths_of plan cs) (i + 1) j (omega arith) in
     let le : i + 1 ≤ j = omega arith in
     let gaps = mul-le-mul_left plan.spacing le in
-    let gap : i * plan.spacing + plan.spacing ≤ j * plan.spacing = omega (arith, gaps, mul_comm (i + 1) plan.spacing, mul_comm j plan.spacing, mul_comm i plan.spacing) in
+    let gap : i * plan.spacing + plan.spacing ≤ j * plan.spacing =
+    omega (arith, gaps, mul_comm i plan.spacing, mul_comm j plan.spacing) in
     let shifts = shift_grows plan i j (omega arith) (omega (arith, p.count)) in
     let here = inside plan cs i a p (omega arith) read in
     let there = inside plan cs j b p h also in
@@ -216,7 +217,8 @@ within_at : (plan : Plan) (cs : List Constraint) (i : ℕ) (c : Constraint) → 
     → (column_at plan cs i c).start + (column_at plan cs i c).width ≤ plan.length
 within_at plan cs i c p h read = elim (inside plan cs i c p h read) [ inl z ↦ omega (arith, z) | inr e ↦ omega (arith, e) ]
 
-column_is : (plan : Plan) (cs : List Constraint) (i : ℕ) (d : Segment) → i < length cs → column_at plan cs i (get_or cs i (Length 0)) ≡ get_or (columns_in plan cs) i d
+column_is : (plan : Plan) (cs : List Constraint) (i : ℕ) (d : Segment) → i < length cs
+    → column_at plan cs i (get_or cs i (Length 0)) ≡ get_or (columns_in plan cs) i d
 column_is plan cs i d h = sym (made_at (column_at plan cs) cs i (get_or cs i (Length 0)) (Length 0) d h refl)
 
 pub in_order : (plan : Plan) (cs : List Constraint) → IsPlanned plan cs → AreInOrder plan.length plan.spacing (columns_in plan cs)

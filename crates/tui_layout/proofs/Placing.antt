@@ -47,30 +47,31 @@ pub width_is : (plan : Plan) (cs : List Constraint) (i left before : ℕ) (c : C
     → took ≡ min (wanted plan.length c) left → w ≡ weight plan.sharing c → width ≡ took + share plan i before w → width ≡ width_at plan cs i c
 width_is plan cs i left before c took w width l b t e f = rw (f, t, l, b, e) refl
 
-pub placing_more : (plan : Plan) (cs : List Constraint) (i left before at : ℕ) (columns next : List Segment) (c d : Constraint) (took w u width begin wide gap : ℕ)
-    → IsPlacing plan cs i left before at columns → i < length cs → c ≡ get_or cs i d
-    → took ≡ min (wanted plan.length c) left → w ≡ weight plan.sharing c → u ≡ w → width ≡ took + share plan i before w
+-- one column more
+pub placing_more : (plan : Plan) (cs : List Constraint) (i left before at : ℕ) (columns : List Segment) (c d : Constraint) (took w width begin wide : ℕ)
+    (less more later : ℕ) (next : List Segment) → IsPlacing plan cs i left before at columns → i < length cs → c ≡ get_or cs i d
+    → took ≡ min (wanted plan.length c) left → w ≡ weight plan.sharing c → width ≡ took + share plan i before w
     → begin ≡ min (at + shift plan i) plan.length → wide ≡ min width plan.length
-    → width ≤ 2 ^ 17 → gap ≡ plan.spacing → gap < 2 ^ 16
+    → less ≡ left - took → more ≡ before + w → later ≡ at + width + plan.spacing → later ≤ at + 2 ^ 18
     → next ≡ columns ++ record { start = begin; width = wide } ∷ []
-    → IsPlacing plan cs (i + 1) (left - took) (before + u) (at + width + gap) next
-placing_more plan cs i left before at columns next c d took w u width begin wide gap x h read t e v f g k small between short n =
+    → IsPlacing plan cs (i + 1) less more later next
+placing_more plan cs i left before at columns c d took w width begin wide less more later next x h read t e f g k l m n near s =
     let own : width ≡ width_at plan cs i c = width_is plan cs i left before c took w width x.room x.weighs t e f in
-    let s : record { start = begin; width = wide } ≡ column_at plan cs i c =
+    let here : record { start = begin; width = wide } ≡ column_at plan cs i c =
     same_segment begin wide (column_at plan cs i c) (omega (arith, g, x.place)) (omega (arith, k, own)) in
     let whole = columns_in plan cs in
-    let more : take (i + 1) whole ≡ take i whole ++ column_at plan cs i c ∷ [] =
+    let longer : take (i + 1) whole ≡ take i whole ++ column_at plan cs i c ∷ [] =
     take_more whole i (column_at plan cs i c) (omega (arith, length-made (column_at plan cs) cs)) ∙
     ap (λ y. take i whole ++ y ∷ []) (made_at (column_at plan cs) cs i c d (column_at plan cs i c) h read) in
     let sums : sum (take (i + 1) (widths_of plan cs)) ≡ sum (take i (widths_of plan cs)) + width_at plan cs i c =
     sum_by_more (λ (y : ℕ). y) (widths_of plan cs) i 0 (omega (arith, length-made (width_at plan cs) cs)) ∙
     ap (λ y. sum (take i (widths_of plan cs)) + y) (made_at (width_at plan cs) cs i c d 0 h read) in
     record {
-      placed = n ∙ ap (λ ys. columns ++ ys ∷ []) s ∙ ap (λ ys. ys ++ column_at plan cs i c ∷ []) x.placed ∙ sym more;
-      room = omega (arith, x.room, t, sum_by_more (wanted plan.length) cs i d h, ap (wanted plan.length) read);
-      weighs = omega (arith, x.weighs, v, e, sum_by_more (weight plan.sharing) cs i d h, ap (weight plan.sharing) read);
-      place = omega (arith, x.place, sums, own, between, suc-mul i plan.spacing);
-      near = omega (arith, x.near);
+      placed = s ∙ ap (λ ys. columns ++ ys ∷ []) here ∙ ap (λ ys. ys ++ column_at plan cs i c ∷ []) x.placed ∙ sym longer;
+      room = omega (arith, l, x.room, t, sum_by_more (wanted plan.length) cs i d h, ap (wanted plan.length) read);
+      weighs = omega (arith, m, x.weighs, e, sum_by_more (weight plan.sharing) cs i d h, ap (weight plan.sharing) read);
+      place = omega (arith, n, x.place, sums, own, suc-mul i plan.spacing);
+      near = omega (arith, near, x.near);
     }
 
 pub placing_end : (plan : Plan) (cs : List Constraint) (i left before at : ℕ) (columns : List Segment) → length cs ≤ i

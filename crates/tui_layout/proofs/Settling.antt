@@ -80,7 +80,9 @@ again_first xs height old (Some s) asked first again h o x y =
 pub settles : WindowSettles
 settles xs height offset selected asked w again x y =
     let e : again.first ≡ w.first = elim (cases_lt 0 (length xs)) [
-      | inl lt ↦ again_first xs height (min offset (length xs - 1)) selected asked w.first again.first lt (omega arith) (x.begins.placed lt) (y.begins.placed lt)
+      | inl lt ↦
+          let old = min offset (length xs - 1) in
+          again_first xs height old selected asked w.first again.first lt (omega arith) (x.begins.placed lt) (y.begins.placed lt)
       | inr le ↦ omega (arith, x.begins.empty (omega arith), y.begins.empty (omega arith))
     ] in
     same_from xs height again w e y.ends x.ends

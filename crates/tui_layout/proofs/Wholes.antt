@@ -57,7 +57,8 @@ last_weighs plan i before w some all = elim (zero_test plan.weights) [
       ))
 ]
 
-last_legacy : (plan : Plan) (i before w : ℕ) → plan.weights ≡ 0 → plan.flex ≡ Legacy → i + 1 ≡ plan.count → given plan before + share plan i before w ≡ plan.rest
+last_legacy : (plan : Plan) (i before w : ℕ) → plan.weights ≡ 0 → plan.flex ≡ Legacy → i + 1 ≡ plan.count
+    → given plan before + share plan i before w ≡ plan.rest
 unfolding given share
 last_legacy plan i before w none legacy last = elim (zero_test plan.weights) [
   | inl z ↦
