@@ -10,7 +10,7 @@ use crate::sums::Sums;
 use std::sync::ledger::Ledger;
 
 /// Which items a number stands for: the greater the number, the more of them.
-#[derive(Clone, Copy, Debug)]
+#[derive(Clone, Copy)]
 pub(crate) enum Reach {
     /// Those around an item, this many on each side.
     Around(usize),

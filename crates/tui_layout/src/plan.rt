@@ -9,7 +9,7 @@ use crate::flex::Flex;
 use crate::sharing::Sharing;
 
 /// What all columns of a length have in common.
-#[derive(Clone, Copy, Debug)]
+#[derive(Clone, Copy)]
 pub(crate) struct Plan {
     /// The length that is split.
     pub(crate) length: u16,

@@ -6,7 +6,7 @@ ghost use Rattle.tui_layout.specs.Sharing.{sharing_of, weight};
 use crate::constraint::Constraint;
 
 /// Who shares the columns that are left when each constraint has taken what it asks for.
-#[derive(Clone, Copy, Debug)]
+#[derive(Clone, Copy)]
 pub(crate) enum Sharing {
     /// Each `Fill`, by its weight.
     Weights,
