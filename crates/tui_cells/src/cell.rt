@@ -93,8 +93,8 @@ impl Cell {
         Ok(())
     }
 
-    /// Joins a symbol with the one that stands here, as `MergeStrategy::merge` does. At NoMemory the cell is as before. A
-    /// text of at most 8 bytes takes no memory.
+    /// Sets what `MergeStrategy::merge` makes of the cell's symbol and a new one; the empty text counts as one blank. At
+    /// NoMemory the cell is as before. A new symbol of at most 8 bytes takes no memory.
     pub fn merge_symbol(&mut self, symbol: &str, strategy: MergeStrategy) -> Mem<()>
         ensures ok { OnOk result (self.new ≡ edited (merge strategy symbol.now) self.old) }
         ensures err { OnErr result (self.new ≡ self.old) }

@@ -6,6 +6,8 @@ mod cells;
 #[cfg(test)]
 mod frames;
 #[cfg(test)]
+mod joining;
+#[cfg(test)]
 mod lines;
 #[cfg(test)]
 mod paragraph;
