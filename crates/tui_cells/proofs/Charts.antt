@@ -44,7 +44,8 @@ same_arms_are a b e =
     let left = and_parts _ _ e in
     let down = and_parts _ _ left.0 in
     let right = and_parts _ _ down.0 in
-    same_parts _ _ _ _ _ _ _ _ (same_weight a.up b.up right.0) (same_weight a.right b.right right.1) (same_weight a.down b.down down.1) (same_weight a.left b.left left.1)
+    same_parts _ _ _ _ _ _ _ _ (same_weight a.up b.up right.0) (same_weight a.right b.right right.1)
+    (same_weight a.down b.down down.1) (same_weight a.left b.left left.1)
 
 -- a test of each arm
 abbrev pub all_four : (Arm → Bool) → Bool
@@ -104,7 +105,8 @@ unfolding symbol_in
 shown_in [] a t e = cc
 shown_in (x ∷ es) a t e = shown_if (same_arms x.1 a) x.0 (symbol_in es a) (and_parts (has_byte x.0) _ t).0 (shown_in es a (and_parts (has_byte x.0) _ t).1) e
   where
-    shown_if : (b : Bool) (s : List ℕ) (o : Option (List ℕ)) → has_byte s ≡ true → (o ≡ Some [] → false ≡ true) → (if b then Some s else o) ≡ Some [] → false ≡ true
+    shown_if : (b : Bool) (s : List ℕ) (o : Option (List ℕ)) → has_byte s ≡ true →
+        (o ≡ Some [] → false ≡ true) → (if b then Some s else o) ≡ Some [] → false ≡ true
     shown_if true [] o h g e = h
     shown_if true (c ∷ cs) o h g e = cc
     shown_if false s o h g e = g e
@@ -231,7 +233,8 @@ none_in (x ∷ es) text t e =
     none_if : (b : Bool) (s text : List ℕ) (a : Arms) (o : Option Arms) → pointwise nat_eq s text ≡ b → is_some (place_in_chart s) ≡ true →
         place_in_chart text ≡ None → o ≡ None → (if b then Some a else o) ≡ None
     none_if true s text a o same placed e g =
-        absurd (false≢true (subst (λ (p : Option ℕ). is_some p ≡ true) e (subst (λ (k : List ℕ). is_some (place_in_chart k) ≡ true) ((bytes_eq-Decides s text).0 same) placed)))
+        absurd (false≢true (subst (λ (p : Option ℕ). is_some p ≡ true) e
+        (subst (λ (k : List ℕ). is_some (place_in_chart k) ≡ true) ((bytes_eq-Decides s text).0 same) placed)))
     none_if false s text a o same placed e g = g
 
 pub not_plain : (text : List ℕ) → place_in_chart text ≡ None → None ≡ plain_arms text

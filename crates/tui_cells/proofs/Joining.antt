@@ -80,7 +80,8 @@ exact_short (Some a) new h = short_in plain_table a new plain_short h
 
 fuzzy_short : (o : Option Arms) (new : List ℕ) → length new ≤ 8 → length (fuzzy_for o new) ≤ 8
 fuzzy_short None new h = h
-fuzzy_short (Some a) new h = short_or (plain_with a) (plain_with (lightened a)) new (short_in plain_table a new plain_short h) (short_in plain_table (lightened a) new plain_short h)
+fuzzy_short (Some a) new h =
+    short_or (plain_with a) (plain_with (lightened a)) new (short_in plain_table a new plain_short h) (short_in plain_table (lightened a) new plain_short h)
 
 -- a symbol that is joined takes no memory where the new one takes none
 pub merged_light : (s : MergeStrategy) (old new : List ℕ) → IsLight new → IsLight (merged s old new)
@@ -99,7 +100,8 @@ armed_in [] symbol a e f = cc
 armed_in (x ∷ es) symbol a e f = armed_if (pointwise nat_eq x.0 symbol) x.1 (arms_in es symbol) a (and_parts (has_arm x.1) (all_armed es) e).0
     (armed_in es symbol a (and_parts (has_arm x.1) (all_armed es) e).1) f
   where
-    armed_if : (b : Bool) (k : Arms) (o : Option Arms) (a : Arms) → has_arm k ≡ true → (o ≡ Some a → has_arm a ≡ true) → (if b then Some k else o) ≡ Some a → has_arm a ≡ true
+    armed_if : (b : Bool) (k : Arms) (o : Option Arms) (a : Arms) → has_arm k ≡ true →
+        (o ≡ Some a → has_arm a ≡ true) → (if b then Some k else o) ≡ Some a → has_arm a ≡ true
     armed_if true k o a h g f = subst (λ (p : Option Arms). has_arm (unwrap_or p k) ≡ true) f h
     armed_if false k o a h g f = g f
 
@@ -112,7 +114,8 @@ unfolding other_table
 other_armed = refl
 
 known_armed : (symbol : List ℕ) (a : Arms) → known_arms symbol ≡ Some a → has_arm a ≡ true
-known_armed symbol a e = either (plain_arms symbol) (arms_in other_table symbol) a (armed_in plain_table symbol a plain_armed) (armed_in other_table symbol a other_armed) e
+known_armed symbol a e =
+    either (plain_arms symbol) (arms_in other_table symbol) a (armed_in plain_table symbol a plain_armed) (armed_in other_table symbol a other_armed) e
   where
     either : (o p : Option Arms) (a : Arms) → (o ≡ Some a → has_arm a ≡ true) → (p ≡ Some a → has_arm a ≡ true) → option_or o p ≡ Some a → has_arm a ≡ true
     either None p a f g e = g e
@@ -141,7 +144,8 @@ pub fuzzy_always_joins : FuzzyAlwaysJoins
 fuzzy_always_joins old new a b e f =
     every_join_exists (lightened (joined a b))
     (rw (lit a.up b.up, lit a.right b.right, lit a.down b.down, lit a.left b.left)
-    (some_arm (weight b.up == 0) (weight b.right == 0) (weight b.down == 0) (weight b.left == 0) (weight a.up == 0) (weight a.right == 0) (weight a.down == 0) (weight a.left == 0) (known_armed new b f)))
+    (some_arm (weight b.up == 0) (weight b.right == 0) (weight b.down == 0) (weight b.left == 0)
+    (weight a.up == 0) (weight a.right == 0) (weight a.down == 0) (weight a.left == 0) (known_armed new b f)))
     (rw (single (joined_arm a.up b.up), single (joined_arm a.right b.right), single (joined_arm a.down b.down), single (joined_arm a.left b.left)) refl)
 
 -- where one is unknown, nothing is joined
