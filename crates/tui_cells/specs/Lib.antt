@@ -1,5 +1,10 @@
 pub mod Rect
 pub mod Style
+pub mod Arms
+pub mod BoxDrawing
+pub mod Merging
+pub mod Chart
+pub mod Strategies
 pub mod Cell
 pub mod Attributes
 pub mod Buffer
@@ -7,3 +12,4 @@ pub mod Text
 pub mod Layers
 pub mod Stays
 pub mod Drawing
+pub mod Symbols

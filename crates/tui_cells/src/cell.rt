@@ -2,12 +2,13 @@
 
 ghost use Rattle.std.specs.Prelude.{◌≡◌, ◌<◌, IsOk, IfOk, OnOk, OnErr, length, string_bytes};
 ghost use Rattle.tui_cells.specs.Attributes.{look_of};
-ghost use Rattle.tui_cells.specs.Cell.{IsLight, blank, dress, edited, put, wipe};
+ghost use Rattle.tui_cells.specs.Cell.{IsLight, IsSymbol, blank, dim, dress, edited, merge, put, wipe};
 
 use crate::attributes::Attributes;
 use crate::color::Color;
 use crate::content::{Content, SHORT, blank_symbol};
 use crate::memory::Mem;
+use crate::merge_strategy::MergeStrategy;
 use crate::modifier::Modifier;
 use crate::style::Style;
 use arrayvec::ArrayString;
@@ -25,11 +26,13 @@ pub struct Cell {
 
 impl Model for Cell {
     ghost use Rattle.tui_cells.specs.Attributes.{content_look};
-    ghost use Rattle.tui_cells.specs.Cell.{Look};
+    ghost use Rattle.tui_cells.specs.Cell.{IsSymbol, Look};
 
     ghost Value = { Look };
 
     ghost view = { λ c. content_look c.content };
+
+    ghost invariant = { λ c. IsSymbol (content_look c.content).symbol };
 }
 
 impl Cell {
@@ -45,7 +48,8 @@ impl Cell {
 
     /// The symbol, which is never empty.
     pub fn symbol(&self) -> &str
-        ensures { result.now ≡ self.now.symbol }
+        ensures is { result.now ≡ self.now.symbol }
+        ensures some { IsSymbol result.now }
     {
         self.content.symbol()
     }
@@ -87,6 +91,25 @@ impl Cell {
     {
         self.content = Content::of(self.alloc, symbol, self.content.attributes())?;
         Ok(())
+    }
+
+    /// Sets what `MergeStrategy::merge` makes of the cell's symbol and a new one; the empty text counts as one blank. At
+    /// NoMemory the cell is as before. A new symbol of at most 8 bytes takes no memory.
+    pub fn merge_symbol(&mut self, symbol: &str, strategy: MergeStrategy) -> Mem<()>
+        ensures ok { OnOk result (self.new ≡ edited (merge strategy symbol.now) self.old) }
+        ensures err { OnErr result (self.new ≡ self.old) }
+        ensures light { IsLight symbol.now → IsOk result }
+    {
+        let merged = strategy.merge(self.content.symbol(), symbol);
+        self.content = Content::of(self.alloc, merged, self.content.attributes())?;
+        Ok(())
+    }
+
+    /// Adds DIM and halves the background.
+    pub(crate) fn dim(&mut self)
+        ensures { self.new ≡ edited dim self.old }
+    {
+        self.content.dim();
     }
 
     /// Sets the colours that are given, adds the added modifiers and then takes out the removed ones.

@@ -3,7 +3,7 @@
 ghost use Rattle.std.specs.Prelude.{◌≡◌, ◌<◌, [], ◌∷◌, IsOk, IfOk, IfSome, None, length, string_bytes};
 ghost use Rattle.std.specs.Char.{encode_utf8};
 ghost use Rattle.tui_cells.specs.Attributes.{content_look, look_of};
-ghost use Rattle.tui_cells.specs.Cell.{IsLight, dressed, space, symbol_of};
+ghost use Rattle.tui_cells.specs.Cell.{IsLight, IsSymbol, dim, dressed, edited, space, symbol_of};
 
 use crate::attributes::Attributes;
 use crate::memory::Mem;
@@ -78,6 +78,7 @@ fn short_symbol(text: &str) -> Option<ArrayString<SHORT>>
 impl Content {
     pub(crate) fn of(alloc: Global, text: &str, attributes: Attributes) -> Mem<Content>
         ensures ok { IfOk result (λ c. content_look c ≡ look_of (symbol_of text.now) attributes) }
+        ensures some { IfOk result (λ c. IsSymbol (content_look c).symbol) }
         ensures light { IsLight text.now → IsOk result }
     {
         let text = shown(text);
@@ -114,6 +115,15 @@ impl Content {
         match self {
             Content::Short(attributes, _) => attributes.set_style(style),
             Content::Long(attributes, _) => attributes.set_style(style),
+        }
+    }
+
+    pub(crate) fn dim(&mut self)
+        ensures { content_look self.new ≡ edited dim (content_look self.old) }
+    {
+        match self {
+            Content::Short(attributes, _) => attributes.dim(),
+            Content::Long(attributes, _) => attributes.dim(),
         }
     }
 

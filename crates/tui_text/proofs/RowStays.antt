@@ -9,6 +9,7 @@ use Rattle.tui_cells.specs.declared.style.Style.{Style}
 use Rattle.tui_cells.specs.Buffer.{Screen}
 use Rattle.tui_cells.specs.Layers.{KeptOutside, Layer, Painted, StayIn, at_place, stroke}
 use Rattle.tui_cells.proofs.Painting.{Painted-kept}
+use Rattle.tui_cells.proofs.Regions.{StayIn-wider}
 use Rattle.tui_cells.specs.Rect.{covers, is_empty}
 use Rattle.tui_cells.specs.Stays.{StayIn-append, StayIn-none, StayIn-stroke}
 use Rattle.tui_text.specs.Grapheme.{Glyph, glyph_width}
@@ -17,10 +18,6 @@ use Rattle.tui_text.specs.Painting.{alignment_in, before_it, below, cells_at, fi
 use Rattle.tui_text.specs.Text.{TextData}
 use Rattle.tui_text.specs.Width.{line_width, saturated}
 use Rattle.tui_text.specs.declared.alignment.Alignment.{Alignment}
-
--- strokes that stay in a region stay in a larger one
-pub StayIn-wider : {R S : ℕ → ℕ → Bool} {ls : List Layer} → ((x y : ℕ) → S x y ≡ false → R x y ≡ false) → StayIn R ls → StayIn S ls
-StayIn-wider e s = record { cell = λ x y out k. s.cell x y (e x y out) k }
 
 place_out : (row : Rect) (x y a b : ℕ) → covers row x y ≡ true → covers row a b ≡ false → at_place x y a b ≡ false
 place_out row x y a b inside out = grind (arith, nat_tests)

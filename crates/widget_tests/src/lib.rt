@@ -6,6 +6,8 @@ mod cells;
 #[cfg(test)]
 mod frames;
 #[cfg(test)]
+mod joining;
+#[cfg(test)]
 mod layout;
 #[cfg(test)]
 mod lines;

@@ -1,0 +1,25 @@
+-- Regions of a buffer: rectangles in others, and strokes that stay in a region.
+use Rattle.std.proofs.Common.{◌≡◌, ℕ, Bool, false, ◌&&◌, ◌||◌, not, List, arith}
+use Rattle.std.proofs.lemmas.Bool.Decides.{nat_tests}
+use Rattle.tui_cells.specs.declared.rect.Rect.{Rect}
+use Rattle.tui_cells.specs.Layers.{Layer, StayIn}
+use Rattle.tui_cells.specs.Rect.{covers, intersection_of}
+
+-- an intersection covers what both cover
+pub covers_both : (a b : Rect) (x y : ℕ) → covers (intersection_of a b) x y ≡ (covers a x y && covers b x y)
+covers_both a b x y = grind (arith, nat_tests)
+
+-- outside a clip one is outside each part of it
+pub outside_both : (clip part : Rect) (x y : ℕ) → covers clip x y ≡ false → covers (intersection_of clip part) x y ≡ false
+outside_both clip part x y out = grind (arith, nat_tests)
+
+-- outside a base and an area, one is not in the area outside the base
+pub shade_out : (area base : Bool) → (base || area) ≡ false → (area && not base) ≡ false
+shade_out area base e = grind arith
+
+pub first_out : (area base : Bool) → (base || area) ≡ false → base ≡ false
+first_out area base e = grind arith
+
+-- strokes that stay in a region stay in a larger one
+pub StayIn-wider : {R S : ℕ → ℕ → Bool} {ls : List Layer} → ((x y : ℕ) → S x y ≡ false → R x y ≡ false) → StayIn R ls → StayIn S ls
+StayIn-wider e s = record { cell = λ x y out k. s.cell x y (e x y out) k }

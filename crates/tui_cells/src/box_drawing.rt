@@ -1,0 +1,163 @@
+//! The characters of the chart Box Drawing, U+2500 to U+257F, by their arms.
+
+ghost use Rattle.std.specs.Prelude.{◌≡◌, map, option_map};
+ghost use Rattle.tui_cells.specs.BoxDrawing.{known_arms, plain_arms, plain_with};
+ghost use Rattle.tui_cells.specs.Chart.{drawn_arms, place_in_chart, plain_drawn, symbols_by_arms};
+
+use crate::arms::{Arm, Arms};
+
+/// What a text counts as where border symbols are joined.
+#[derive(Clone, Copy, Debug, PartialEq, Eq, Hash)]
+pub(crate) enum Drawn {
+    /// A plain symbol.
+    Plain(Arms),
+    /// A dashed or rounded symbol, with the arms of the plain one that it counts as.
+    Alike(Arms),
+    /// No such symbol.
+    Other,
+}
+
+impl Drawn {
+    pub(crate) fn plain(self) -> Option<Arms>
+        ensures { result ≡ plain_drawn self }
+    {
+        match self {
+            Drawn::Plain(arms) => Some(arms),
+            _ => None,
+        }
+    }
+
+    pub(crate) fn arms(self) -> Option<Arms>
+        ensures { result ≡ drawn_arms self }
+    {
+        match self {
+            Drawn::Plain(arms) | Drawn::Alike(arms) => Some(arms),
+            Drawn::Other => None,
+        }
+    }
+}
+
+pub(crate) fn drawn_as(symbol: &str) -> Drawn
+    ensures plain { plain_drawn result ≡ plain_arms symbol.now }
+    ensures known { drawn_arms result ≡ known_arms symbol.now }
+{
+    match place_in_chart(symbol) {
+        Some(place) => chart()[place as usize],
+        None => Drawn::Other,
+    }
+}
+
+fn chart() -> &'static [Drawn]
+    ensures { result.now ≡ CHART }
+{
+    &CHART
+}
+
+/// The place in the chart of a text that is one of its characters.
+fn place_in_chart(symbol: &str) -> Option<u8>
+    ensures { result ≡ place_in_chart symbol.now }
+{
+    match symbol.as_bytes() {
+        [0xE2, 0x94, low @ 0x80..=0xBF] => Some(*low - 0x80),
+        [0xE2, 0x95, low @ 0x80..=0xBF] => Some(*low - 0x40),
+        _ => None,
+    }
+}
+
+/// The plain symbol with these arms.
+pub(crate) fn symbol_with(arms: Arms) -> Option<&'static str>
+    ensures { option_map (λ s. s.now) result ≡ plain_with arms }
+{
+    let symbol = symbols_by_arms()[arms.number()];
+    if symbol.is_empty() {
+        None
+    } else {
+        Some(symbol)
+    }
+}
+
+/// The plain symbol for each number of a set of arms, empty where there is none.
+fn symbols_by_arms() -> &'static [&'static str]
+    ensures { map (λ s. s.now) result.now ≡ symbols_by_arms }
+{
+    &SYMBOLS
+}
+
+macro_rules! arm {
+    (-) => { Arm::Empty };
+    (l) => { Arm::Light };
+    (h) => { Arm::Heavy };
+    (d) => { Arm::Double };
+}
+
+// The arms up, right, down and left in brackets for a plain symbol, in parentheses for a dashed or rounded one.
+macro_rules! drawn {
+    ([$up:tt $right:tt $down:tt $left:tt]) => {
+        Drawn::Plain(Arms { up: arm!($up), right: arm!($right), down: arm!($down), left: arm!($left) })
+    };
+    (($up:tt $right:tt $down:tt $left:tt)) => {
+        Drawn::Alike(Arms { up: arm!($up), right: arm!($right), down: arm!($down), left: arm!($left) })
+    };
+    (other) => { Drawn::Other };
+}
+
+macro_rules! chart {
+    ($($entry:tt)*) => { [$(drawn!($entry)),*] };
+}
+
+#[rattlefmt::skip]
+static CHART: [Drawn; 128] = chart! {
+    [- l - l] [- h - h] [l - l -] [h - h -] // ─ ━ │ ┃
+    (- l - l) (- h - h) (l - l -) (h - h -) // ┄ ┅ ┆ ┇
+    (- l - l) (- h - h) (l - l -) (h - h -) // ┈ ┉ ┊ ┋
+    [- l l -] [- h l -] [- l h -] [- h h -] // ┌ ┍ ┎ ┏
+    [- - l l] [- - l h] [- - h l] [- - h h] // ┐ ┑ ┒ ┓
+    [l l - -] [l h - -] [h l - -] [h h - -] // └ ┕ ┖ ┗
+    [l - - l] [l - - h] [h - - l] [h - - h] // ┘ ┙ ┚ ┛
+    [l l l -] [l h l -] [h l l -] [l l h -] // ├ ┝ ┞ ┟
+    [h l h -] [h h l -] [l h h -] [h h h -] // ┠ ┡ ┢ ┣
+    [l - l l] [l - l h] [h - l l] [l - h l] // ┤ ┥ ┦ ┧
+    [h - h l] [h - l h] [l - h h] [h - h h] // ┨ ┩ ┪ ┫
+    [- l l l] [- l l h] [- h l l] [- h l h] // ┬ ┭ ┮ ┯
+    [- l h l] [- l h h] [- h h l] [- h h h] // ┰ ┱ ┲ ┳
+    [l l - l] [l l - h] [l h - l] [l h - h] // ┴ ┵ ┶ ┷
+    [h l - l] [h l - h] [h h - l] [h h - h] // ┸ ┹ ┺ ┻
+    [l l l l] [l l l h] [l h l l] [l h l h] // ┼ ┽ ┾ ┿
+    [h l l l] [l l h l] [h l h l] [h l l h] // ╀ ╁ ╂ ╃
+    [h h l l] [l l h h] [l h h l] [h h l h] // ╄ ╅ ╆ ╇
+    [l h h h] [h l h h] [h h h l] [h h h h] // ╈ ╉ ╊ ╋
+    (- l - l) (- h - h) (l - l -) (h - h -) // ╌ ╍ ╎ ╏
+    [- d - d] [d - d -] [- d l -] [- l d -] // ═ ║ ╒ ╓
+    [- d d -] [- - l d] [- - d l] [- - d d] // ╔ ╕ ╖ ╗
+    [l d - -] [d l - -] [d d - -] [l - - d] // ╘ ╙ ╚ ╛
+    [d - - l] [d - - d] [l d l -] [d l d -] // ╜ ╝ ╞ ╟
+    [d d d -] [l - l d] [d - d l] [d - d d] // ╠ ╡ ╢ ╣
+    [- d l d] [- l d l] [- d d d] [l d - d] // ╤ ╥ ╦ ╧
+    [d l - l] [d d - d] [l d l d] [d l d l] // ╨ ╩ ╪ ╫
+    [d d d d] (- l l -) (- - l l) (l - - l) // ╬ ╭ ╮ ╯
+    (l l - -) other other other // ╰ ╱ ╲ ╳
+    [- - - l] [l - - -] [- l - -] [- - l -] // ╴ ╵ ╶ ╷
+    [- - - h] [h - - -] [- h - -] [- - h -] // ╸ ╹ ╺ ╻
+    [- h - l] [l - h -] [- l - h] [h - l -] // ╼ ╽ ╾ ╿
+};
+
+// A row for each pair of arms up and right, a column for each pair of arms down and left.
+#[rattlefmt::skip]
+static SYMBOLS: [&str; 256] = [
+    "", "╴", "╸", "", "╷", "┐", "┑", "╕", "╻", "┒", "┓", "", "", "╖", "", "╗",
+    "╶", "─", "╾", "", "┌", "┬", "┭", "", "┎", "┰", "┱", "", "╓", "╥", "", "",
+    "╺", "╼", "━", "", "┍", "┮", "┯", "", "┏", "┲", "┳", "", "", "", "", "",
+    "", "", "", "═", "╒", "", "", "╤", "", "", "", "", "╔", "", "", "╦",
+    "╵", "┘", "┙", "╛", "│", "┤", "┥", "╡", "╽", "┧", "┪", "", "", "", "", "",
+    "└", "┴", "┵", "", "├", "┼", "┽", "", "┟", "╁", "╅", "", "", "", "", "",
+    "┕", "┶", "┷", "", "┝", "┾", "┿", "", "┢", "╆", "╈", "", "", "", "", "",
+    "╘", "", "", "╧", "╞", "", "", "╪", "", "", "", "", "", "", "", "",
+    "╹", "┚", "┛", "", "╿", "┦", "┩", "", "┃", "┨", "┫", "", "", "", "", "",
+    "┖", "┸", "┹", "", "┞", "╀", "╃", "", "┠", "╂", "╉", "", "", "", "", "",
+    "┗", "┺", "┻", "", "┡", "╄", "╇", "", "┣", "╊", "╋", "", "", "", "", "",
+    "", "", "", "", "", "", "", "", "", "", "", "", "", "", "", "",
+    "", "╜", "", "╝", "", "", "", "", "", "", "", "", "║", "╢", "", "╣",
+    "╙", "╨", "", "", "", "", "", "", "", "", "", "", "╟", "╫", "", "",
+    "", "", "", "", "", "", "", "", "", "", "", "", "", "", "", "",
+    "╚", "", "", "╩", "", "", "", "", "", "", "", "", "╠", "", "", "╬",
+];

@@ -1,0 +1,53 @@
+//! Border symbols joined, and rectangles moved, by values worked by hand.
+
+use std::str::FromStr;
+use std::test::Fail;
+use tui_cells::MergeStrategy::{Exact, Fuzzy, Replace};
+use tui_cells::{Buffer, MergeStrategy, Offset, ParseError, Position, Rect};
+
+fn joins(strategy: MergeStrategy, old: &str, new: &str, joined: &str) -> bool {
+    strategy.merge(old, new) == joined
+}
+
+#[test]
+fn symbols(rt: HostRuntime) {
+    assert!(&rt; joins(Exact, "│", "─", "┼"));
+    assert!(&rt; joins(Exact, "║", "─", "╫"));
+    assert!(&rt; joins(Exact, "┃", "═", "═"));
+    assert!(&rt; joins(Fuzzy, "┃", "═", "╂"));
+    assert!(&rt; joins(Exact, "╭", "╭", "╭"));
+    assert!(&rt; joins(Fuzzy, "╭", "╭", "┌"));
+    assert!(&rt; joins(Exact, " ", "┌", "┌"));
+    assert!(&rt; joins(Replace, "│", "─", "─"));
+}
+
+#[test]
+fn cells(rt: HostRuntime) -> Result<(), Fail> {
+    let corner = Position::new(1, 0);
+    let mut buffer = Buffer::empty(rt.alloc(), Rect::new(0, 0, 2, 1))?;
+    buffer.set_symbol(corner, "┐")?;
+    buffer.merge_symbol(corner, "┌", Exact)?;
+    buffer.merge_symbol(Position::new(2, 0), "┌", Exact)?;
+    assert_eq!(rt; buffer.cell(corner).map(|cell| cell.symbol()), Some("┬"));
+    Ok(())
+}
+
+#[test]
+fn names(rt: HostRuntime) -> Result<(), Fail> {
+    for strategy in [Replace, Exact, Fuzzy] {
+        let name = format!(in rt.alloc(); "{strategy}")?;
+        assert!(&rt; MergeStrategy::from_str(name.as_str()) == Ok(strategy));
+    }
+    assert!(&rt; MergeStrategy::from_str("exact") == Err(ParseError::VariantNotFound));
+    Ok(())
+}
+
+#[test]
+fn moves(rt: HostRuntime) {
+    let area = Rect::new(3, 1, 4, 2);
+    let cases = [(1, 1, 4, 2), (-4, -1, 0, 0), (i32::MAX, i32::MIN, 65531, 0)];
+    for (right, down, x, y) in cases {
+        let moved = area.offset(Offset::new(right, down));
+        assert_eq!(rt; moved, Rect { x, y, ..area });
+    }
+}
