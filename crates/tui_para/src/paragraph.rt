@@ -1,6 +1,6 @@
 //! Paragraphs.
 
-ghost use Rattle.std.specs.Prelude.{◌≡◌, ◌<◌, List, length, None, Some, Ok, All, IsOk, IfOk, IsSome, IfSome, ℕ, false, sum_by};
+ghost use Rattle.std.specs.Prelude.{◌≡◌, ◌<◌, List, length, None, Some, Ok, All, IsOk, IfOk, true, IsSome, IfSome, ℕ, false, sum_by};
 ghost use Rattle.tui_para.specs.Paragraph.{paragraph_data, paragraph_of};
 ghost use Rattle.tui_para.specs.Division.{IsFewest};
 ghost use Rattle.tui_para.specs.Lines.{GlyphLine};
@@ -105,7 +105,8 @@ impl<'a> Paragraph<'a> {
 
     /// An equal paragraph of its own. `NoMemory` where there is none for the text.
     pub fn clone(&self) -> Mem<Paragraph<'a>>
-        ensures { IfOk result (λ paragraph. paragraph_data paragraph ≡ paragraph_data self.now) }
+        ensures is { IfOk result (λ paragraph. paragraph_data paragraph ≡ paragraph_data self.now) }
+        ensures equal { IfOk result (λ paragraph. ⟦<Paragraph<'a> as PartialEq>⟧.eq paragraph self.now ≡ true) }
     {
         Ok(Paragraph {
             text: self.text.clone()?,

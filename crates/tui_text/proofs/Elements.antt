@@ -1,6 +1,8 @@
 -- An element of a list that is seen by a function, and answers that hold of an Ok.
-use Rattle.std.proofs.Common.{◌≡◌, ℕ, ◌+◌, ◌<◌, ◌≤◌, List, [], ◌∷◌, All, Result, Ok, Err, OnOk, IfOk, drop, get_or, length, map, nat_lt, sum_by, true, arith, ◌∙◌, ap, sym, subst, add-one, drop-cons}
-use Rattle.std.proofs.lemmas.List.{drop_all, get_or-map, length-map}
+use Rattle.std.proofs.Common.{refl, take, ◌≡◌, ℕ, ◌+◌, ◌<◌, ◌≤◌, Bool, ◌++◌, List, [], ◌∷◌, All, Result, Ok, Err, OnOk, IfOk, drop, get_or, length, map, nat_lt, sum_by, true, arith, ◌∙◌, ap, sym, subst, add-one, drop-cons}
+use Rattle.std.proofs.lemmas.List.{map-append, take_more, drop_all, get_or-map, length-map}
+use Rattle.std.specs.Cmp.Lexicographic.{pointwise}
+use Rattle.std.proofs.lemmas.Bool.{and_parts}
 use Rattle.std.proofs.lemmas.Bool.Decides.{nat_tests}
 use Rattle.std.proofs.lemmas.List.Elements.{All-get_or}
 use Rattle.std.proofs.lemmas.List.Sums.{get_or-le-sum_by}
@@ -42,3 +44,20 @@ on_ok (Err e) f p = tt
 pub if_ok : {T E : Type 0} {P Q : T → Type 0} (r : Result T E) → ((x : T) → P x → Q x) → IfOk r P → IfOk r Q
 if_ok (Ok x) f p = f x p
 if_ok (Err e) f p = tt
+
+-- what is seen of the first elements and of one more, which looks like the next one
+pub seen_more : {A B : Type 0} (f : A → B) (xs ys : List A) (i : ℕ) (x y d : A) → i < length xs → x ≡ get_or xs i d → f y ≡ f x →
+    map f ys ≡ map f (take i xs) → map f (ys ++ y ∷ []) ≡ map f (take (i + 1) xs)
+seen_more f xs ys i x y d lt at like e =
+    let more : map f (take (i + 1) xs) ≡ map f (take i xs) ++ f x ∷ [] =
+    ap (map f) (take_more xs i d lt ∙ ap (λ z. take i xs ++ z ∷ []) (sym at)) ∙ map-append f (take i xs) (x ∷ []) in
+    map-append f ys (y ∷ []) ∙ (ap (λ zs. zs ++ f y ∷ []) e ∙ (ap (λ z. map f (take i xs) ++ z ∷ []) like ∙ sym more))
+
+-- two lists that are equal element by element, and one more of each
+pub pointwise_push : {A : Type 0} (E : A → A → Bool) (xs ys : List A) (x y : A) → pointwise E xs ys ≡ true → E x y ≡ true →
+    pointwise E (xs ++ x ∷ []) (ys ++ y ∷ []) ≡ true
+pointwise_push E [] [] x y e same = rw same refl
+pointwise_push E [] (v ∷ ys) x y e same = cc
+pointwise_push E (u ∷ xs) [] x y e same = cc
+pointwise_push E (u ∷ xs) (v ∷ ys) x y e same =
+    let both = and_parts (E u v) (pointwise E xs ys) e in rw (both.0, pointwise_push E xs ys x y both.1 same) refl
