@@ -25,6 +25,12 @@ def words(length):
     return " ".join(text)
 
 
+def short_lines(length):
+    """A text of about so many bytes, in lines of five words of the text above."""
+    each = words(length).split(" ")
+    return "\n".join(" ".join(each[i : i + 5]) for i in range(0, len(each), 5))
+
+
 def paragraph(text, area, **fields):
     return {"widget": "paragraph", "area": list(area), "text": text, **fields}
 
@@ -43,6 +49,7 @@ SCENES = {
     "fill20": lambda: scene(1000, 1000, [fill("abcdefghijklmnopqrst"[i]) for i in range(20)]),
     "symbol31": lambda: scene(1000, 1000, [fill("e" + "\u0301" * 15)]),
     "paragraph": lambda: scene(200, 1000, [paragraph(words(500_000), (0, 0, 200, 1000), wrap={"trim": True})]),
+    "lines": lambda: scene(200, 1000, [paragraph(short_lines(500_000), (0, 0, 200, 1000), wrap={"trim": True})]),
     "line20": lambda: scene(20, 10, [paragraph(words(1_000_000), (0, 0, 20, 10), wrap={"trim": True}, scroll=[65535, 0])]),
     "line1000": lambda: scene(1000, 10, [paragraph(words(1_000_000), (0, 0, 1000, 10), wrap={"trim": True}, scroll=[65535, 0])]),
     "unwrapped": lambda: scene(1000, 10, [paragraph(words(1_000_000), (0, 0, 1000, 10))]),
