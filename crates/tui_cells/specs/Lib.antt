@@ -13,3 +13,4 @@ pub mod Layers
 pub mod Stays
 pub mod Drawing
 pub mod Symbols
+pub mod Names

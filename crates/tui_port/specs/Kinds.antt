@@ -1,5 +1,6 @@
 -- Kinds of value. Each is a function of the data of a JSON value: None where that is not of the kind, anywhere inside.
-pub mod Alignment
+pub mod Named
+pub mod Names
 pub mod Area
 pub mod Color
 pub mod Line

@@ -1,6 +1,6 @@
 //! The kinds of value that the schema names, each read from JSON in one way.
 
-mod alignment;
+mod named;
 mod area;
 mod array;
 mod color;

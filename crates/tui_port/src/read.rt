@@ -1,6 +1,6 @@
 //! Reading a source to its end.
 
-ghost use Rattle.std.specs.Prelude.{◌≡◌, ◌≢◌, ◌+◌, ◌≤◌, Err, length, IfOk, IsErrOf};
+ghost use Rattle.std.specs.Prelude.{◌≡◌, ◌≢◌, ◌≤◌, Err, length, IfOk, IsErrOf};
 ghost use Rattle.std.specs.Io.KnownBytes.{Consumes, IsAtEnd};
 ghost use Rattle.tui_port.specs.Causes.{Gave, Rose};
 ghost use Rattle.tui_port.specs.declared.read.ReadEnd.TheVariants.{NoMemory};
@@ -38,15 +38,15 @@ impl From<AllocError> for ReadEnd {
 pub fn read_all<S: Source>(alloc: Global, source: &mut S) -> Result<Vec<u8>, ReadEnd>
     ensures ok { IfOk result (λ v. Consumes (S.left source.old) (S.left source.new) v.items
         × IsAtEnd (S.left source.new)
-        × (length v.items ≤ LIMIT)) }
+        × (length v.items ≤ 1048576)) }
 
     // What the source gave else: a byte past the limit at `TooLong` alone, all of it in one read.
     ensures too_long { IsErrOf result ReadEnd.TooLong →
-        Gave (S.left source.old) (S.left source.new) (LIMIT + 1) (LIMIT + CHUNK) }
+        Gave (S.left source.old) (S.left source.new) 1048577 1056768 }
     ensures read_fault { IsErrOf result ReadEnd.ReadFault →
-        Gave (S.left source.old) (S.left source.new) 0 LIMIT }
+        Gave (S.left source.old) (S.left source.new) 0 1048576 }
     ensures no_memory { IsErrOf result ReadEnd.NoMemory →
-        Gave (S.left source.old) (S.left source.new) 0 LIMIT }
+        Gave (S.left source.old) (S.left source.new) 0 1048576 }
 
     // The count of faults: `ReadFault` has its cause, and every other ending leaves the count.
     ensures cause { IsErrOf result ReadEnd.ReadFault → Rose (S.faults source.old) (S.faults source.new) }

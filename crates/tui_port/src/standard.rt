@@ -15,9 +15,10 @@ pub struct StdSource<R> {
 }
 
 impl<R: Read + Drop> StdSource<R> {
-    /// A source over this reader, which has not failed yet.
+    /// A source over this reader, of which nothing is read, and which has not failed yet.
     pub fn new(inner: R) -> StdSource<R>
-        ensures { result.faults ≡ 0 }
+        ensures untouched { result.inner ≡ inner }
+        ensures fresh { result.faults ≡ 0 }
     {
         StdSource { inner, faults: 0 }
     }
@@ -48,9 +49,10 @@ pub struct StdSink<W> {
 }
 
 impl<W: Write + Drop> StdSink<W> {
-    /// A sink over this writer, which has not failed yet.
+    /// A sink over this writer, to which nothing is written, and which has not failed yet.
     pub fn new(inner: W) -> StdSink<W>
-        ensures { result.faults ≡ 0 }
+        ensures untouched { result.inner ≡ inner }
+        ensures fresh { result.faults ≡ 0 }
     {
         StdSink { inner, faults: 0 }
     }

@@ -9,7 +9,8 @@ use Rattle.tui_para.specs.declared.wrap.Wrap.{Wrap}
 use Rattle.tui_para.specs.Paragraph.{ParagraphData, paragraph_of as new_paragraph}
 use Rattle.tui_port.specs.declared.field.Field.TheVariants as fields
 use Rattle.tui_port.specs.Items.Names.{not_built}
-use Rattle.tui_port.specs.Kinds.Alignment.{alignment_of}
+use Rattle.tui_port.specs.Kinds.Named.{named_of}
+use Rattle.tui_port.specs.Kinds.Names.{alignments}
 use Rattle.tui_port.specs.Kinds.Members.{pair_of}
 use Rattle.tui_port.specs.Kinds.Number.{u16_of}
 use Rattle.tui_port.specs.Kinds.Style.{style_of}
@@ -38,5 +39,5 @@ paragraph_of i d = do
   text ← required text_of i fields.Text d
   wrap ← optional wrap_of i fields.Wrap d
   scroll ← optional (pair_of u16_of u16_of) i fields.Scroll d
-  alignment ← optional alignment_of i fields.Alignment d
+  alignment ← optional (named_of alignments) i fields.Alignment d
   Ok (paragraph_with text style wrap scroll alignment)

@@ -4,7 +4,8 @@ use Rattle.serde_json.specs.Data.{Data, string, array}
 use Rattle.tui_cells.specs.Style.{no_style}
 use Rattle.tui_text.specs.Line.{LineData, empty_line, raw_line}
 use Rattle.tui_port.specs.Kinds.Members.{◌>>=◌, list_of, member, optional_member}
-use Rattle.tui_port.specs.Kinds.Alignment.{alignment_of}
+use Rattle.tui_port.specs.Kinds.Named.{named_of}
+use Rattle.tui_port.specs.Kinds.Names.{alignments}
 use Rattle.tui_port.specs.Kinds.Span.{span_of}
 use Rattle.tui_port.specs.Kinds.Style.{style_of}
 
@@ -16,5 +17,5 @@ line_of (array ds) = do
 line_of d = do
   spans ← member (list_of span_of) (codes "spans") d
   style ← optional_member style_of (codes "style") d
-  alignment ← optional_member alignment_of (codes "alignment") d
+  alignment ← optional_member (named_of alignments) (codes "alignment") d
   Some (record { spans = spans; style = unwrap_or style no_style; alignment = alignment })

@@ -4,7 +4,8 @@ use Rattle.serde_json.specs.Data.{Data, string, array}
 use Rattle.tui_cells.specs.Style.{no_style}
 use Rattle.tui_text.specs.Text.{TextData, empty_text, raw_text}
 use Rattle.tui_port.specs.Kinds.Members.{◌>>=◌, list_of, member, optional_member}
-use Rattle.tui_port.specs.Kinds.Alignment.{alignment_of}
+use Rattle.tui_port.specs.Kinds.Named.{named_of}
+use Rattle.tui_port.specs.Kinds.Names.{alignments}
 use Rattle.tui_port.specs.Kinds.Line.{line_of}
 use Rattle.tui_port.specs.Kinds.Style.{style_of}
 
@@ -16,5 +17,5 @@ text_of (array ds) = do
 text_of d = do
   lines ← member (list_of line_of) (codes "lines") d
   style ← optional_member style_of (codes "style") d
-  alignment ← optional_member alignment_of (codes "alignment") d
+  alignment ← optional_member (named_of alignments) (codes "alignment") d
   Some (record { lines = lines; style = unwrap_or style no_style; alignment = alignment })

@@ -1,0 +1,43 @@
+//! Enums, by the name of the variant.
+
+ghost use Rattle.std.specs.Prelude.{◌≡◌, ℕ, List, Result};
+ghost use Rattle.std.specs.Result.{result_ok};
+ghost use Rattle.tui_cells.specs.declared.error.ParseError.{ParseError};
+ghost use Rattle.tui_port.specs.Kinds.Named.{Names, named_of, reads_named, value_named};
+ghost use Rattle.tui_port.specs.Kinds.Names.{alignments};
+
+use crate::kinds::kind::{Kind, KindError};
+use serde_json::Value;
+use std::alloc::Global;
+use std::str::FromStr;
+use tui_cells::ParseError;
+use tui_text::Alignment;
+
+/// An enum that is read by its `FromStr`, from the name of a variant.
+pub(crate) trait Named: FromStr<Err = ParseError> {
+    // The values and their names.
+    ghost names: { Names Self };
+
+    // What is read of a text is the value of this name.
+    ghost reads: { (text : List ℕ) (answer : Result Self ParseError) → Self.from_str_gives text answer
+        → result_ok answer ≡ value_named names text };
+}
+
+impl<'v, T: Named> Kind<'v> for T {
+    ghost Seen = { T };
+
+    ghost seen = { λ value. value };
+
+    ghost kind = { named_of T.names };
+
+    fn read(_alloc: Global, value: &'v Value) -> Result<T, KindError> {
+        let text = value.as_str().ok_or(KindError::WrongKind)?;
+        text.parse().map_err(|_| KindError::WrongKind)
+    }
+}
+
+impl Named for Alignment {
+    ghost names = { alignments };
+
+    ghost reads = { reads_named alignments };
+}
