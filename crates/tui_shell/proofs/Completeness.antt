@@ -1,16 +1,15 @@
 -- A run without faults over a scene.
-use Rattle.std.proofs.Common.{◌≡◌, ℕ, ◌≤◌, List, length, Option, Some, None, Ok, Err, String, Global, refl, sym, ap, subst, ◌∙◌, arith, inl, inr}
+use Rattle.std.proofs.Common.{◌≡◌, ◌≢◌, ℕ, ◌≤◌, List, length, Option, Some, None, String, Global, refl, sym, ap, subst, ◌∙◌, arith, inl, inr}
 use Rattle.std.specs.Prelude.{IsUtf8, ◌⊎◌}
 use Rattle.std.proofs.lemmas.List.{append-nil, length-append}
 use Rattle.std.specs.Io.KnownBytes.{Consumes, IsAtEnd}
 use Rattle.serde_json.specs.Data.{Data}
 use Rattle.serde_json.specs.Read.{read}
-use Rattle.tui_port.specs.Refusals.{Refusal}
-use Rattle.tui_port.specs.Scene.{SceneData, scene_of}
+use Rattle.tui_port.specs.Causes.{Rose}
 use Rattle.tui_shell.specs.declared.ended.Ended.{Ended}
 use Rattle.tui_shell.specs.declared.ended.Ended.TheVariants as ended
-use Rattle.tui_shell.specs.Endings.{AreScene, Call, Ends, ReadWhole}
-use Rattle.tui_shell.specs.Complete.{IsComplete}
+use Rattle.tui_shell.specs.Endings.{AreScene, Call, Ends, ReadJson, ReadWhole}
+use Rattle.tui_shell.specs.Complete.{AreJson, CallFor, IsComplete}
 
 is_all : (bytes xs : List ℕ) (left : Option (List ℕ)) → Consumes (Some bytes) left xs → IsAtEnd left → xs ≡ bytes
 is_all bytes xs None c e = absurd c
@@ -23,29 +22,41 @@ no_longer bytes xs (Some ys) c = omega (arith, ap length c, length-append xs ys)
 whole_is : (call : Call) (bytes xs : List ℕ) → call.left ≡ Some bytes → ReadWhole call xs → xs ≡ bytes
 whole_is call bytes xs e w = is_all bytes xs call.left_then (rw e at w.taken) w.end
 
-not_none : (xs bytes : List ℕ) (d : Data) → xs ≡ bytes → read bytes ≡ Some d → read xs ≡ None → ⊥
-not_none xs bytes d e h n = cc
+json_of : (call : Call) (bytes xs : List ℕ) (d : Data) → call.left ≡ Some bytes → ReadJson call xs d → AreJson bytes d
+json_of call bytes xs d e json =
+    let same = whole_is call bytes xs e json.whole in
+    record { within = subst (λ (b : List ℕ). length b ≤ 1048576) same json.whole.within; utf8 = subst IsUtf8 same json.utf8; json = rw same at json.json }
 
-not_refused : (xs bytes : List ℕ) (d c : Data) (s : SceneData) (r : Refusal) → xs ≡ bytes → read bytes ≡ Some d → read xs ≡ Some c → scene_of d ≡ Ok s → scene_of c ≡ Err r → ⊥
-not_refused xs bytes d c s r e h k o x = cc
-
-pub complete : (words : List (String Global)) (call : Call) (e : Ended) → Ends words call e → IsComplete words call e
-complete words call ended.Ok h are reads writes bytes d s left within utf8 is accepts = inl refl
-complete words call ended.NoMemory h are reads writes bytes d s left within utf8 is accepts = inr refl
-complete words call ended.ReadFault h are reads writes bytes d s left within utf8 is accepts = absurd (reads h.3)
-complete words call ended.WriteFault h are reads writes bytes d s left within utf8 is accepts = absurd (writes h.3.cause)
-complete words call ended.Usage h are reads writes bytes d s left within utf8 is accepts = absurd (h.1.0 are)
-complete words call ended.TooLong h are reads writes bytes d s left within utf8 is accepts =
+-- a run without faults that had its memory ends as the bytes call for
+called : (words : List (String Global)) (call : Call) (e : Ended) → Ends words call e →
+    AreScene words → (Rose call.reads call.reads_then → ⊥) → (Rose call.writes call.writes_then → ⊥) → e ≢ ended.NoMemory
+    → (bytes : List ℕ) → call.left ≡ Some bytes → CallFor bytes e
+called words call ended.Ok h are reads writes some bytes left =
+    let w = h.1.1 in
+    (w.1, json_of call bytes w.0 w.1 left w.2, (w.3.0, w.3.1))
+called words call ended.NoMemory h are reads writes some bytes left = absurd (some refl)
+called words call ended.ReadFault h are reads writes some bytes left = absurd (reads h.3)
+called words call ended.WriteFault h are reads writes some bytes left = absurd (writes h.3.cause)
+called words call ended.Usage h are reads writes some bytes left = absurd (h.1.0 are)
+called words call ended.TooLong h are reads writes some bytes left =
     let gave = h.1.1.gave in
-    absurd (omega (arith, no_longer bytes gave.bytes call.left_then (rw left at gave.taken), gave.enough))
-complete words call ended.NotJson h are reads writes bytes d s left within utf8 is accepts =
+    omega (arith, no_longer bytes gave.bytes call.left_then (rw left at gave.taken), gave.enough)
+called words call ended.NotJson h are reads writes some bytes left =
     let w = h.1.1 in
     let same = whole_is call bytes w.0 left w.1 in
-    absurd (not_none w.0 bytes d same is (w.2 (subst IsUtf8 (sym same) utf8)))
-complete words call (ended.BadField i f) h are reads writes bytes d s left within utf8 is accepts =
+    (subst (λ (b : List ℕ). length b ≤ 1048576) same w.1.within, λ utf8. rw same at (w.2 (subst IsUtf8 (sym same) utf8)))
+called words call (ended.BadField i f) h are reads writes some bytes left =
     let w = h.1.1 in
-    let same = whole_is call bytes w.0 left w.2.whole in
-    absurd (not_refused w.0 bytes d w.1 s _ same is w.2.json accepts w.3.0)
+    (w.1, json_of call bytes w.0 w.1 left w.2, w.3.0)
+
+-- bytes call for one ending
+one_call : (bytes : List ℕ) (e due : Ended) → CallFor bytes e → CallFor bytes due → e ≡ due
+one_call bytes e due a b = grind arith
+
+pub complete : (words : List (String Global)) (call : Call) (e : Ended) → Ends words call e → IsComplete words call e
+complete words call e h are reads writes some bytes left due =
+    let call_for = called words call e h are reads writes some bytes left in
+    (λ same. subst (CallFor bytes) same call_for, λ other. one_call bytes e due call_for other)
 
 -- where the words are wrong, no other ending is possible
 pub only_usage : (words : List (String Global)) (call : Call) (e : Ended) → Ends words call e → (AreScene words → ⊥) → (e ≡ ended.Usage) ⊎ (e ≡ ended.WriteFault)

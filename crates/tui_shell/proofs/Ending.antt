@@ -80,7 +80,7 @@ gave_whole call bytes whole = record { bytes = bytes; taken = whole.taken; enoug
 -- what a value that was read ends with is how the run ends
 pub ends_for : (words : List (String Global)) (call : Call) (bytes : List ℕ) (d : Data) (e : Ended) → AreScene words → ReadJson call bytes d →
     EndsWith (IsDueFor d) call.held call.held_then call.writes call.writes_then e → Ends words call e
-ends_for words call bytes d ended.NoMemory are json h = (are, gave_whole call bytes json.whole, record { held = h.0; quiet = h.1 })
+ends_for words call bytes d ended.NoMemory are json h = (are, gave_whole call bytes json.whole, record { held = h.0; quiet = h.1 }, json.whole.quiet)
 ends_for words call bytes d ended.ReadFault are json h = absurd h.1
 ends_for words call bytes d ended.Ok are json h = ends_weaker _ (IsDue words call) (due_of words call bytes d are json) _ _ _ _ ended.Ok h
 ends_for words call bytes d ended.Usage are json h = absurd h.1

@@ -1,5 +1,5 @@
--- When a run draws.
-use Rattle.std.specs.Prelude.{◌≡◌, ◌⊎◌, ℕ, ◌≤◌, List, length, Some, Ok, IsUtf8, String}
+-- Which ending told bytes call for.
+use Rattle.std.specs.Prelude.{◌≡◌, ◌≢◌, ◌↔◌, ℕ, ◌≤◌, ◌<◌, List, length, Some, None, Ok, Err, IsUtf8, String}
 use Rattle.std.specs.declared.alloc.Global.{Global}
 use Rattle.serde_json.specs.Data.{Data}
 use Rattle.serde_json.specs.Read.{read}
@@ -9,10 +9,23 @@ use Rattle.tui_shell.specs.Endings.{AreScene, Call}
 use Rattle.tui_shell.specs.declared.ended.Ended.{Ended}
 use Rattle.tui_shell.specs.declared.ended.Ended.TheVariants as ended
 
--- with the right word, without a fault, and over bytes within the limit that are JSON for a scene, a run ends Ok, or it wants
--- memory
+-- bytes within the limit that are JSON for this value
+pub record AreJson (bytes : List ℕ) (value : Data) : Type 0 where
+  pub within : length bytes ≤ 1048576
+  pub utf8 : IsUtf8 bytes
+  pub json : read bytes ≡ Some value
+
+-- the ending that the bytes of a source call for
+abbrev pub CallFor : List ℕ → Ended → Type 0
+CallFor bytes ended.TooLong = 1048576 < length bytes
+CallFor bytes ended.NotJson = (length bytes ≤ 1048576) × (IsUtf8 bytes → read bytes ≡ None)
+CallFor bytes (ended.BadField i f) = (d : Data) × AreJson bytes d × (scene_of d ≡ Err (record { item = i; field = f }))
+CallFor bytes ended.Ok = (d : Data) × AreJson bytes d × ((s : SceneData) × (scene_of d ≡ Ok s))
+CallFor bytes e = ⊥
+
+-- with the right word, without a fault, and with the memory that it wants, a run ends exactly as the bytes of its source call for,
+-- where they are told
 abbrev pub IsComplete : List (String Global) → Call → Ended → Type 0
 IsComplete words call e =
-    AreScene words → (Rose call.reads call.reads_then → ⊥) → (Rose call.writes call.writes_then → ⊥)
-    → (bytes : List ℕ) (d : Data) (s : SceneData) → call.left ≡ Some bytes → length bytes ≤ 1048576 → IsUtf8 bytes → read bytes ≡ Some d → scene_of d ≡ Ok s
-    → (e ≡ ended.Ok) ⊎ (e ≡ ended.NoMemory)
+    AreScene words → (Rose call.reads call.reads_then → ⊥) → (Rose call.writes call.writes_then → ⊥) → e ≢ ended.NoMemory
+    → (bytes : List ℕ) → call.left ≡ Some bytes → (due : Ended) → (e ≡ due) ↔ CallFor bytes due

@@ -116,5 +116,5 @@ EndsWith due held held_then writes writes_then e = (text : List ℕ) × due text
 -- a run ends so
 abbrev pub Ends : List (String Global) → Call → Ended → Type 0
 Ends words call ended.ReadFault = AreScene words × ReadWithin call × Unwritten call × Rose call.reads call.reads_then
-Ends words call ended.NoMemory = AreScene words × ReadWithin call × Unwritten call
+Ends words call ended.NoMemory = AreScene words × ReadWithin call × Unwritten call × (call.reads_then ≡ call.reads)
 Ends words call e = EndsWith (IsDue words call) call.held call.held_then call.writes call.writes_then e

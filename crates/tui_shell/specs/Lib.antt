@@ -2,3 +2,4 @@ pub mod Refusal
 pub mod Endings
 pub mod Complete
 pub mod Status
+pub mod Words

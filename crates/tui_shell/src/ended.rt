@@ -2,6 +2,7 @@
 
 ghost use Rattle.std.specs.Prelude.{◌≡◌, if◌then◌else◌};
 
+use std::process::ExitCode;
 use tui_port::Field;
 
 /// How a run ends. Only `Ok` has written a screen whole; the endings from `Usage` to `BadField` have written one line that says so.
@@ -26,6 +27,7 @@ pub enum Ended {
 }
 
 impl Ended {
+    ghost use Rattle.std.specs.Process.{exit_status};
     ghost use Rattle.tui_shell.specs.Status.{status_of};
 
     /// The exit status of the program.
@@ -42,6 +44,13 @@ impl Ended {
             Ended::WriteFault => 7,
             Ended::NoMemory => 8,
         }
+    }
+
+    /// The exit status, as `main` answers it.
+    pub fn exit_code(&self) -> ExitCode
+        ensures { exit_status result ≡ status_of self.now }
+    {
+        ExitCode::from(self.status())
     }
 
     /// This ending where everything was put, else a fault of the sink.

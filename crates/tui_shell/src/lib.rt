@@ -4,7 +4,11 @@
 pub mod command;
 pub mod ended;
 mod json;
+pub mod program;
 mod refusal;
+pub mod words;
 
 pub use command::show;
 pub use ended::Ended;
+pub use program::run_program;
+pub use words::words_of;
