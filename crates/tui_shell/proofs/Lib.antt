@@ -1,3 +1,4 @@
 pub mod Ending
 pub mod Completeness
 pub mod Word
+pub mod Drawn

@@ -3,3 +3,4 @@ pub mod Endings
 pub mod Complete
 pub mod Status
 pub mod Words
+pub mod Laws

@@ -4,11 +4,13 @@
 pub mod command;
 pub mod ended;
 mod json;
+mod laws;
 pub mod program;
 mod refusal;
 pub mod words;
 
 pub use command::show;
 pub use ended::Ended;
+pub use laws::scene_laws;
 pub use program::run_program;
 pub use words::words_of;
