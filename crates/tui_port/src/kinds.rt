@@ -1,6 +1,5 @@
 //! The kinds of value that the schema names, each read from JSON in one way.
 
-mod named;
 mod area;
 mod array;
 mod color;
@@ -8,6 +7,7 @@ mod kind;
 mod line;
 mod member;
 mod modifier;
+mod named;
 mod number;
 mod span;
 mod style;

@@ -4,7 +4,6 @@ use Rattle.std.specs.Prelude.{IsUtf8, ◌⊎◌}
 use Rattle.std.proofs.lemmas.List.{append-nil, length-append}
 use Rattle.std.specs.Io.KnownBytes.{Consumes, IsAtEnd}
 use Rattle.serde_json.specs.Data.{Data}
-use Rattle.serde_json.specs.Read.{read}
 use Rattle.tui_port.specs.Causes.{Rose}
 use Rattle.tui_shell.specs.declared.ended.Ended.{Ended}
 use Rattle.tui_shell.specs.declared.ended.Ended.TheVariants as ended

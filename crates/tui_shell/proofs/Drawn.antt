@@ -1,10 +1,11 @@
 -- A drawn screen is one.
-use Rattle.std.proofs.Common.{◌≡◌, ℕ, ◌+◌, ◌-◌, ◌<◌, ◌≤◌, Bool, true, false, List, [], length, get_or, map, Option, Some, None, option_map, if◌then◌else◌, refl, sym, ap, subst, ◌∙◌, arith}
+use Rattle.std.proofs.Common.{◌≡◌, ℕ, ◌+◌, ◌-◌, ◌<◌, ◌≤◌, Bool, true, false, if◌then◌else◌, List, [], length, get_or, map, Some, None, option_map}
+use Rattle.std.proofs.Common.{refl, sym, ap, subst, ◌∙◌, arith}
 use Rattle.std.proofs.lemmas.Bool.Decides.{nat_tests}
 use Rattle.std.proofs.lemmas.List.{get_or_default, same_lists}
 use Rattle.std.proofs.lemmas.List.Elements.{All-get_or}
 use Rattle.tui_cells.specs.declared.rect.Rect.{Rect}
-use Rattle.tui_cells.specs.Buffer.{IsFilled, IsScreen, Screen, cell_at, look_at}
+use Rattle.tui_cells.specs.Buffer.{IsFilled, IsScreen, Screen, cell_at}
 use Rattle.tui_cells.specs.Cell.{Look, blank}
 use Rattle.tui_cells.specs.Layers.{layers_at}
 use Rattle.tui_cells.specs.Rect.{area_of, covers}
@@ -35,22 +36,25 @@ same_row r xs ys p q same k lt =
     let long : length (get_or xs k []) ≡ r.width = All-get_or (λ (row : List Look). length row ≡ r.width) xs k [] lt p.wide in
     let as_long : length (get_or ys k []) ≡ r.width = All-get_or (λ (row : List Look). length row ≡ r.width) ys k [] (omega (arith, p.high, q.high)) q.wide in
     same_lists (get_or xs k []) (get_or ys k []) (long ∙ sym as_long) (λ i d before.
-        let in_area = inside r i k (omega arith) (omega (arith, p.high)) p.right p.bottom in
-        let here = same_cell _ _ (sym (cell_in r xs i k in_area) ∙ (same (r.x + i) (r.y + k) ∙ cell_in r ys i k in_area)) in
-        get_or_default (get_or xs k []) i d blank before ∙ (here ∙ get_or_default (get_or ys k []) i blank d (omega arith)))
+    let in_area = inside r i k (omega arith) (omega (arith, p.high)) p.right p.bottom in
+    let here = same_cell _ _ (sym (cell_in r xs i k in_area) ∙ (same (r.x + i) (r.y + k) ∙ cell_in r ys i k in_area)) in
+    get_or_default (get_or xs k []) i d blank before ∙ (here ∙ get_or_default (get_or ys k []) i blank d (omega arith)))
 
 same_rows : (r : Rect) (xs ys : List (List Look)) → IsScreen (record { area = r; rows = xs }) → IsScreen (record { area = r; rows = ys }) →
     ((x y : ℕ) → cell_at (record { area = r; rows = xs }) x y ≡ cell_at (record { area = r; rows = ys }) x y) → xs ≡ ys
 same_rows r xs ys p q same = same_lists xs ys (p.high ∙ sym q.high) (λ k d lt.
     get_or_default xs k d [] lt ∙ (same_row r xs ys p q same k lt ∙ get_or_default ys k [] d (omega (arith, p.high, q.high))))
 
+-- rows that over an area have the shape of a screen, and its cells
+record Alike (a : Screen) (rows : List (List Look)) (r : Rect) : Type 0 where
+  shape : IsScreen (record { area = r; rows = rows })
+  cells : (x y : ℕ) → cell_at (record { area = r; rows = rows }) x y ≡ cell_at a x y
+
 -- screens of one area with the same cells are one
 one_screen : (a b : Screen) → b.area ≡ a.area → IsScreen a → IsScreen b → ((x y : ℕ) → cell_at b x y ≡ cell_at a x y) → b ≡ a
 one_screen a b area p q same =
-    let moved : (s : Rect) → b.area ≡ s → (IsScreen (record { area = s; rows = b.rows })) × ((x y : ℕ) → cell_at (record { area = s; rows = b.rows }) x y ≡ cell_at a x y) =
-        λ s e. subst (λ (t : Rect). (IsScreen (record { area = t; rows = b.rows })) × ((x y : ℕ) → cell_at (record { area = t; rows = b.rows }) x y ≡ cell_at a x y)) e (q, same) in
-    let there = moved a.area area in
-    let rows = same_rows a.area b.rows a.rows there.0 p there.1 in
+    let there = subst (Alike a b.rows) area (record { shape = q; cells = same }) in
+    let rows = same_rows a.area b.rows a.rows there.shape p there.cells in
     λ i. record { area = area i; rows = rows i }
 
 filled_cell : (r : Rect) (b : Screen) → IsFilled r blank b → (x y : ℕ) → cell_at b x y ≡ (if covers r x y then Some blank else None)
@@ -67,10 +71,13 @@ drawn_cells : (width height : ℕ) (old new : List PlacedData) (last : Screen) �
     × ((x y : ℕ) → cell_at last x y ≡ option_map (layers_at (scene_layers area old) x y) (if covers area x y then Some blank else None))
 drawn_cells width height old new last d =
     let area = area_of 0 0 width height in
-    let is : d.first.area ≡ area = d.blank_first.area_is in
-    (d.strokes.area ∙ is, rw is at d.states, λ x y.
-        d.strokes.cells x y ∙ (ap (λ (r : Rect). option_map (layers_at (scene_layers r old) x y) (cell_at d.first x y)) is
-        ∙ ap (option_map (layers_at (scene_layers area old) x y)) (filled_cell area d.first d.blank_first x y)))
+    let is : d.first.area ≡ area = d.blank_first.area_is in (
+      d.strokes.area ∙ is,
+      rw is at d.states,
+      λ x y.
+          d.strokes.cells x y ∙ (ap (λ (r : Rect). option_map (layers_at (scene_layers r old) x y) (cell_at d.first x y)) is
+          ∙ ap (option_map (layers_at (scene_layers area old) x y)) (filled_cell area d.first d.blank_first x y)),
+    )
 
 pub one_drawing : DrawingIsUnique
 one_drawing width height old new other last different d e =

@@ -40,6 +40,7 @@ no_name name [] text other = refl
 no_name name (v ∷ vs) text other = rw (differs text (name v) (other v)) (no_name name vs text other)
 
 -- what is read of a text by these names is the value of the name
-pub reads_named : {A : Type 0} (names : Names A) (text : List ℕ) (answer : Result A ParseError) → IsParsed names.name text answer → result_ok answer ≡ value_named names text
+pub reads_named : {A : Type 0} (names : Names A) (text : List ℕ) (answer : Result A ParseError) →
+    IsParsed names.name text answer → result_ok answer ≡ value_named names text
 reads_named names text (Ok value) is = rw is (sym (names.found value))
 reads_named names text (Err refusal) is = sym (no_name names.name names.values text is.1)
