@@ -99,11 +99,12 @@ impl fmt::Display for MergeStrategy {
 }
 
 impl FromStr for MergeStrategy {
-    ghost use Rattle.tui_cells.specs.Strategies.{IsParsed};
+    ghost use Rattle.tui_cells.specs.Names.{IsParsed};
+    ghost use Rattle.tui_cells.specs.Strategies.{name_of};
 
     type Err = ParseError;
 
-    ghost from_str_gives = { IsParsed };
+    ghost from_str_gives = { IsParsed name_of };
 
     /// Answers `VariantNotFound` exactly where the text is no variant's name.
     fn from_str(text: &str) -> Result<MergeStrategy, ParseError> {

@@ -6,7 +6,6 @@ pub mod Found
 pub mod Halves
 pub mod HighlightSpacing
 pub mod Laws
-pub mod Names
 pub mod Sharing
 pub mod Sums
 pub mod Window

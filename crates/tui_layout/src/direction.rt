@@ -28,8 +28,8 @@ impl fmt::Display for Direction {
 }
 
 impl FromStr for Direction {
+    ghost use Rattle.tui_cells.specs.Names.{IsParsed};
     ghost use Rattle.tui_layout.specs.Direction.{name_of};
-    ghost use Rattle.tui_layout.specs.Names.{IsParsed};
 
     type Err = ParseError;
 

@@ -55,8 +55,8 @@ impl fmt::Display for Flex {
 }
 
 impl FromStr for Flex {
+    ghost use Rattle.tui_cells.specs.Names.{IsParsed};
     ghost use Rattle.tui_layout.specs.Flex.{name_of};
-    ghost use Rattle.tui_layout.specs.Names.{IsParsed};
 
     type Err = ParseError;
 

@@ -56,8 +56,8 @@ impl fmt::Display for HighlightSpacing {
 }
 
 impl FromStr for HighlightSpacing {
+    ghost use Rattle.tui_cells.specs.Names.{IsParsed};
     ghost use Rattle.tui_layout.specs.HighlightSpacing.{name_of};
-    ghost use Rattle.tui_layout.specs.Names.{IsParsed};
 
     type Err = ParseError;
 
