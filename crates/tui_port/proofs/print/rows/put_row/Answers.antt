@@ -17,8 +17,8 @@ loop-cell-preserved g c =
           rw (w.sink-is, w.gather-is, w.hidden-is) (inv.0, inv.1, ap (λ (l : List ℕ). inv.0 ++ l) (sym (row_hidden row i c.loop-cell.hidden blank c.loop-cell-test.true w.if-hidden-gt0.true)) ∙ inv.2)
       | else-hidden-gt0 w ↦
           let zero : c.loop-cell.hidden ≡ 0 = omega (arith, w.if-hidden-gt0.false) in
-          let shown = rw w.symbol-symbol.ensures at w.put_symbol.ensures in
-          rw (w.sink-is, w.gather-is, w.hidden-is, w.saturating_sub-hidden.ensures, w.step.ensures, w.symbol-symbol.ensures) (_, Gathers-then inv.1 shown, append_assoc inv.0 _ _ ∙ ap (λ (l : List ℕ). inv.0 ++ l) (sym (row_shown row i c.cell-item.result c.loop-cell-test.true c.cell-item.is)) ∙ rw zero at inv.2)
+          let shown = rw w.symbol-symbol.ensures.is at w.put_symbol.ensures in
+          rw (w.sink-is, w.gather-is, w.hidden-is, w.saturating_sub-hidden.ensures, w.step.ensures, w.symbol-symbol.ensures.is) (_, Gathers-then inv.1 shown, append_assoc inv.0 _ _ ∙ ap (λ (l : List ℕ). inv.0 ++ l) (sym (row_shown row i c.cell-item.result c.loop-cell-test.true c.cell-item.is)) ∙ rw zero at inv.2)
     ]
 
 pub returns : goal.returns
