@@ -1,9 +1,7 @@
-//! The tests of tui_port and of whole runs, apart from their crates, so that these are proved but once.
+//! The tests of tui_port that need calls, apart from the crate, so that it is proved but once. Whole runs stand in scene_rows.
 #![tactic(auto)]
 
 #[cfg(test)]
 mod outside;
 #[cfg(test)]
-mod reading;
-#[cfg(test)]
-mod runs;
+mod texts;

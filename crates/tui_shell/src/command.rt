@@ -23,6 +23,7 @@ use tui_scene::{DrawError, Scene, draw};
 /// It ends Ok only where the source was read to its end within 1,048,576 bytes, these bytes are JSON that the schema accepts,
 /// no read and no put failed, and the sink holds what it held and then the print of the buffer that a run over the scene's
 /// widgets reaches from a blank buffer. Every other ending has its cause; see `Ended`.
+#[tactic(auto, using(crate::proofs::Completeness::complete, crate::proofs::Completeness::only_usage))]
 pub fn show<S: Source, K: Sink>(
     alloc: Global,
     words: &[String],

@@ -1,0 +1,57 @@
+//! A row of the data.
+
+use anyhow::{Result, bail};
+use serde::Deserialize;
+use std::alloc::{AllocError, Global};
+
+/// A run of the command, and what is to fail in it.
+#[derive(Drop, Deserialize)]
+#[serde(deny_unknown_fields)]
+pub(crate) struct Row {
+    /// What the row shows.
+    pub(crate) name: String,
+    /// The words after the program's name.
+    pub(crate) words: Vec<String>,
+    /// The input as text.
+    input: Option<String>,
+    /// The input as hexadecimal digits, two a byte.
+    input_hex: Option<String>,
+    /// The input as texts one after another, each so many times.
+    input_parts: Option<Vec<(String, u64)>>,
+    /// The numbers of the reads that fail, from 1.
+    #[serde(default)]
+    pub(crate) reads: Vec<u64>,
+    /// The numbers of the puts that fail, from 1.
+    #[serde(default)]
+    pub(crate) puts: Vec<u64>,
+    /// How many bytes the sink has room for.
+    #[serde(default = "ample_room")]
+    pub(crate) room: usize,
+}
+
+fn ample_room() -> usize {
+    65_536
+}
+
+impl Row {
+    /// The bytes of the input, which stands in one form at most; none without it.
+    pub(crate) fn input(&self, alloc: Global) -> Result<Vec<u8>> {
+        match (&self.input, &self.input_hex, &self.input_parts) {
+            (None, None, None) => Ok(Vec::new(alloc)),
+            (Some(text), None, None) => Ok(Vec::from_slice(alloc, text.as_bytes())?),
+            (None, Some(digits), None) => Ok(hex::decode(alloc, digits.as_str())?),
+            (None, None, Some(parts)) => Ok(repeated(alloc, parts)?),
+            _ => bail!("more than one input"),
+        }
+    }
+}
+
+fn repeated(alloc: Global, parts: &[(String, u64)]) -> Result<Vec<u8>, AllocError> {
+    let mut bytes = Vec::new(alloc);
+    for (text, times) in parts {
+        for _time in 0..*times {
+            bytes.extend_from_slice(text.as_bytes())?;
+        }
+    }
+    Ok(bytes)
+}
