@@ -1,4 +1,5 @@
 pub mod Painting
+pub mod Dressing
 pub mod Regions
 pub mod Charts
 pub mod Joining

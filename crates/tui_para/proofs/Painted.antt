@@ -2,13 +2,10 @@
 use Rattle.std.proofs.Common.{Option, Some, None, option_map, ◌≡◌, ℕ, ◌+◌, ◌≤◌, ◌<◌, min, List, [], ◌∷◌, Bool, true, false, if◌then◌else◌, refl, ◌∙◌, ap, sym, subst, arith, drop, map, length, get_or, drop-cons, add-one}
 use Rattle.std.proofs.lemmas.List.{drop_all, drop-drop, drop-map, length-drop}
 use Rattle.std.proofs.lemmas.Bool.Decides.{nat_tests}
-use Rattle.std.specs.Int.Bits.{bit_or, or_zero_r, xor_zero_r}
 use Rattle.tui_cells.specs.declared.rect.Rect.{Rect}
 use Rattle.tui_cells.specs.Rect.{covers, right_of, bottom_of}
 use Rattle.tui_cells.specs.Buffer.{Screen, cell_at}
-use Rattle.tui_cells.specs.Cell.{Look, Edit, dress, dressed, edited}
-use Rattle.tui_cells.specs.Style.{no_style}
-use Rattle.tui_cells.specs.declared.style.Style.{Style}
+use Rattle.tui_cells.specs.Cell.{Look, Edit, edited}
 use Rattle.tui_cells.specs.Layers.{Layer, Painted, KeptOutside, at_place, stroke}
 use Rattle.tui_cells.proofs.Painting.{Painted-then, Painted-none}
 use Rattle.tui_text.specs.Grapheme.{Glyph, glyph_of, glyph_width}
@@ -66,19 +63,6 @@ stroke_kept R S e a b inside p = record { area = p.area; cells = λ x y out. p.c
     same_cell : (r : Bool) (e : Edit) (o : Option Look) → r ≡ false → option_map (λ c. if r then edited e c else c) o ≡ o
     same_cell r e None f = refl
     same_cell r e (Some c) f = rw f refl
-
--- a style that sets nothing leaves a cell as it is
-undressed : (s : Style) (c : Look) → s ≡ no_style → dressed s c ≡ c
-undressed s c e = ap (λ t. dressed t c) e ∙ ap (λ m. record { symbol = c.symbol; fg = c.fg; bg = c.bg; modifier = m }) (xor_zero_r (bit_or (bit_or c.modifier 0) 0) ∙ (or_zero_r (bit_or c.modifier 0) ∙ or_zero_r c.modifier))
-
--- so its stroke changes nothing
-pub nothing_set : (R : ℕ → ℕ → Bool) (s : Style) (b : Screen) → s ≡ no_style → Painted (stroke R (dress s)) b b
-nothing_set R s b e = record { area = refl; cells = λ x y. same_cell (R x y) (cell_at b x y) }
-  where
-    same_cell : (r : Bool) (o : Option Look) → o ≡ option_map (λ c. if r then dressed s c else c) o
-    same_cell r None = refl
-    same_cell true (Some c) = ap Some (sym (undressed s c e))
-    same_cell false (Some c) = refl
 
 pub at_outside : (clip : Rect) (x y a b : ℕ) → covers clip x y ≡ true → covers clip a b ≡ false → at_place x y a b ≡ false
 at_outside clip x y a b inside out = grind (arith, nat_tests)

@@ -1,28 +1,16 @@
 //! Painting of the lines that a composer lends.
 
 ghost use Rattle.std.specs.Prelude.{◌≡◌, ℕ, List, OnOk, drop, map, sum_by};
-ghost use Rattle.tui_cells.specs.Cell.{dress};
 ghost use Rattle.tui_cells.specs.Rect.{covers};
-ghost use Rattle.tui_cells.specs.Layers.{Painted, KeptOutside, stroke};
+ghost use Rattle.tui_cells.specs.Layers.{Painted, KeptOutside};
 ghost use Rattle.tui_text.specs.Grapheme.{glyph_of, glyph_width};
 ghost use Rattle.tui_para.specs.Lent.{glyph_line_of};
 ghost use Rattle.tui_para.specs.Lines.{GlyphLine};
 ghost use Rattle.tui_para.specs.Strokes.{glyph_layers, run_layers, start_of, glyph_line_layers, glyph_lines_layers};
 
 use crate::composer::{LineComposer, WrappedLine};
-use tui_cells::{Buffer, Mem, Position, Rect, Style};
+use tui_cells::{Buffer, Mem, Position, Rect};
 use tui_text::{Alignment, StyledGrapheme, cell_width};
-
-/// Sets the style of the cells in an area. A style that sets nothing costs no step.
-#[inline(always)]
-pub(crate) fn dress_area(buf: &mut Buffer, area: Rect, style: Style)
-    ensures { Painted (stroke (covers area) (dress style)) buf.old buf.new }
-{
-    if style == Style::new() {
-        return;
-    }
-    buf.set_style(area, style);
-}
 
 /// Puts one grapheme of a width at a position, if it has a width and the position is in the clip.
 fn paint_grapheme(
@@ -44,7 +32,7 @@ fn paint_grapheme(
             height: 1,
         };
         buf.set_symbol(at, grapheme.symbol)?;
-        dress_area(buf, cell, grapheme.style);
+        buf.set_style(cell, grapheme.style);
     }
     Ok(())
 }

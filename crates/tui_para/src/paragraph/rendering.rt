@@ -8,7 +8,7 @@ ghost use Rattle.tui_para.specs.Paragraph.{paragraph_data};
 ghost use Rattle.tui_para.specs.Rendering.{paragraph_layers, paragraph_lines};
 ghost use Rattle.tui_para.specs.Strokes.{glyph_lines_layers};
 
-use crate::painting::{dress_area, paint_lines};
+use crate::painting::paint_lines;
 use crate::paragraph::Paragraph;
 use crate::text_lines::TextLines;
 use crate::truncator::LineTruncator;
@@ -48,7 +48,7 @@ impl<'a> Paragraph<'a> {
         if clip.is_empty() {
             return Ok(());
         }
-        dress_area(buf, clip, self.style);
+        buf.set_style(clip, self.style);
         self.paint_text(alloc, buf, clip)
     }
 }

@@ -11,4 +11,4 @@ returns-in_ok-set_symbol-clause-kept c =
     let inside : covers clip at.x at.y ≡ true = sym c.contains.ensures ∙ c.if-contains.true in
     KeptOutside-then
     (stroke_kept _ (covers clip) _ _ _ (λ a b out. at_outside clip at.x at.y a b inside out) c.in_ok-set_symbol.ensures.ok)
-    (stroke_kept _ (covers clip) _ _ _ (λ a b out. cell_outside clip at.x at.y a b inside out) c.dress_area.ensures)
+    (stroke_kept _ (covers clip) _ _ _ (λ a b out. cell_outside clip at.x at.y a b inside out) c.set_style.ensures)

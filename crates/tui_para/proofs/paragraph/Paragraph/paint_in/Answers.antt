@@ -12,4 +12,4 @@ returns-then-is_empty-clause-ok c =
 
 pub returns-clause-ok : goal.returns-clause-ok
 unfolding paragraph_layers
-returns-clause-ok c = on_ok c.paint_text.result (λ painted. Painted-then c.dress_area.ensures painted) c.paint_text.ensures.ok
+returns-clause-ok c = on_ok c.paint_text.result (λ painted. Painted-then c.set_style.ensures painted) c.paint_text.ensures.ok
