@@ -5,6 +5,7 @@ pub mod Seams
 pub mod Texts
 pub mod RowStays
 pub mod RowStrokes
+pub mod SetStays
 pub mod Settings
 pub mod TextRows
 pub mod Elements

@@ -7,7 +7,7 @@ use Rattle.tui_cells.specs.declared.rect.Rect.{Rect}
 use Rattle.tui_cells.specs.Cell.{dress, put, wipe}
 use Rattle.tui_cells.specs.declared.style.Style.{Style}
 use Rattle.tui_cells.specs.Buffer.{Screen}
-use Rattle.tui_cells.specs.Layers.{KeptOutside, Layer, Painted, StayIn, at_place, stroke}
+use Rattle.tui_cells.specs.Layers.{KeptOutside, Painted, StayIn, at_place, stroke}
 use Rattle.tui_cells.proofs.Painting.{Painted-kept}
 use Rattle.tui_cells.proofs.Regions.{StayIn-wider}
 use Rattle.tui_cells.specs.Rect.{covers, is_empty}
@@ -28,7 +28,8 @@ cells_out row x y w a b first last out = grind (arith, nat_tests)
 behind_out : (row : Rect) (x y w a b : ℕ) → covers row x y ≡ true → covers row (x + (w - 1)) y ≡ true → covers row a b ≡ false → covers (cells_at (x + 1) y (w - 1)) a b ≡ false
 behind_out row x y w a b first last out = grind (arith, nat_tests)
 
-glyph_stays : (row : Rect) (x : ℕ) (g : Glyph) → covers row x row.y ≡ true → covers row (x + (glyph_width g - 1)) row.y ≡ true → StayIn (covers row) (glyph_at x row.y g)
+-- a grapheme whose first and last column lie in a row
+pub glyph_stays : (row : Rect) (x : ℕ) (g : Glyph) → covers row x row.y ≡ true → covers row (x + (glyph_width g - 1)) row.y ≡ true → StayIn (covers row) (glyph_at x row.y g)
 glyph_stays row x g first last =
     StayIn-append (StayIn-stroke (at_place x row.y) (put g.text) (λ a b out. place_out row x row.y a b first out))
     (StayIn-append (StayIn-stroke (covers (cells_at x row.y 1)) (dress g.style) (λ a b out. cells_out row x row.y 1 a b first (one row x row.y first) out))

@@ -99,6 +99,26 @@ fn room_in(clip: Rect, at: Position, room: usize) -> u16
     room.min((clip.right() - at.x) as usize) as u16
 }
 
+/// Sets a text from a position on, as `set_stringn` does where the clip lies in the buffer.
+pub fn set_stringn_in(
+    buf: &mut Buffer,
+    clip: Rect,
+    at: Position,
+    text: &str,
+    room: usize,
+    style: Style,
+) -> Mem<u16>
+    ensures ok { OnOk result (Painted (set_layers clip at (styled_text text.now style) room) buf.old buf.new) }
+    ensures end { IfOk result (λ x. x ≡ set_column clip at (styled_text text.now style) room) }
+    ensures kept { KeptOutside (covers clip) buf.old buf.new }
+    ensures light { AreLight (styled_text text.now style) → IsOk result }
+{
+    if !clip.contains(at) {
+        return Ok(at.x);
+    }
+    set_clusters(buf, at, room_in(clip, at, room), text, style)
+}
+
 /// Sets a text from a position on in `room` columns at most, as far as the clip and the buffer go: each grapheme of width above
 /// 0 with the style, until the first that does not fit, the cells behind a wide one made blank. Answers the column after the
 /// last one used. A position outside the clip changes nothing, and the answer is its column. At NoMemory no cell outside the
@@ -116,11 +136,23 @@ pub fn set_stringn(
     ensures kept { KeptOutside (covers (intersection_of clip buf.old.area)) buf.old buf.new }
     ensures light { AreLight (styled_text text.now style) → IsOk result }
 {
-    let clip = clip.intersection(buf.area());
-    if !clip.contains(at) {
-        return Ok(at.x);
-    }
-    set_clusters(buf, at, room_in(clip, at, room), text, style)
+    set_stringn_in(buf, clip.intersection(buf.area()), at, text, room, style)
+}
+
+/// Sets a span's text in its style, as `set_stringn_in` does.
+pub fn set_span_in(
+    buf: &mut Buffer,
+    clip: Rect,
+    at: Position,
+    span: &Span<'_>,
+    room: usize,
+) -> Mem<u16>
+    ensures ok { OnOk result (Painted (set_layers clip at (span_data span.now ∷ []) room) buf.old buf.new) }
+    ensures end { IfOk result (λ x. x ≡ set_column clip at (span_data span.now ∷ []) room) }
+    ensures kept { KeptOutside (covers clip) buf.old buf.new }
+    ensures light { AreLight (span_data span.now ∷ []) → IsOk result }
+{
+    set_stringn_in(buf, clip, at, span.content, room, span.style)
 }
 
 /// Sets a span's text in its style, as `set_stringn` does.
@@ -136,7 +168,32 @@ pub fn set_span(
     ensures kept { KeptOutside (covers (intersection_of clip buf.old.area)) buf.old buf.new }
     ensures light { AreLight (span_data span.now ∷ []) → IsOk result }
 {
-    set_stringn(buf, clip, at, span.content, room, span.style)
+    set_span_in(buf, clip.intersection(buf.area()), at, span, room)
+}
+
+/// Sets the spans of a line one after another, as `set_line` does where the clip lies in the buffer.
+pub fn set_line_in(
+    buf: &mut Buffer,
+    clip: Rect,
+    at: Position,
+    line: &Line<'_>,
+    room: usize,
+) -> Mem<u16>
+    ensures ok { OnOk result (Painted (set_layers clip at (line_spans (line_data line.now)) room) buf.old buf.new) }
+    ensures end { IfOk result (λ x. x ≡ set_column clip at (line_spans (line_data line.now)) room) }
+    ensures kept { KeptOutside (covers clip) buf.old buf.new }
+    ensures light { AreLight (line_data line.now).spans → IsOk result }
+{
+    if !clip.contains(at) {
+        return Ok(at.x);
+    }
+    set_spans(
+        buf,
+        at,
+        room_in(clip, at, room),
+        line.spans(),
+        line.line_style(),
+    )
 }
 
 /// Sets the spans of a line one after another as `set_stringn` does, each in the line's style patched by its own and in the
@@ -153,15 +210,5 @@ pub fn set_line(
     ensures kept { KeptOutside (covers (intersection_of clip buf.old.area)) buf.old buf.new }
     ensures light { AreLight (line_data line.now).spans → IsOk result }
 {
-    let clip = clip.intersection(buf.area());
-    if !clip.contains(at) {
-        return Ok(at.x);
-    }
-    set_spans(
-        buf,
-        at,
-        room_in(clip, at, room),
-        line.spans(),
-        line.line_style(),
-    )
+    set_line_in(buf, clip.intersection(buf.area()), at, line, room)
 }

@@ -1,6 +1,6 @@
 use Rattle.std.proofs.Common.{rules}
 use Rattle.tui_text.proofs.Settings.{kept_in_clip}
-use Rattle.tui_text.proofs.setting.set_line.Goals as goal
+use Rattle.tui_text.proofs.setting.set_line_in.Goals as goal
 
 pub returns-clause-kept : goal.returns-clause-kept
 returns-clause-kept c = kept_in_clip _ _ _ _ _ _ (search rules) (search rules) c.set_spans.ensures.kept

@@ -4,7 +4,7 @@ use Rattle.tui_cells.specs.Cell.{IsLight}
 use Rattle.tui_text.specs.Graphemes.{clusters}
 use Rattle.tui_text.proofs.Elements.{if_ok, on_ok}
 use Rattle.tui_text.proofs.Settings.{column_in, kept_in_clip, one_end, one_span, set_in}
-use Rattle.tui_text.proofs.setting.set_stringn.Goals as goal
+use Rattle.tui_text.proofs.setting.set_stringn_in.Goals as goal
 
 pub returns-clause-ok : goal.returns-clause-ok
 returns-clause-ok c =
