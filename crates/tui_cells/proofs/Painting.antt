@@ -125,12 +125,16 @@ still_at : (ls : List Layer) (x y : ℕ) (o : Option Look) → ((c : Look) → l
 still_at ls x y None e = refl
 still_at ls x y (Some c) e = ap Some (sym (e c))
 
--- over an empty clip strokes that stay in it do nothing
-pub Painted-empty : {ls : List Layer} (clip : Rect) (b : Screen) → StayIn (covers clip) ls → is_empty clip ≡ true → Painted ls b b
-Painted-empty {ls = ls} clip b s e = record {
+-- strokes that stay in a region where there is none do nothing
+pub Painted-still : {region : ℕ → ℕ → Bool} {ls : List Layer} (b : Screen) → StayIn region ls → ((x y : ℕ) → region x y ≡ false) → Painted ls b b
+Painted-still {ls = ls} b s none = record {
   area = refl;
-  cells = λ x y. still_at ls x y (cell_at b x y) (s.cell x y (covers_nowhere clip e x y));
+  cells = λ x y. still_at ls x y (cell_at b x y) (s.cell x y (none x y));
 }
+
+-- so over an empty clip
+pub Painted-empty : {ls : List Layer} (clip : Rect) (b : Screen) → StayIn (covers clip) ls → is_empty clip ≡ true → Painted ls b b
+Painted-empty clip b s e = Painted-still b s (covers_nowhere clip e)
 
 -- strokes that stay in a region where there is none change nothing
 pub Painted-nowhere : {region : ℕ → ℕ → Bool} {ls : List Layer} {a b : Screen} → StayIn region ls → ((x y : ℕ) → region x y ≡ false) →
