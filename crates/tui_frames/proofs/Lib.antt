@@ -1,0 +1,5 @@
+pub mod Shading
+pub mod TitleLists
+pub mod TitleStrokes
+pub mod Effects
+pub mod InBlock

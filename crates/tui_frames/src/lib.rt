@@ -1,16 +1,24 @@
-//! What surrounds and covers widgets: areas made blank, and areas filled.
+//! What surrounds and covers widgets: blocks with borders and titles, shadows, areas made blank, and areas filled.
 #![tactic(auto)]
 
+pub mod block;
+pub mod block_ext;
 pub mod border_type;
 pub mod borders;
 pub mod clear;
+pub mod effect;
 pub mod fill;
 pub mod padding;
+pub mod shadow;
 pub mod title_position;
 
+pub use block::Block;
+pub use block_ext::{BlockExt, paint_if_some};
 pub use border_type::BorderType;
 pub use borders::Borders;
 pub use clear::Clear;
+pub use effect::{CellEffect, Dimmed};
 pub use fill::Fill;
 pub use padding::Padding;
+pub use shadow::Shadow;
 pub use title_position::TitlePosition;

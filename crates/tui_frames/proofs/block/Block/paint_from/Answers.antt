@@ -1,0 +1,35 @@
+use Rattle.std.proofs.Common.{◌≡◌, get_or, arith}
+use Rattle.tui_cells.proofs.Painting.{KeptOutside-then}
+use Rattle.tui_text.specs.Setting.{AreLight}
+use Rattle.tui_text.proofs.Elements.{seen_at}
+use Rattle.tui_frames.specs.Block.{block_data, title_data}
+use Rattle.tui_frames.specs.Strokes.{titles_from}
+use Rattle.tui_frames.proofs.TitleStrokes.{from_done, from_ended, one_more}
+use Rattle.tui_frames.proofs.block.Block.paint_from.Goals as goal
+
+pub returns-then-column-from-clause-ok : goal.returns-then-column-from-clause-ok
+returns-then-column-from-clause-ok c =
+    c.loop-title.invariant.rest _ (from_ended (block_data c.args.self.now) c.args.clip c.args.strip c.loop-title.column _ _ (omega arith))
+
+pub returns-in_err-column-clause-light : goal.returns-in_err-column-clause-light
+returns-in_err-column-clause-light c light =
+    let at = rw c.deref-title-items.ensures.value at c.title-item.is in
+    let broken =
+    c.in_err-column.ensures.light (seen_at title_data (λ t. AreLight t.line.spans) c.args.self.now.titles.items c.loop-title.title-index _ _ (omega arith) at light) in
+    cc
+
+pub loop-title-preserved : goal.loop-title-preserved
+loop-title-preserved c =
+    let b = block_data c.args.self.now in
+    let at = rw c.deref-title-items.ensures.value at c.title-item.is in
+    record {
+      rest = λ final q. c.loop-title.invariant.rest final
+          (one_more (titles_from b c.args.clip c.args.strip c.loop-title.column) (titles_from b c.args.clip c.args.strip c.in_ok-column.column) b c.args.place
+          c.args.self.now.titles.items c.loop-title.title-index c.title-item.result _ _ _ final (omega arith) at c.in_ok-column.ensures.ok q);
+      kept = KeptOutside-then c.loop-title.invariant.kept c.in_ok-column.ensures.kept;
+    }
+
+pub returns-clause-ok : goal.returns-clause-ok
+returns-clause-ok c =
+    c.loop-title.invariant.rest _
+    (from_done (block_data c.args.self.now) c.args.clip c.args.strip c.loop-title.column c.args.place c.args.self.now.titles.items c.loop-title.title-index _ (omega arith))

@@ -1,0 +1,6 @@
+use Rattle.std.proofs.Common.{rules}
+use Rattle.tui_frames.proofs.shadow.Shadow.block.Goals as goal
+
+pub returns : goal.returns
+unfolding lib.Utf8.encode
+returns c = c.symbol.ensures

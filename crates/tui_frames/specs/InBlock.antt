@@ -1,0 +1,23 @@
+-- Widgets that may have a block.
+use Rattle.std.specs.Prelude.{⊤, List, [], Option, None, Some}
+use Rattle.tui_cells.specs.declared.rect.Rect.{Rect}
+use Rattle.tui_cells.specs.Layers.{Layer}
+use Rattle.tui_frames.specs.Block.{BlockData}
+use Rattle.tui_frames.specs.Light.{IsLightBlock}
+use Rattle.tui_frames.specs.Space.{inner}
+use Rattle.tui_frames.specs.Strokes.{block_layers}
+
+-- the area for what stands in the block, or the whole area
+abbrev pub inner_of : Option BlockData → Rect → Rect
+inner_of None area = area
+inner_of (Some b) area = inner b area
+
+-- the strokes of the block, if there is one
+abbrev pub block_layers_if : Option BlockData → Rect → List Layer
+block_layers_if None clip = []
+block_layers_if (Some b) clip = block_layers b clip
+
+-- no block, or one that takes no memory
+abbrev pub IsLightIfBlock : Option BlockData → Type 0
+IsLightIfBlock None = ⊤
+IsLightIfBlock (Some b) = IsLightBlock b

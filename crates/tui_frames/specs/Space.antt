@@ -1,0 +1,46 @@
+-- The space inside a block.
+use Rattle.std.specs.Prelude.{ℕ, ◌+◌, ◌-◌, ◌≤◌, min, Bool, ◌||◌, if◌then◌else◌}
+use Rattle.tui_cells.specs.declared.rect.Rect.{Rect}
+use Rattle.tui_cells.specs.Rect.{bottom_of, right_of}
+use Rattle.tui_frames.specs.Block.{BlockData}
+use Rattle.tui_frames.specs.Borders.{bottom, has, left, right, top}
+use Rattle.tui_frames.specs.Titles.{has_title}
+use Rattle.tui_frames.specs.declared.title_position.TitlePosition.TheVariants.{Top, Bottom}
+
+-- 1 for a border that is there, 0 for none
+abbrev pub count : Bool → ℕ
+count is_set = if is_set then 1 else 0
+
+-- so many columns or rows further on, at most 65535
+abbrev pub past : ℕ → ℕ → ℕ
+past place n = min (place + n) 65535
+
+-- the columns that borders take at the left and at the right, and the rows that borders and titles take at the top and at the bottom
+abbrev pub left_edge : BlockData → ℕ
+left_edge b = count (has b.borders left)
+
+abbrev pub right_edge : BlockData → ℕ
+right_edge b = count (has b.borders right)
+
+abbrev pub top_edge : BlockData → ℕ
+top_edge b = count (has b.borders top || has_title b Top)
+
+abbrev pub bottom_edge : BlockData → ℕ
+bottom_edge b = count (has b.borders bottom || has_title b Bottom)
+
+-- the area inside a block: the corner moves by what is at the left and at the top, an edge not past the end of the area, and
+-- the sizes lose what is at both sides
+abbrev pub inner : BlockData → Rect → Rect
+inner b area = record {
+  x = past (min (area.x + left_edge b) (right_of area)) b.padding.left;
+  y = past (min (area.y + top_edge b) (bottom_of area)) b.padding.top;
+  width = area.width - (left_edge b + right_edge b) - (b.padding.left + b.padding.right);
+  height = area.height - (top_edge b + bottom_edge b) - (b.padding.top + b.padding.bottom);
+}
+
+-- an area within another one, edges being cut at 65535
+pub record LiesIn (inside area : Rect) : Type 0 where
+  pub from_left : area.x ≤ inside.x
+  pub from_top : area.y ≤ inside.y
+  pub to_right : right_of inside ≤ right_of area
+  pub to_bottom : bottom_of inside ≤ bottom_of area

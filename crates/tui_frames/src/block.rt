@@ -1,0 +1,233 @@
+//! Frames with titles round an area.
+
+ghost use Rattle.std.specs.Prelude.{◌≡◌, [], ◌∷◌, ◌++◌, true, IfOk, None, OnErr, OnOk, Some};
+ghost use Rattle.tui_cells.specs.Symbols.{border_data};
+ghost use Rattle.tui_frames.specs.Block.{block_data, block_of, title_data};
+ghost use Rattle.tui_frames.specs.BorderType.{symbols_of};
+ghost use Rattle.tui_frames.specs.Shadow.{shadow_data};
+ghost use Rattle.tui_text.specs.Line.{line_data};
+
+mod effect;
+mod rendering;
+mod sides;
+mod space;
+mod title;
+mod titles;
+
+use crate::block::title::Title;
+use crate::border_type::BorderType;
+use crate::borders::Borders;
+use crate::padding::Padding;
+use crate::shadow::Shadow;
+use crate::title_position::TitlePosition;
+use std::alloc::Global;
+use tui_cells::{Mem, MergeStrategy, Style, Styled, border};
+use tui_text::{Alignment, Line};
+
+/// A frame round what stands inside: a style in its whole area, borders on some sides, titles in the first and in the last
+/// row, free space inside, and a shadow.
+#[derive(Debug, PartialEq, Eq, Hash, Drop)]
+pub struct Block<'a> {
+    titles: Vec<Title<'a>>,
+    title_style: Style,
+    title_alignment: Alignment,
+    title_position: TitlePosition,
+    borders: Borders,
+    border_style: Style,
+    border_set: border::Set<'a>,
+    style: Style,
+    padding: Padding,
+    merge_borders: MergeStrategy,
+    shadow: Option<Shadow<'a>>,
+}
+
+impl<'a> Block<'a> {
+    /// A block without borders, titles, padding, styles and shadow. Its border symbols are the plain ones, and replace what
+    /// stands there; its titles stand at the top and at the left.
+    pub fn new(alloc: Global) -> Block<'a>
+        ensures { block_data result ≡ block_of 0 }
+    {
+        Block::with_borders(alloc, Borders::NONE)
+    }
+
+    /// The same with borders on all sides.
+    pub fn bordered(alloc: Global) -> Block<'a>
+        ensures { block_data result ≡ block_of 15 }
+    {
+        Block::with_borders(alloc, Borders::ALL)
+    }
+
+    fn with_borders(alloc: Global, borders: Borders) -> Block<'a>
+        ensures { block_data result ≡ block_of borders.bits }
+    {
+        Block {
+            titles: Vec::new(alloc),
+            title_style: Style::new(),
+            title_alignment: Alignment::Left,
+            title_position: TitlePosition::Top,
+            borders,
+            border_style: Style::new(),
+            border_set: BorderType::Plain.to_border_set(),
+            style: Style::new(),
+            padding: Padding::ZERO,
+            merge_borders: MergeStrategy::Replace,
+            shadow: None,
+        }
+    }
+
+    /// Puts a title behind the others. It stands on the side that `title_position` names, and by its own alignment, or else
+    /// by the one that `title_alignment` names. At NoMemory the block is as before, and the title is gone.
+    pub fn title(&mut self, title: Line<'a>) -> Mem<()>
+        ensures ok { OnOk result (block_data self.new ≡ record (block_data self.old) {
+          titles = (block_data self.old).titles ++ record { line = line_data title.entry; position = None } ∷ [];
+        }) }
+        ensures err { OnErr result (block_data self.new ≡ block_data self.old) }
+    {
+        self.push(title, None)
+    }
+
+    /// Puts a title behind the others, at the top. At NoMemory as `title`.
+    pub fn title_top(&mut self, title: Line<'a>) -> Mem<()>
+        ensures ok { OnOk result (block_data self.new ≡ record (block_data self.old) {
+          titles = (block_data self.old).titles ++ record { line = line_data title.entry; position = Some TitlePosition.Top } ∷ [];
+        }) }
+        ensures err { OnErr result (block_data self.new ≡ block_data self.old) }
+    {
+        self.push(title, Some(TitlePosition::Top))
+    }
+
+    /// Puts a title behind the others, at the bottom. At NoMemory as `title`.
+    pub fn title_bottom(&mut self, title: Line<'a>) -> Mem<()>
+        ensures ok { OnOk result (block_data self.new ≡ record (block_data self.old) {
+          titles = (block_data self.old).titles ++ record { line = line_data title.entry; position = Some TitlePosition.Bottom } ∷ [];
+        }) }
+        ensures err { OnErr result (block_data self.new ≡ block_data self.old) }
+    {
+        self.push(title, Some(TitlePosition::Bottom))
+    }
+
+    fn push(&mut self, line: Line<'a>, position: Option<TitlePosition>) -> Mem<()>
+        ensures ok { OnOk result (block_data self.new ≡ record (block_data self.old) {
+          titles = (block_data self.old).titles ++ record { line = line_data line.entry; position = position } ∷ [];
+        }) }
+        ensures err { OnErr result (block_data self.new ≡ block_data self.old) }
+    {
+        self.titles.push(Title { line, position })?;
+        Ok(())
+    }
+
+    /// Sets the style under the titles.
+    pub fn title_style(self, style: Style) -> Block<'a>
+        ensures { block_data result ≡ record (block_data self.entry) { title_style = style } }
+    {
+        Block {
+            title_style: style,
+            ..self
+        }
+    }
+
+    /// Sets the alignment of the titles that have none of their own.
+    pub fn title_alignment(self, alignment: Alignment) -> Block<'a>
+        ensures { block_data result ≡ record (block_data self.entry) { title_alignment = alignment } }
+    {
+        Block {
+            title_alignment: alignment,
+            ..self
+        }
+    }
+
+    /// Sets the side of the titles that have none of their own.
+    pub fn title_position(self, position: TitlePosition) -> Block<'a>
+        ensures { block_data result ≡ record (block_data self.entry) { title_position = position } }
+    {
+        Block {
+            title_position: position,
+            ..self
+        }
+    }
+
+    /// Sets the style of the borders.
+    pub fn border_style(self, style: Style) -> Block<'a>
+        ensures { block_data result ≡ record (block_data self.entry) { border_style = style } }
+    {
+        Block {
+            border_style: style,
+            ..self
+        }
+    }
+
+    /// Sets the style under all.
+    pub fn style(self, style: Style) -> Block<'a>
+        ensures { block_data result ≡ record (block_data self.entry) { style = style } }
+    {
+        Block { style, ..self }
+    }
+
+    /// Sets the sides that have borders.
+    pub fn borders(self, borders: Borders) -> Block<'a>
+        ensures { block_data result ≡ record (block_data self.entry) { borders = borders } }
+    {
+        Block { borders, ..self }
+    }
+
+    /// Sets the border symbols to those of a kind.
+    pub fn border_type(self, kind: BorderType) -> Block<'a>
+        ensures { block_data result ≡ record (block_data self.entry) { symbols = symbols_of kind } }
+    {
+        Block {
+            border_set: kind.to_border_set(),
+            ..self
+        }
+    }
+
+    /// Sets the border symbols.
+    pub fn border_set(self, set: border::Set<'a>) -> Block<'a>
+        ensures { block_data result ≡ record (block_data self.entry) { symbols = border_data set.entry } }
+    {
+        Block {
+            border_set: set,
+            ..self
+        }
+    }
+
+    /// Sets the columns and rows that are left free inside.
+    pub fn padding(self, padding: Padding) -> Block<'a>
+        ensures { block_data result ≡ record (block_data self.entry) { padding = padding } }
+    {
+        Block { padding, ..self }
+    }
+
+    /// Sets how border symbols are joined with what stands there.
+    pub fn merge_borders(self, strategy: MergeStrategy) -> Block<'a>
+        ensures { block_data result ≡ record (block_data self.entry) { strategy = strategy } }
+    {
+        Block {
+            merge_borders: strategy,
+            ..self
+        }
+    }
+
+    /// Sets the shadow.
+    pub fn shadow(self, shadow: Shadow<'a>) -> Block<'a>
+        ensures { block_data result ≡ record (block_data self.entry) { shadow = Some (shadow_data shadow.entry) } }
+    {
+        Block {
+            shadow: Some(shadow),
+            ..self
+        }
+    }
+}
+
+impl<'a> Styled for Block<'a> {
+    ghost style_of = { λ block. block.style };
+
+    ghost with_style = { λ block style. record block { style = style } };
+
+    fn style(&self) -> Style {
+        self.style
+    }
+
+    fn set_style(self, style: Style) -> Block<'a> {
+        Block { style, ..self }
+    }
+}

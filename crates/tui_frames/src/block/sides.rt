@@ -1,0 +1,204 @@
+//! The sides and corners of a block.
+
+ghost use Rattle.std.specs.Prelude.{◌≡◌, ◌≤◌, ◌&&◌, [], ◌∷◌, IsOk, OnOk};
+ghost use Rattle.tui_cells.specs.Cell.{IsLight, dress, merge};
+ghost use Rattle.tui_cells.specs.Layers.{KeptOutside, Painted, over};
+ghost use Rattle.tui_cells.specs.Rect.{covers};
+ghost use Rattle.tui_text.specs.Painting.{cells_at};
+ghost use Rattle.tui_frames.specs.Block.{block_data};
+ghost use Rattle.tui_frames.specs.Borders.{has};
+ghost use Rattle.tui_frames.specs.Light.{AreLightBorders, IsLightIf};
+ghost use Rattle.tui_frames.specs.Strokes.{border_layers, column_side, corner_layers, corners_layers, gap, joins, last_column, last_row, row_side, sides_layers};
+
+use crate::block::Block;
+use crate::block::space::count;
+use crate::borders::Borders;
+use std::alloc::Global;
+use tui_cells::{Buffer, Mem, MergeStrategy, Rect, Style};
+
+/// Joins a symbol with those that stand in an area, and sets a style.
+fn join(
+    alloc: Global,
+    buf: &mut Buffer,
+    area: Rect,
+    strategy: MergeStrategy,
+    symbol: &str,
+    style: Style,
+) -> Mem<()>
+    ensures ok { OnOk result (Painted (over (covers area) (merge strategy symbol.now ∷ dress style ∷ [])) buf.old buf.new) }
+    ensures kept { KeptOutside (covers area) buf.old buf.new }
+    ensures light { IsLight symbol.now → IsOk result }
+{
+    match strategy {
+        MergeStrategy::Replace => buf.fill(alloc, area, symbol, style),
+        _ => {
+            buf.merge(area, symbol, strategy)?;
+            buf.set_style(area, style);
+            Ok(())
+        }
+    }
+}
+
+fn joins(strategy: MergeStrategy) -> bool
+    ensures { result ≡ joins strategy }
+{
+    match strategy {
+        MergeStrategy::Replace => false,
+        _ => true,
+    }
+}
+
+fn both(a: bool, b: bool) -> bool
+    ensures { result ≡ (a && b) }
+{
+    a && b
+}
+
+fn last_column(clip: Rect) -> u16
+    ensures { result ≡ last_column clip }
+{
+    clip.right().saturating_sub(1)
+}
+
+pub(crate) fn last_row(clip: Rect) -> u16
+    ensures { result ≡ last_row clip }
+{
+    clip.bottom().saturating_sub(1)
+}
+
+pub(crate) fn cells_at(x: u16, y: u16, width: u16) -> Rect
+    ensures { result ≡ cells_at x y width }
+{
+    Rect {
+        x,
+        y,
+        width,
+        height: 1,
+    }
+}
+
+impl<'a> Block<'a> {
+    ghost use Rattle.tui_frames.specs.Borders.{bottom, left, right, top};
+
+    fn has(&self, side: Borders) -> bool
+        ensures { result ≡ has (block_data self.now).borders side.bits }
+    {
+        self.borders.contains(side)
+    }
+
+    /// The cells that a side leaves to the corner at another side.
+    fn gap(&self, side: Borders) -> u16
+        ensures is { result ≡ gap (block_data self.now) side.bits }
+        ensures few { result ≤ 1 }
+    {
+        count(both(joins(self.merge_borders), self.has(side)))
+    }
+
+    fn column_side(&self, clip: Rect, x: u16) -> Rect
+        ensures { result ≡ column_side (block_data self.now) clip x }
+    {
+        let first = self.gap(Borders::TOP);
+        let last = self.gap(Borders::BOTTOM);
+        Rect {
+            x,
+            y: clip.y.saturating_add(first),
+            width: 1,
+            height: clip.height.saturating_sub(first + last),
+        }
+    }
+
+    fn row_side(&self, clip: Rect, y: u16) -> Rect
+        ensures { result ≡ row_side (block_data self.now) clip y }
+    {
+        let first = self.gap(Borders::LEFT);
+        let last = self.gap(Borders::RIGHT);
+        let width = clip.width.saturating_sub(first + last);
+        cells_at(clip.x.saturating_add(first), y, width)
+    }
+
+    /// The symbol and the border style in a part of the clip, if that border is set.
+    fn paint_border(
+        &self,
+        alloc: Global,
+        buf: &mut Buffer,
+        clip: Rect,
+        is_set: bool,
+        part: Rect,
+        symbol: &str,
+    ) -> Mem<()>
+        ensures ok { OnOk result (Painted (border_layers (block_data self.now) clip is_set part symbol.now) buf.old buf.new) }
+        ensures kept { KeptOutside (covers clip) buf.old buf.new }
+        ensures light { IsLightIf is_set symbol.now → IsOk result }
+    {
+        if is_set {
+            let part = clip.intersection(part);
+            join(
+                alloc,
+                buf,
+                part,
+                self.merge_borders,
+                symbol,
+                self.border_style,
+            )?;
+        }
+        Ok(())
+    }
+
+    #[tactic(auto, unfolding(crate::specs::Strokes::sides_layers))]
+    pub(crate) fn paint_sides(&self, alloc: Global, buf: &mut Buffer, clip: Rect) -> Mem<()>
+        ensures ok { OnOk result (Painted (sides_layers (block_data self.now) clip) buf.old buf.new) }
+        ensures kept { KeptOutside (covers clip) buf.old buf.new }
+        ensures light { AreLightBorders (block_data self.now) → IsOk result }
+    {
+        let set = self.border_set;
+        let is_left = self.has(Borders::LEFT);
+        let is_top = self.has(Borders::TOP);
+        let is_right = self.has(Borders::RIGHT);
+        let is_bottom = self.has(Borders::BOTTOM);
+        let left = self.column_side(clip, clip.x);
+        let top = self.row_side(clip, clip.y);
+        let right = self.column_side(clip, last_column(clip));
+        let bottom = self.row_side(clip, last_row(clip));
+        self.paint_border(alloc, buf, clip, is_left, left, set.vertical_left)?;
+        self.paint_border(alloc, buf, clip, is_top, top, set.horizontal_top)?;
+        self.paint_border(alloc, buf, clip, is_right, right, set.vertical_right)?;
+        self.paint_border(alloc, buf, clip, is_bottom, bottom, set.horizontal_bottom)
+    }
+
+    /// A corner, if both borders that meet there are set.
+    fn paint_corner(
+        &self,
+        alloc: Global,
+        buf: &mut Buffer,
+        clip: Rect,
+        sides: (Borders, Borders),
+        cell: (u16, u16),
+        symbol: &str,
+    ) -> Mem<()>
+        ensures ok { OnOk result
+            (Painted (corner_layers (block_data self.now) clip sides.0.bits sides.1.bits cell.0 cell.1 symbol.now) buf.old buf.new) }
+        ensures kept { KeptOutside (covers clip) buf.old buf.new }
+        ensures light { IsLightIf (has (block_data self.now).borders sides.0.bits && has (block_data self.now).borders sides.1.bits) symbol.now
+            → IsOk result }
+    {
+        let is_set = both(self.has(sides.0), self.has(sides.1));
+        let (x, y) = cell;
+        self.paint_border(alloc, buf, clip, is_set, cells_at(x, y, 1), symbol)
+    }
+
+    #[tactic(auto, unfolding(crate::specs::Strokes::corners_layers))]
+    pub(crate) fn paint_corners(&self, alloc: Global, buf: &mut Buffer, clip: Rect) -> Mem<()>
+        ensures ok { OnOk result (Painted (corners_layers (block_data self.now) clip) buf.old buf.new) }
+        ensures kept { KeptOutside (covers clip) buf.old buf.new }
+        ensures light { AreLightBorders (block_data self.now) → IsOk result }
+    {
+        let set = self.border_set;
+        let (top, right, bottom, left) =
+            (Borders::TOP, Borders::RIGHT, Borders::BOTTOM, Borders::LEFT);
+        let (last_x, last_y) = (last_column(clip), last_row(clip));
+        self.paint_corner(alloc, buf, clip, (bottom, right), (last_x, last_y), set.bottom_right)?;
+        self.paint_corner(alloc, buf, clip, (top, right), (last_x, clip.y), set.top_right)?;
+        self.paint_corner(alloc, buf, clip, (bottom, left), (clip.x, last_y), set.bottom_left)?;
+        self.paint_corner(alloc, buf, clip, (top, left), (clip.x, clip.y), set.top_left)
+    }
+}

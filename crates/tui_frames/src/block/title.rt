@@ -1,0 +1,80 @@
+//! Titles of a block.
+
+ghost use Rattle.std.specs.Prelude.{◌≡◌};
+ghost use Rattle.tui_frames.specs.Block.{block_data, title_data};
+ghost use Rattle.tui_frames.specs.Titles.{has_title, is_in, is_on, same_alignment, same_position, title_width};
+ghost use Rattle.tui_text.specs.Line.{line_data};
+
+use crate::block::Block;
+use crate::title_position::TitlePosition;
+use tui_text::{Alignment, Line};
+
+/// A line, and the side on which it stands, if it has one of its own.
+#[derive(Debug, PartialEq, Eq, Hash, Drop)]
+pub(crate) struct Title<'a> {
+    pub(crate) line: Line<'a>,
+    pub(crate) position: Option<TitlePosition>,
+}
+
+/// Where titles stand: a side, and their alignment there.
+#[derive(Clone, Copy)]
+pub(crate) struct Place {
+    pub(crate) position: TitlePosition,
+    pub(crate) alignment: Alignment,
+}
+
+fn same_position(a: TitlePosition, b: TitlePosition) -> bool
+    ensures { result ≡ same_position a b }
+{
+    match (a, b) {
+        (TitlePosition::Top, TitlePosition::Top) => true,
+        (TitlePosition::Bottom, TitlePosition::Bottom) => true,
+        _ => false,
+    }
+}
+
+fn same_alignment(a: Alignment, b: Alignment) -> bool
+    ensures { result ≡ same_alignment a b }
+{
+    match (a, b) {
+        (Alignment::Left, Alignment::Left) => true,
+        (Alignment::Center, Alignment::Center) => true,
+        (Alignment::Right, Alignment::Right) => true,
+        _ => false,
+    }
+}
+
+/// The columns of a title, at most 65535.
+pub(crate) fn title_width(line: &Line<'_>) -> u16
+    ensures { result ≡ title_width (line_data line.now) }
+{
+    line.width().min(65535) as u16
+}
+
+impl<'a> Block<'a> {
+    fn is_on(&self, position: TitlePosition, title: &Title<'_>) -> bool
+        ensures { result ≡ is_on (block_data self.now) position (title_data title.now) }
+    {
+        same_position(title.position.unwrap_or(self.title_position), position)
+    }
+
+    /// Whether a title stands in a place, where it takes what it does not say itself from the block.
+    pub(crate) fn is_in(&self, place: Place, title: &Title<'_>) -> bool
+        ensures { result ≡ is_in (block_data self.now) place (title_data title.now) }
+    {
+        let alignment = title.line.line_alignment().unwrap_or(self.title_alignment);
+        self.is_on(place.position, title) && same_alignment(alignment, place.alignment)
+    }
+
+    /// Whether there is a title on a side.
+    pub(crate) fn has_title(&self, position: TitlePosition) -> bool
+        ensures { result ≡ has_title (block_data self.now) position }
+    {
+        for title in &self.titles {
+            if self.is_on(position, title) {
+                return true;
+            }
+        }
+        false
+    }
+}

@@ -1,0 +1,325 @@
+//! The titles of a block in their columns.
+
+ghost use Rattle.std.specs.Prelude.{◌≡◌, ◌+◌, ◌-◌, ◌<◌, ◌≤◌, ◌++◌, [], ◌∷◌, List, min, IfOk, IsOk, OnOk, nat_lt, if◌then◌else◌};
+ghost use Rattle.tui_cells.specs.Buffer.{Screen};
+ghost use Rattle.tui_cells.specs.Layers.{KeptOutside, Painted};
+ghost use Rattle.tui_cells.specs.Rect.{covers, intersection_of};
+ghost use Rattle.tui_frames.specs.Block.{block_data, title_data};
+ghost use Rattle.tui_frames.specs.Light.{AreLightTitles};
+ghost use Rattle.tui_frames.specs.Space.{past};
+ghost use Rattle.tui_frames.specs.Strokes.{
+  place_of,
+  row_at,
+  row_titles,
+  strip_of,
+  title_layers,
+  titles_cut,
+  titles_from,
+  titles_in_middle,
+  titles_to_end,
+};
+ghost use Rattle.tui_frames.specs.Titles.{spaced, title_width, titles_in, total};
+ghost use Rattle.tui_text.specs.Line.{LineData, line_data};
+ghost use Rattle.tui_text.specs.Painting.{cells_at};
+ghost use Rattle.tui_text.specs.Setting.{AreLight};
+
+use crate::block::Block;
+use crate::block::sides::{cells_at, last_row};
+use crate::block::title::{Place, Title, title_width};
+use crate::title_position::TitlePosition;
+use tui_cells::{Buffer, Mem, Rect};
+use tui_text::{Alignment, Line, paint_row};
+
+fn row_at(clip: Rect, position: TitlePosition) -> u16
+    ensures { result ≡ row_at clip position }
+{
+    match position {
+        TitlePosition::Top => clip.y,
+        TitlePosition::Bottom => last_row(clip),
+    }
+}
+
+/// Columns of a strip, counted from its beginning.
+fn columns_of(strip: Rect, column: u16, width: u16) -> Rect
+    ensures { result ≡ cells_at (past strip.x column) strip.y width }
+{
+    cells_at(strip.x.saturating_add(column), strip.y, width)
+}
+
+fn place_of(position: TitlePosition, alignment: Alignment) -> Place
+    ensures { result ≡ place_of position alignment }
+{
+    Place {
+        position,
+        alignment,
+    }
+}
+
+/// The columns of a title that is cut at both ends.
+fn cut_width(strip: Rect, cut: u128, column: u16, width: u16) -> u16
+    requires { column < strip.width }
+    ensures is { result ≡ min width (strip.width - column) - (cut - column) }
+    ensures within { column + result ≤ strip.width }
+{
+    let hidden = cut.saturating_sub(u128::from(column));
+    let room = u128::from(width.min(strip.width - column));
+    room.saturating_sub(hidden) as u16
+}
+
+fn cut_alignment(cut: u128, column: u16) -> Alignment
+    ensures { result ≡ (if nat_lt column cut then Alignment.Right else Alignment.Left) }
+{
+    if u128::from(column) < cut {
+        Alignment::Right
+    } else {
+        Alignment::Left
+    }
+}
+
+impl<'a> Block<'a> {
+    /// The row of a side without the columns of set borders.
+    fn strip(&self, clip: Rect, position: TitlePosition) -> Rect
+        ensures { result ≡ strip_of (block_data self.now) clip position }
+    {
+        let left = self.left_edge();
+        let right = self.right_edge();
+        let width = clip.width.saturating_sub(left + right);
+        cells_at(clip.x.saturating_add(left), row_at(clip, position), width)
+    }
+
+    /// The title style, and the line, in a part of a row.
+    fn paint_title(
+        &self,
+        buf: &mut Buffer,
+        clip: Rect,
+        part: Rect,
+        alignment: Alignment,
+        line: &Line<'_>,
+    ) -> Mem<()>
+        ensures ok { OnOk result
+            (Painted (title_layers (block_data self.now) (intersection_of clip part) alignment (line_data line.now)) buf.old buf.new) }
+        ensures kept { KeptOutside (covers clip) buf.old buf.new }
+        ensures light { AreLight (line_data line.now).spans → IsOk result }
+    {
+        let part = clip.intersection(part);
+        buf.set_style(part, self.title_style);
+        paint_row(buf, part, line, alignment)
+    }
+
+    /// Paints a title from a column on, if it stands in a place, and answers the column of the next one.
+    fn paint_at(
+        &self,
+        buf: &mut Buffer,
+        clip: Rect,
+        strip: Rect,
+        column: u16,
+        place: Place,
+        title: &Title<'_>,
+    ) -> Mem<u32>
+        requires { column < strip.width }
+        ensures ok { IfOk result (λ next. (ts : List LineData) (final : Screen)
+            → Painted (titles_from (block_data self.now) clip strip next ts) buf.new final
+            → Painted (titles_from (block_data self.now) clip strip column (titles_in (block_data self.now) place (title_data title.now ∷ []) ++ ts))
+                buf.old final) }
+        ensures kept { KeptOutside (covers clip) buf.old buf.new }
+        ensures light { AreLight (title_data title.now).line.spans → IsOk result }
+    {
+        if !self.is_in(place, title) {
+            return Ok(u32::from(column));
+        }
+        let width = title_width(&title.line);
+        let room = strip.width - column;
+        let part = columns_of(strip, column, width.min(room));
+        let alignment = title.line.line_alignment().unwrap_or(Alignment::Left);
+        self.paint_title(buf, clip, part, alignment, &title.line)?;
+        Ok(u32::from(column) + u32::from(width) + 1)
+    }
+
+    /// Paints the titles of a place from a column on, while there is room.
+    fn paint_from(
+        &self,
+        buf: &mut Buffer,
+        clip: Rect,
+        strip: Rect,
+        column: u16,
+        place: Place,
+    ) -> Mem<()>
+        ensures ok { OnOk result
+            (Painted (titles_from (block_data self.now) clip strip column (titles_in (block_data self.now) place (block_data self.now).titles)) buf.old buf.new) }
+        ensures kept { KeptOutside (covers clip) buf.old buf.new }
+        ensures light { AreLightTitles (block_data self.now).titles → IsOk result }
+    {
+        let mut column = u32::from(column);
+        for title in &self.titles {
+            if column >= u32::from(strip.width) {
+                return Ok(());
+            }
+            column = self.paint_at(buf, clip, strip, column as u16, place, title)?;
+        }
+        Ok(())
+    }
+
+    /// Paints a title that is cut at both ends, if it stands in a place, and answers the column of the next one.
+    fn paint_cut_at(
+        &self,
+        buf: &mut Buffer,
+        clip: Rect,
+        strip: Rect,
+        cut: u128,
+        column: u16,
+        place: Place,
+        title: &Title<'_>,
+    ) -> Mem<u32>
+        requires { column < strip.width }
+        ensures ok { IfOk result (λ next. (ts : List LineData) (final : Screen)
+            → Painted (titles_cut (block_data self.now) clip strip cut next ts) buf.new final
+            → Painted (titles_cut (block_data self.now) clip strip cut column (titles_in (block_data self.now) place (title_data title.now ∷ []) ++ ts))
+                buf.old final) }
+        ensures kept { KeptOutside (covers clip) buf.old buf.new }
+        ensures light { AreLight (title_data title.now).line.spans → IsOk result }
+    {
+        if !self.is_in(place, title) {
+            return Ok(u32::from(column));
+        }
+        let width = cut_width(strip, cut, column, title_width(&title.line));
+        let part = columns_of(strip, column, width);
+        self.paint_title(buf, clip, part, cut_alignment(cut, column), &title.line)?;
+        Ok(u32::from(column) + u32::from(width) + 1)
+    }
+
+    /// Paints the titles of a place, cut at both ends, while there is room.
+    fn paint_cut(
+        &self,
+        buf: &mut Buffer,
+        clip: Rect,
+        strip: Rect,
+        cut: u128,
+        place: Place,
+    ) -> Mem<()>
+        ensures ok { OnOk result
+            (Painted (titles_cut (block_data self.now) clip strip cut 0 (titles_in (block_data self.now) place (block_data self.now).titles)) buf.old buf.new) }
+        ensures kept { KeptOutside (covers clip) buf.old buf.new }
+        ensures light { AreLightTitles (block_data self.now).titles → IsOk result }
+    {
+        let mut column = 0u32;
+        for title in &self.titles {
+            if column >= u32::from(strip.width) {
+                return Ok(());
+            }
+            column = self.paint_cut_at(buf, clip, strip, cut, column as u16, place, title)?;
+        }
+        Ok(())
+    }
+
+    /// The columns of the titles of a place, with one between two.
+    fn total(&self, place: Place) -> u128
+        ensures { result ≡ total (titles_in (block_data self.now) place (block_data self.now).titles) }
+    {
+        let mut sum = 0u128;
+        for title in &self.titles {
+            sum += self.spaced_width(place, title);
+        }
+        sum.saturating_sub(1)
+    }
+
+    /// The columns of a title and one more, if it stands in a place, else 0.
+    fn spaced_width(&self, place: Place, title: &Title<'_>) -> u128
+        ensures is { result ≡ spaced (titles_in (block_data self.now) place (title_data title.now ∷ [])) }
+        ensures few { result ≤ 65536 }
+    {
+        if self.is_in(place, title) {
+            u128::from(title_width(&title.line)) + 1
+        } else {
+            0
+        }
+    }
+
+    /// Paints the titles of a place in the middle of a strip.
+    fn paint_middle(&self, buf: &mut Buffer, clip: Rect, strip: Rect, place: Place) -> Mem<()>
+        ensures ok { OnOk result
+            (Painted (titles_in_middle (block_data self.now) clip strip (titles_in (block_data self.now) place (block_data self.now).titles)) buf.old buf.new) }
+        ensures kept { KeptOutside (covers clip) buf.old buf.new }
+        ensures light { AreLightTitles (block_data self.now).titles → IsOk result }
+    {
+        let total = self.total(place);
+        let room = u128::from(strip.width);
+        if total <= room {
+            let column = (room - total) / 2;
+            return self.paint_from(buf, clip, strip, column as u16, place);
+        }
+        self.paint_cut(buf, clip, strip, (total - room) / 2, place)
+    }
+
+    /// Paints a title before those that take the columns `after` it, if it stands in a place, and answers the columns that it
+    /// and those take.
+    fn paint_before(
+        &self,
+        buf: &mut Buffer,
+        clip: Rect,
+        strip: Rect,
+        after: u16,
+        place: Place,
+        title: &Title<'_>,
+    ) -> Mem<u32>
+        requires { after < strip.width }
+        ensures ok { IfOk result (λ next. (ts : List LineData) (first : Screen)
+            → after ≡ spaced ts
+            → Painted (titles_to_end (block_data self.now) clip strip ts) first buf.old
+            → Painted (titles_to_end (block_data self.now) clip strip (titles_in (block_data self.now) place (title_data title.now ∷ []) ++ ts))
+                first buf.new) }
+        ensures taken { IfOk result (λ next. next ≡ after + spaced (titles_in (block_data self.now) place (title_data title.now ∷ []))) }
+        ensures kept { KeptOutside (covers clip) buf.old buf.new }
+        ensures light { AreLight (title_data title.now).line.spans → IsOk result }
+    {
+        if !self.is_in(place, title) {
+            return Ok(u32::from(after));
+        }
+        let width = title_width(&title.line);
+        let end = strip.width - after;
+        let shown = width.min(end);
+        let part = columns_of(strip, end - shown, shown);
+        let alignment = title.line.line_alignment().unwrap_or(Alignment::Left);
+        self.paint_title(buf, clip, part, alignment, &title.line)?;
+        Ok(u32::from(after) + u32::from(width) + 1)
+    }
+
+    /// Paints the titles of a place up to the end of a strip, the last one first, while there is room.
+    fn paint_to_end(&self, buf: &mut Buffer, clip: Rect, strip: Rect, place: Place) -> Mem<()>
+        ensures ok { OnOk result
+            (Painted (titles_to_end (block_data self.now) clip strip (titles_in (block_data self.now) place (block_data self.now).titles)) buf.old buf.new) }
+        ensures kept { KeptOutside (covers clip) buf.old buf.new }
+        ensures light { AreLightTitles (block_data self.now).titles → IsOk result }
+    {
+        let count = self.titles.len();
+        let mut after = 0u32;
+        for i in 0..count {
+            if after >= u32::from(strip.width) {
+                return Ok(());
+            }
+            let title = &self.titles[count - 1 - i];
+            after = self.paint_before(buf, clip, strip, after as u16, place, title)?;
+        }
+        Ok(())
+    }
+
+    /// Paints the titles of a side: those at the left, in the middle and at the right.
+    #[tactic(auto, unfolding(crate::specs::Strokes::row_titles))]
+    pub(crate) fn paint_titles(
+        &self,
+        buf: &mut Buffer,
+        clip: Rect,
+        position: TitlePosition,
+    ) -> Mem<()>
+        ensures ok { OnOk result (Painted (row_titles (block_data self.now) clip position) buf.old buf.new) }
+        ensures kept { KeptOutside (covers clip) buf.old buf.new }
+        ensures light { AreLightTitles (block_data self.now).titles → IsOk result }
+    {
+        let strip = self.strip(clip, position);
+        let left = place_of(position, Alignment::Left);
+        let middle = place_of(position, Alignment::Center);
+        let right = place_of(position, Alignment::Right);
+        self.paint_from(buf, clip, strip, 0, left)?;
+        self.paint_middle(buf, clip, strip, middle)?;
+        self.paint_to_end(buf, clip, strip, right)
+    }
+}

@@ -1,0 +1,114 @@
+//! Changes of the cells of an area outside a base, one side after another.
+
+ghost use Rattle.std.specs.Prelude.{◌≡◌, [], ◌∷◌, IsOk, OnOk};
+ghost use Rattle.tui_cells.specs.Cell.{IsLight, dim, dress, put};
+ghost use Rattle.tui_cells.specs.Layers.{KeptOutside, Painted, over};
+ghost use Rattle.tui_cells.specs.Rect.{covers, intersection_of};
+ghost use Rattle.tui_frames.specs.Shadow.{in_shadow};
+ghost use Rattle.tui_frames.specs.Sides.{side_of};
+
+use std::alloc::Global;
+use tui_cells::{Buffer, Mem, Rect, Style};
+
+/// A side of a base.
+#[derive(Clone, Copy)]
+pub(crate) enum Side {
+    Above,
+    Below,
+    Before,
+    Behind,
+}
+
+fn side_of(base: Rect, side: Side) -> Rect
+    ensures { result ≡ side_of base side }
+{
+    let end = u16::MAX;
+    match side {
+        Side::Above => Rect {
+            x: 0,
+            y: 0,
+            width: end,
+            height: base.y,
+        },
+        Side::Below => Rect {
+            x: 0,
+            y: base.bottom(),
+            width: end,
+            height: end - base.bottom(),
+        },
+        Side::Before => Rect {
+            x: 0,
+            y: base.y,
+            width: base.x,
+            height: base.height,
+        },
+        Side::Behind => Rect {
+            x: base.right(),
+            y: base.y,
+            width: end - base.right(),
+            height: base.height,
+        },
+    }
+}
+
+/// The part of an area on a side of a base.
+fn part(area: Rect, base: Rect, side: Side) -> Rect
+    ensures { result ≡ intersection_of area (side_of base side) }
+{
+    area.intersection(side_of(base, side))
+}
+
+/// Dims the cells of an area outside a base.
+pub(crate) fn dim_outside(buf: &mut Buffer, area: Rect, base: Rect)
+    ensures { Painted (over (in_shadow area base) (dim ∷ [])) buf.old buf.new }
+{
+    buf.dim(part(area, base, Side::Above));
+    buf.dim(part(area, base, Side::Below));
+    buf.dim(part(area, base, Side::Before));
+    buf.dim(part(area, base, Side::Behind));
+}
+
+/// Sets a style in the cells of an area outside a base.
+pub(crate) fn dress_outside(buf: &mut Buffer, area: Rect, base: Rect, style: Style)
+    ensures { Painted (over (in_shadow area base) (dress style ∷ [])) buf.old buf.new }
+{
+    buf.set_style(part(area, base, Side::Above), style);
+    buf.set_style(part(area, base, Side::Below), style);
+    buf.set_style(part(area, base, Side::Before), style);
+    buf.set_style(part(area, base, Side::Behind), style);
+}
+
+/// Sets a style and puts a symbol in the cells of an area outside a base.
+pub(crate) fn fill_outside(
+    alloc: Global,
+    buf: &mut Buffer,
+    area: Rect,
+    base: Rect,
+    symbol: &str,
+    style: Style,
+) -> Mem<()>
+    ensures ok { OnOk result (Painted (over (in_shadow area base) (dress style ∷ put symbol.now ∷ [])) buf.old buf.new) }
+    ensures kept { KeptOutside (in_shadow area base) buf.old buf.new }
+    ensures light { IsLight symbol.now → IsOk result }
+{
+    fill_side(alloc, buf, area, base, Side::Above, symbol, style)?;
+    fill_side(alloc, buf, area, base, Side::Below, symbol, style)?;
+    fill_side(alloc, buf, area, base, Side::Before, symbol, style)?;
+    fill_side(alloc, buf, area, base, Side::Behind, symbol, style)
+}
+
+fn fill_side(
+    alloc: Global,
+    buf: &mut Buffer,
+    area: Rect,
+    base: Rect,
+    side: Side,
+    symbol: &str,
+    style: Style,
+) -> Mem<()>
+    ensures ok { OnOk result (Painted (over (covers (intersection_of area (side_of base side))) (dress style ∷ put symbol.now ∷ [])) buf.old buf.new) }
+    ensures kept { KeptOutside (in_shadow area base) buf.old buf.new }
+    ensures light { IsLight symbol.now → IsOk result }
+{
+    buf.fill(alloc, part(area, base, side), symbol, style)
+}
