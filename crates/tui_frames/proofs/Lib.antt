@@ -3,3 +3,4 @@ pub mod TitleLists
 pub mod TitleStrokes
 pub mod Effects
 pub mod InBlock
+pub mod Inside
