@@ -6,33 +6,32 @@ use Rattle.tui_cells.specs.declared.rect.Rect.{Rect}
 use Rattle.tui_cells.specs.Buffer.{Screen}
 use Rattle.tui_cells.specs.Cell.{dress}
 use Rattle.tui_cells.specs.Layers.{Layer, Painted, StayIn}
-use Rattle.tui_cells.specs.Rect.{covers, intersection_of, is_empty}
+use Rattle.tui_cells.specs.Rect.{columns_from, covers, intersection_of, is_empty}
 use Rattle.tui_cells.specs.Stays.{StayIn-append, StayIn-stroke}
 use Rattle.tui_cells.proofs.Painting.{Painted-empty, Painted-none, Painted-then}
 use Rattle.tui_text.specs.Line.{LineData}
-use Rattle.tui_text.specs.Painting.{cells_at}
 use Rattle.tui_text.specs.declared.alignment.Alignment.{Alignment}
 use Rattle.tui_text.specs.declared.alignment.Alignment.TheVariants.{Left, Right}
 use Rattle.tui_text.proofs.RowStays.{row_stays}
 use Rattle.tui_frames.specs.Block.{BlockData, TitleData, title_data}
-use Rattle.tui_frames.specs.Space.{past}
-use Rattle.tui_frames.specs.Strokes.{columns_of, title_layers, titles_cut, titles_from, titles_in_middle, titles_to_end}
+use Rattle.tui_frames.specs.Strokes.{title_layers, titles_cut, titles_from, titles_in_middle, titles_to_end}
 use Rattle.tui_frames.specs.Titles.{is_in, spaced, title_width, titles_in, total}
 use Rattle.tui_frames.specs.declared.block.title.Place.{Place}
 use Rattle.tui_frames.specs.declared.block.title.Title.{Title}
 use Rattle.tui_frames.proofs.TitleLists.{none_there, one_there, titles_in-from, titles_in-none, titles_in-parts}
 
 -- no columns are no cells
-no_columns : (c strip : Rect) (column : ℕ) → is_empty (columns_of c strip column 0) ≡ true
-no_columns c strip column = grind (arith, nat_tests)
+no_columns : (c strip : Rect) (column width : ℕ) → min width (strip.width - column) ≡ 0 → is_empty (intersection_of c (columns_from strip column width)) ≡ true
+no_columns c strip column width e = grind (arith, nat_tests)
 
 -- a title without columns does nothing
-nothing_shown : (b : BlockData) (c strip : Rect) (column width : ℕ) (a : Alignment) (t : LineData) (s : Screen) → width ≡ 0 →
-    Painted (title_layers b (columns_of c strip column width) a t) s s
+nothing_shown : (b : BlockData) (c strip : Rect) (column width : ℕ) (a : Alignment) (t : LineData) (s : Screen) → min width (strip.width - column) ≡ 0 →
+    Painted (title_layers b c (columns_from strip column width) a t) s s
 nothing_shown b c strip column width a t s e =
-    let part = columns_of c strip column width in
-    let stays : StayIn (covers part) (title_layers b part a t) = StayIn-append (StayIn-stroke (covers part) (dress b.title_style) (λ x y out. out)) (row_stays part a t) in
-    Painted-empty part s stays (ap (λ n. is_empty (columns_of c strip column n)) e ∙ no_columns c strip column)
+    let part = intersection_of c (columns_from strip column width) in
+    let stays : StayIn (covers part) (title_layers b c (columns_from strip column width) a t) =
+    StayIn-append (StayIn-stroke (covers part) (dress b.title_style) (λ x y out. out)) (row_stays part a t) in
+    Painted-empty part s stays (no_columns c strip column width e)
 
 -- without room no title shows
 pub from_ended : (b : BlockData) (c strip : Rect) (column : ℕ) (ts : List LineData) (s : Screen) → strip.width ≤ column →
@@ -51,23 +50,22 @@ cut_ended b c strip cut column (t ∷ ts) s le =
     (cut_ended b c strip cut (column + (min (title_width t) (strip.width - column) - (cut - column)) + 1) ts s (omega arith))
 
 -- a title that stands in the place is painted from a column on
-pub from_more : (b : BlockData) (c strip part : Rect) (column width room next : ℕ) (a : Alignment) (p : Place) (t : TitleData) (old new : Screen) →
-    is_in b p t ≡ true → width ≡ title_width t.line → room ≡ min width (strip.width - column) → part ≡ cells_at (past strip.x column) strip.y room →
-    a ≡ unwrap_or t.line.alignment Left → next ≡ column + width + 1 →
-    Painted (title_layers b (intersection_of c part) a t.line) old new →
+pub from_more : (b : BlockData) (c strip part : Rect) (column width next : ℕ) (a : Alignment) (p : Place) (t : TitleData) (old new : Screen) →
+    is_in b p t ≡ true → width ≡ title_width t.line → part ≡ columns_from strip column width → a ≡ unwrap_or t.line.alignment Left → next ≡ column + width + 1 →
+    Painted (title_layers b c part a t.line) old new →
     (ts : List LineData) (final : Screen) → Painted (titles_from b c strip next ts) new final →
     Painted (titles_from b c strip column (titles_in b p (t ∷ []) ++ ts)) old final
 unfolding titles_from
-from_more b c strip part column width room next a p t old new here wide shown there aligned after painted ts final rest =
+from_more b c strip part column width next a p t old new here wide there aligned after painted ts final rest =
     let whole : Painted (titles_from b c strip column (t.line ∷ ts)) old final =
-    Painted-then (rw (there, shown, aligned, wide) at painted) (rw (after, wide) at rest) in
+    Painted-then (rw (there, aligned, wide) at painted) (rw (after, wide) at rest) in
     subst (λ (ls : List LineData). Painted (titles_from b c strip column (ls ++ ts)) old final) (sym (one_there b p t here)) whole
 
 -- one that is cut at both ends likewise
 pub cut_more : (b : BlockData) (c strip part : Rect) (cut column width shown next : ℕ) (a : Alignment) (p : Place) (t : TitleData) (old new : Screen) →
     is_in b p t ≡ true → width ≡ title_width t.line → shown ≡ min width (strip.width - column) - (cut - column) →
-    part ≡ cells_at (past strip.x column) strip.y shown → a ≡ (if nat_lt column cut then Right else Left) → next ≡ column + shown + 1 →
-    Painted (title_layers b (intersection_of c part) a t.line) old new →
+    part ≡ columns_from strip column shown → a ≡ (if nat_lt column cut then Right else Left) → next ≡ column + shown + 1 →
+    Painted (title_layers b c part a t.line) old new →
     (ts : List LineData) (final : Screen) → Painted (titles_cut b c strip cut next ts) new final →
     Painted (titles_cut b c strip cut column (titles_in b p (t ∷ []) ++ ts)) old final
 unfolding titles_cut
@@ -99,8 +97,8 @@ cut_done b c strip cut column p xs i s le = rw (titles_in-none b p xs i le) (Pai
 -- a title that stands in the place is painted before those that follow it
 pub before_more : (b : BlockData) (c strip part : Rect) (after width shown : ℕ) (a : Alignment) (p : Place) (t : TitleData) (old new : Screen) →
     is_in b p t ≡ true → width ≡ title_width t.line → shown ≡ min width (strip.width - after) →
-    part ≡ cells_at (past strip.x (strip.width - after - shown)) strip.y shown → a ≡ unwrap_or t.line.alignment Left →
-    Painted (title_layers b (intersection_of c part) a t.line) old new →
+    part ≡ columns_from strip (strip.width - after - shown) shown → a ≡ unwrap_or t.line.alignment Left →
+    Painted (title_layers b c part a t.line) old new →
     (ts : List LineData) (first : Screen) → after ≡ spaced ts → Painted (titles_to_end b c strip ts) first old →
     Painted (titles_to_end b c strip (titles_in b p (t ∷ []) ++ ts)) first new
 unfolding titles_to_end

@@ -60,7 +60,7 @@ corners_stay b c =
     StayIn-append (StayIn-append (StayIn-append (border_stays b c _ _ _) (border_stays b c _ _ _)) (border_stays b c _ _ _)) (border_stays b c _ _ _)
 
 -- titles
-title_stays : (b : BlockData) (c part : Rect) (a : Alignment) (t : LineData) → StayIn (covers c) (title_layers b (intersection_of c part) a t)
+title_stays : (b : BlockData) (c part : Rect) (a : Alignment) (t : LineData) → StayIn (covers c) (title_layers b c part a t)
 title_stays b c part a t =
     StayIn-append (StayIn-stroke (covers (intersection_of c part)) (dress b.title_style) (outside_both c part))
     (StayIn-wider (outside_both c part) (row_stays (intersection_of c part) a t))

@@ -5,7 +5,7 @@ use Rattle.tui_cells.specs.declared.merge_strategy.MergeStrategy.TheVariants.{Re
 use Rattle.tui_cells.specs.declared.rect.Rect.{Rect}
 use Rattle.tui_cells.specs.Cell.{dress, merge}
 use Rattle.tui_cells.specs.Layers.{Layer, over, stroke}
-use Rattle.tui_cells.specs.Rect.{bottom_of, covers, intersection_of, right_of}
+use Rattle.tui_cells.specs.Rect.{bottom_of, columns_from, covers, intersection_of, right_of, rows_from}
 use Rattle.tui_text.specs.Line.{LineData}
 use Rattle.tui_text.specs.Painting.{cells_at, row_layers}
 use Rattle.tui_text.specs.declared.alignment.Alignment.{Alignment}
@@ -13,7 +13,7 @@ use Rattle.tui_text.specs.declared.alignment.Alignment.TheVariants.{Left, Center
 use Rattle.tui_frames.specs.Block.{BlockData}
 use Rattle.tui_frames.specs.Borders.{bottom, has, left, right, top}
 use Rattle.tui_frames.specs.Shadow.{ShadowData, shadow_layers}
-use Rattle.tui_frames.specs.Space.{count, left_edge, past, right_edge}
+use Rattle.tui_frames.specs.Space.{count, left_edge, right_edge}
 use Rattle.tui_frames.specs.Titles.{spaced, title_width, titles_in, total}
 use Rattle.tui_frames.specs.declared.block.title.Place.{Place}
 use Rattle.tui_frames.specs.declared.title_position.TitlePosition.{TitlePosition}
@@ -37,12 +37,19 @@ joins Fuzzy = true
 abbrev pub gap : BlockData → ℕ → ℕ
 gap b side = count (joins b.strategy && has b.borders side)
 
+-- a column and a row of a clip
+abbrev pub column_of : Rect → ℕ → Rect
+column_of c x = record c { x = x; width = 1 }
+
+abbrev pub row_of : Rect → ℕ → Rect
+row_of c y = record c { y = y; height = 1 }
+
 -- the cells of a side in a column, and in a row
 abbrev pub column_side : BlockData → Rect → ℕ → Rect
-column_side b c x = record { x = x; y = past c.y (gap b top); width = 1; height = c.height - (gap b top + gap b bottom) }
+column_side b c x = rows_from (column_of c x) (gap b top) (c.height - (gap b top + gap b bottom))
 
 abbrev pub row_side : BlockData → Rect → ℕ → Rect
-row_side b c y = cells_at (past c.x (gap b left)) y (c.width - (gap b left + gap b right))
+row_side b c y = columns_from (row_of c y) (gap b left) (c.width - (gap b left + gap b right))
 
 -- in each cell of a part of the clip, if the border is set: the symbol is joined with what stands there, and the border style set
 abbrev pub border_layers : BlockData → Rect → Bool → Rect → List ℕ → List Layer
@@ -75,21 +82,17 @@ row_at c Top = c.y
 row_at c Bottom = last_row c
 
 abbrev pub strip_of : BlockData → Rect → TitlePosition → Rect
-strip_of b c position = cells_at (past c.x (left_edge b)) (row_at c position) (c.width - (left_edge b + right_edge b))
+strip_of b c position = columns_from (row_of c (row_at c position)) (left_edge b) (c.width - (left_edge b + right_edge b))
 
--- some columns of a strip, counted from its beginning
-abbrev pub columns_of : Rect → Rect → ℕ → ℕ → Rect
-columns_of c strip column width = intersection_of c (cells_at (past strip.x column) strip.y width)
+-- a title in a part of the clip: the title style, and then the line
+abbrev pub title_layers : BlockData → Rect → Rect → Alignment → LineData → List Layer
+title_layers b c part alignment t = stroke (covers (intersection_of c part)) (dress b.title_style) ++ row_layers (intersection_of c part) alignment t
 
--- a title in its columns: the title style, and then the line
-abbrev pub title_layers : BlockData → Rect → Alignment → LineData → List Layer
-title_layers b part alignment t = stroke (covers part) (dress b.title_style) ++ row_layers part alignment t
-
--- titles one blank apart from a column on, each as wide as it is or as there is room
+-- titles one blank apart from a column of a strip on, each as wide as it is or as there is room
 unfoldable pub titles_from : BlockData → Rect → Rect → ℕ → List LineData → List Layer
 titles_from b c strip column [] = []
 titles_from b c strip column (t ∷ ts) =
-    title_layers b (columns_of c strip column (min (title_width t) (strip.width - column))) (unwrap_or t.alignment Left) t
+    title_layers b c (columns_from strip column (title_width t)) (unwrap_or t.alignment Left) t
     ++ titles_from b c strip (column + title_width t + 1) ts
 
 -- titles one blank apart up to the strip's end, likewise, the last one first
@@ -97,7 +100,7 @@ unfoldable pub titles_to_end : BlockData → Rect → Rect → List LineData →
 titles_to_end b c strip [] = []
 titles_to_end b c strip (t ∷ ts) =
     let end = strip.width - spaced ts in let width = min (title_width t) end in
-    titles_to_end b c strip ts ++ title_layers b (columns_of c strip (end - width) width) (unwrap_or t.alignment Left) t
+    titles_to_end b c strip ts ++ title_layers b c (columns_from strip (end - width) width) (unwrap_or t.alignment Left) t
 
 -- titles that are cut at both ends: one that begins before column `cut` loses as many columns as there are up to it, and shows
 -- its end
@@ -105,7 +108,7 @@ unfoldable pub titles_cut : BlockData → Rect → Rect → ℕ → ℕ → List
 titles_cut b c strip cut column [] = []
 titles_cut b c strip cut column (t ∷ ts) =
     let width = min (title_width t) (strip.width - column) - (cut - column) in
-    title_layers b (columns_of c strip column width) (if nat_lt column cut then Right else Left) t
+    title_layers b c (columns_from strip column width) (if nat_lt column cut then Right else Left) t
     ++ titles_cut b c strip cut (column + width + 1) ts
 
 -- titles in the middle: half of the free columns stand before them; where there are too few, half of what lacks is cut

@@ -116,6 +116,18 @@ impl<'a> Block<'a> {
         Ok(())
     }
 
+    /// An equal block of its own. `NoMemory` where there is none for the titles.
+    pub fn clone(&self) -> Mem<Block<'a>>
+        ensures is { IfOk result (λ block. block_data block ≡ block_data self.now) }
+        ensures equal { IfOk result (λ block. ⟦<Block<'a> as PartialEq>⟧.eq block self.now ≡ true) }
+    {
+        let mut titles = Vec::with_capacity(*self.titles.allocator(), self.titles.len())?;
+        for title in &self.titles {
+            titles.push(title.clone()?)?;
+        }
+        Ok(Block { titles, ..*self })
+    }
+
     /// Sets the style under the titles.
     pub fn title_style(self, style: Style) -> Block<'a>
         ensures { block_data result ≡ record (block_data self.entry) { title_style = style } }

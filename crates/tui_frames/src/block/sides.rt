@@ -8,7 +8,7 @@ ghost use Rattle.tui_text.specs.Painting.{cells_at};
 ghost use Rattle.tui_frames.specs.Block.{block_data};
 ghost use Rattle.tui_frames.specs.Borders.{has};
 ghost use Rattle.tui_frames.specs.Light.{AreLightBorders, IsLightIf};
-ghost use Rattle.tui_frames.specs.Strokes.{border_layers, column_side, corner_layers, corners_layers, gap, joins, last_column, last_row, row_side, sides_layers};
+ghost use Rattle.tui_frames.specs.Strokes.{border_layers, column_of, column_side, corner_layers, corners_layers, gap, joins, last_column, last_row, row_of, row_side, sides_layers};
 
 use crate::block::Block;
 use crate::block::space::count;
@@ -66,13 +66,33 @@ pub(crate) fn last_row(clip: Rect) -> u16
     clip.bottom().saturating_sub(1)
 }
 
-pub(crate) fn cells_at(x: u16, y: u16, width: u16) -> Rect
-    ensures { result ≡ cells_at x y width }
+fn column_of(clip: Rect, x: u16) -> Rect
+    ensures { result ≡ column_of clip x }
+{
+    Rect {
+        x,
+        width: 1,
+        ..clip
+    }
+}
+
+pub(crate) fn row_of(clip: Rect, y: u16) -> Rect
+    ensures { result ≡ row_of clip y }
+{
+    Rect {
+        y,
+        height: 1,
+        ..clip
+    }
+}
+
+fn cell_at(x: u16, y: u16) -> Rect
+    ensures { result ≡ cells_at x y 1 }
 {
     Rect {
         x,
         y,
-        width,
+        width: 1,
         height: 1,
     }
 }
@@ -99,12 +119,7 @@ impl<'a> Block<'a> {
     {
         let first = self.gap(Borders::TOP);
         let last = self.gap(Borders::BOTTOM);
-        Rect {
-            x,
-            y: clip.y.saturating_add(first),
-            width: 1,
-            height: clip.height.saturating_sub(first + last),
-        }
+        column_of(clip, x).rows_from(first, clip.height.saturating_sub(first + last))
     }
 
     fn row_side(&self, clip: Rect, y: u16) -> Rect
@@ -112,8 +127,7 @@ impl<'a> Block<'a> {
     {
         let first = self.gap(Borders::LEFT);
         let last = self.gap(Borders::RIGHT);
-        let width = clip.width.saturating_sub(first + last);
-        cells_at(clip.x.saturating_add(first), y, width)
+        row_of(clip, y).columns_from(first, clip.width.saturating_sub(first + last))
     }
 
     /// The symbol and the border style in a part of the clip, if that border is set.
@@ -183,7 +197,7 @@ impl<'a> Block<'a> {
     {
         let is_set = both(self.has(sides.0), self.has(sides.1));
         let (x, y) = cell;
-        self.paint_border(alloc, buf, clip, is_set, cells_at(x, y, 1), symbol)
+        self.paint_border(alloc, buf, clip, is_set, cell_at(x, y), symbol)
     }
 
     #[tactic(auto, unfolding(crate::specs::Strokes::corners_layers))]

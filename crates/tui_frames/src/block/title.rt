@@ -1,12 +1,13 @@
 //! Titles of a block.
 
-ghost use Rattle.std.specs.Prelude.{◌≡◌};
+ghost use Rattle.std.specs.Prelude.{◌≡◌, IfOk, true};
 ghost use Rattle.tui_frames.specs.Block.{block_data, title_data};
 ghost use Rattle.tui_frames.specs.Titles.{has_title, is_in, is_on, same_alignment, same_position, title_width};
 ghost use Rattle.tui_text.specs.Line.{line_data};
 
 use crate::block::Block;
 use crate::title_position::TitlePosition;
+use tui_cells::Mem;
 use tui_text::{Alignment, Line};
 
 /// A line, and the side on which it stands, if it has one of its own.
@@ -21,6 +22,18 @@ pub(crate) struct Title<'a> {
 pub(crate) struct Place {
     pub(crate) position: TitlePosition,
     pub(crate) alignment: Alignment,
+}
+
+impl<'a> Title<'a> {
+    pub(crate) fn clone(&self) -> Mem<Title<'a>>
+        ensures is { IfOk result (λ title. title_data title ≡ title_data self.now) }
+        ensures equal { IfOk result (λ title. ⟦<Title<'a> as PartialEq>⟧.eq title self.now ≡ true) }
+    {
+        Ok(Title {
+            line: self.line.clone()?,
+            position: self.position,
+        })
+    }
 }
 
 fn same_position(a: TitlePosition, b: TitlePosition) -> bool

@@ -3,10 +3,9 @@
 ghost use Rattle.std.specs.Prelude.{◌≡◌, ◌+◌, ◌-◌, ◌<◌, ◌≤◌, ◌++◌, [], ◌∷◌, List, min, IfOk, IsOk, OnOk, nat_lt, if◌then◌else◌};
 ghost use Rattle.tui_cells.specs.Buffer.{Screen};
 ghost use Rattle.tui_cells.specs.Layers.{KeptOutside, Painted};
-ghost use Rattle.tui_cells.specs.Rect.{covers, intersection_of};
+ghost use Rattle.tui_cells.specs.Rect.{covers};
 ghost use Rattle.tui_frames.specs.Block.{block_data, title_data};
 ghost use Rattle.tui_frames.specs.Light.{AreLightTitles};
-ghost use Rattle.tui_frames.specs.Space.{past};
 ghost use Rattle.tui_frames.specs.Strokes.{
   place_of,
   row_at,
@@ -20,11 +19,10 @@ ghost use Rattle.tui_frames.specs.Strokes.{
 };
 ghost use Rattle.tui_frames.specs.Titles.{spaced, title_width, titles_in, total};
 ghost use Rattle.tui_text.specs.Line.{LineData, line_data};
-ghost use Rattle.tui_text.specs.Painting.{cells_at};
 ghost use Rattle.tui_text.specs.Setting.{AreLight};
 
 use crate::block::Block;
-use crate::block::sides::{cells_at, last_row};
+use crate::block::sides::{last_row, row_of};
 use crate::block::title::{Place, Title, title_width};
 use crate::title_position::TitlePosition;
 use tui_cells::{Buffer, Mem, Rect};
@@ -37,13 +35,6 @@ fn row_at(clip: Rect, position: TitlePosition) -> u16
         TitlePosition::Top => clip.y,
         TitlePosition::Bottom => last_row(clip),
     }
-}
-
-/// Columns of a strip, counted from its beginning.
-fn columns_of(strip: Rect, column: u16, width: u16) -> Rect
-    ensures { result ≡ cells_at (past strip.x column) strip.y width }
-{
-    cells_at(strip.x.saturating_add(column), strip.y, width)
 }
 
 fn place_of(position: TitlePosition, alignment: Alignment) -> Place
@@ -83,8 +74,8 @@ impl<'a> Block<'a> {
     {
         let left = self.left_edge();
         let right = self.right_edge();
-        let width = clip.width.saturating_sub(left + right);
-        cells_at(clip.x.saturating_add(left), row_at(clip, position), width)
+        let row = row_of(clip, row_at(clip, position));
+        row.columns_from(left, clip.width.saturating_sub(left + right))
     }
 
     /// The title style, and the line, in a part of a row.
@@ -97,7 +88,7 @@ impl<'a> Block<'a> {
         line: &Line<'_>,
     ) -> Mem<()>
         ensures ok { OnOk result
-            (Painted (title_layers (block_data self.now) (intersection_of clip part) alignment (line_data line.now)) buf.old buf.new) }
+            (Painted (title_layers (block_data self.now) clip part alignment (line_data line.now)) buf.old buf.new) }
         ensures kept { KeptOutside (covers clip) buf.old buf.new }
         ensures light { AreLight (line_data line.now).spans → IsOk result }
     {
@@ -128,8 +119,7 @@ impl<'a> Block<'a> {
             return Ok(u32::from(column));
         }
         let width = title_width(&title.line);
-        let room = strip.width - column;
-        let part = columns_of(strip, column, width.min(room));
+        let part = strip.columns_from(column, width);
         let alignment = title.line.line_alignment().unwrap_or(Alignment::Left);
         self.paint_title(buf, clip, part, alignment, &title.line)?;
         Ok(u32::from(column) + u32::from(width) + 1)
@@ -182,7 +172,7 @@ impl<'a> Block<'a> {
             return Ok(u32::from(column));
         }
         let width = cut_width(strip, cut, column, title_width(&title.line));
-        let part = columns_of(strip, column, width);
+        let part = strip.columns_from(column, width);
         self.paint_title(buf, clip, part, cut_alignment(cut, column), &title.line)?;
         Ok(u32::from(column) + u32::from(width) + 1)
     }
@@ -277,7 +267,7 @@ impl<'a> Block<'a> {
         let width = title_width(&title.line);
         let end = strip.width - after;
         let shown = width.min(end);
-        let part = columns_of(strip, end - shown, shown);
+        let part = strip.columns_from(end - shown, shown);
         let alignment = title.line.line_alignment().unwrap_or(Alignment::Left);
         self.paint_title(buf, clip, part, alignment, &title.line)?;
         Ok(u32::from(after) + u32::from(width) + 1)
