@@ -1,8 +1,8 @@
 -- Lines below one another, cell by cell.
-use Rattle.std.proofs.Common.{drop, ◌≡◌, ℕ, suc, ◌+◌, ◌-◌, ◌≤◌, ◌<◌, List, [], ◌∷◌, ◌++◌, Bool, true, false, ◌&&◌, ◌==◌, if◌then◌else◌, Option, Some, None, option_map, slice_get, refl, ◌∙◌, ap, sym, arith, ⊎_elim}
+use Rattle.std.proofs.Common.{drop, ◌≡◌, ℕ, suc, ◌+◌, ◌-◌, ◌≤◌, ◌<◌, List, [], ◌∷◌, ◌++◌, Bool, true, false, ◌&&◌, ◌==◌, if◌then◌else◌, Option, Some, None, option_map, slice_get, refl, subst, ◌∙◌, ap, sym, arith, ⊎_elim}
 use Rattle.std.proofs.lemmas.Bool.{cases_lt}
 use Rattle.std.proofs.lemmas.Bool.Decides.{nat_tests}
-use Rattle.std.specs.Prelude.{sum_by}
+use Rattle.std.specs.Prelude.{sum_by, OnOk, Result, Ok, Err}
 use Rattle.tui_cells.specs.declared.rect.Rect.{Rect}
 use Rattle.tui_cells.specs.Rect.{covers}
 use Rattle.tui_cells.specs.Cell.{Look, dress, dressed}
@@ -87,3 +87,9 @@ pub paragraph_shows : (p : ParagraphData) (clip : Rect) (before after : Screen) 
 unfolding paragraph_layers
 paragraph_shows p clip before after h =
     (paragraph_lines p clip.width, lines_are p clip.width, shows-from_painted clip p.style (drop p.scroll_y (paragraph_lines p clip.width)) before after h)
+
+-- the same of a drawing that ended Ok
+pub drawn_shows : {T E : Type 0} (result : Result T E) (p : ParagraphData) (clip rect : Rect) (before after : Screen) → clip ≡ rect
+    → OnOk result (Painted (paragraph_layers p clip) before after) → OnOk result (ParagraphShows p rect before after)
+drawn_shows (Ok x) p clip rect before after same h = subst (λ (r : Rect). ParagraphShows p r before after) same (paragraph_shows p clip before after h)
+drawn_shows (Err e) p clip rect before after same h = tt

@@ -56,6 +56,7 @@ impl<'a> Paragraph<'a> {
 impl<'a> Widget for Paragraph<'a> {
     ghost drawing = { λ paragraph. paragraph_drawing (paragraph_data paragraph) };
 
+    #[tactic(auto, using(crate::proofs::ShowingLines::drawn_shows))]
     fn render(&self, alloc: Global, area: Rect, buf: &mut Buffer) -> Mem<()> {
         let clip = area.intersection(buf.area());
         self.paint_in(alloc, buf, clip)
