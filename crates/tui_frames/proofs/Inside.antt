@@ -6,7 +6,7 @@ use Rattle.std.proofs.lemmas.Bool.Decides.{nat_tests}
 use Rattle.tui_cells.specs.declared.rect.Rect.{Rect}
 use Rattle.tui_cells.specs.Cell.{Look, dress, dressed, merge}
 use Rattle.tui_cells.specs.Layers.{StayIn, layers_at, stroke}
-use Rattle.tui_cells.specs.Rect.{covers, intersection_of}
+use Rattle.tui_cells.specs.Rect.{columns_from, covers, intersection_of}
 use Rattle.tui_cells.specs.Stays.{StayIn-append, StayIn-none, StayIn-over, StayIn-stroke}
 use Rattle.tui_cells.proofs.Painting.{layers_at-append}
 use Rattle.tui_cells.proofs.Regions.{StayIn-wider}
@@ -27,9 +27,9 @@ use Rattle.tui_frames.specs.declared.title_position.TitlePosition.{TitlePosition
 use Rattle.tui_frames.specs.declared.title_position.TitlePosition.TheVariants.{Top, Bottom}
 
 -- a clip whose far edges are at most 65535
-record Fits (c : Rect) : Type 0 where
-  wide : c.x + c.width ≤ 65535
-  high : c.y + c.height ≤ 65535
+pub record Fits (c : Rect) : Type 0 where
+  pub wide : c.x + c.width ≤ 65535
+  pub high : c.y + c.height ≤ 65535
 
 -- all positions but those inside
 abbrev around : BlockData → Rect → ℕ → ℕ → Bool
@@ -89,45 +89,48 @@ corners_around b c fits = StayIn-append (StayIn-append (StayIn-append
     (corner_around b c top left _ _ _ (λ set x y inside. top_out b c _ _ x y fits (by_border b top (has_title b Top) set) inside))
 
 -- titles stay in their row
-row_out : (c : Rect) (first r width x y : ℕ) → (y == r) ≡ false → covers (intersection_of c (cells_at first r width)) x y ≡ false
-row_out c first r width x y e = grind (arith, nat_tests)
+row_out : (c strip : Rect) (first width x y : ℕ) → strip.height ≤ 1 → (y == strip.y) ≡ false → covers (intersection_of c (columns_from strip first width)) x y ≡ false
+row_out c strip first width x y one e = grind (arith, nat_tests)
 
-title_in_row : (b : BlockData) (c : Rect) (first r width : ℕ) (a : Alignment) (t : LineData) →
-    StayIn (λ x y. y == r) (title_layers b (intersection_of c (cells_at first r width)) a t)
-title_in_row b c first r width a t =
-    StayIn-append (StayIn-stroke (covers (intersection_of c (cells_at first r width))) (dress b.title_style) (row_out c first r width))
-    (StayIn-wider (row_out c first r width) (row_stays (intersection_of c (cells_at first r width)) a t))
+title_in_row : (b : BlockData) (c strip : Rect) (first width : ℕ) (a : Alignment) (t : LineData) → strip.height ≤ 1 →
+    StayIn (λ x y. y == strip.y) (title_layers b c (columns_from strip first width) a t)
+title_in_row b c strip first width a t one =
+    StayIn-append (StayIn-stroke (covers (intersection_of c (columns_from strip first width))) (dress b.title_style) (λ x y e. row_out c strip first width x y one e))
+    (StayIn-wider (λ x y e. row_out c strip first width x y one e) (row_stays (intersection_of c (columns_from strip first width)) a t))
 
-from_in_row : (b : BlockData) (c strip : Rect) (column : ℕ) (ts : List LineData) → StayIn (λ x y. y == strip.y) (titles_from b c strip column ts)
+from_in_row : (b : BlockData) (c strip : Rect) (column : ℕ) (ts : List LineData) → strip.height ≤ 1 → StayIn (λ x y. y == strip.y) (titles_from b c strip column ts)
 unfolding titles_from
-from_in_row b c strip column [] = StayIn-none
-from_in_row b c strip column (t ∷ ts) = StayIn-append (title_in_row b c _ strip.y _ _ t) (from_in_row b c strip (column + title_width t + 1) ts)
+from_in_row b c strip column [] one = StayIn-none
+from_in_row b c strip column (t ∷ ts) one = StayIn-append (title_in_row b c strip _ _ _ t one) (from_in_row b c strip (column + title_width t + 1) ts one)
 
-to_end_in_row : (b : BlockData) (c strip : Rect) (ts : List LineData) → StayIn (λ x y. y == strip.y) (titles_to_end b c strip ts)
+to_end_in_row : (b : BlockData) (c strip : Rect) (ts : List LineData) → strip.height ≤ 1 → StayIn (λ x y. y == strip.y) (titles_to_end b c strip ts)
 unfolding titles_to_end
-to_end_in_row b c strip [] = StayIn-none
-to_end_in_row b c strip (t ∷ ts) = StayIn-append (to_end_in_row b c strip ts) (title_in_row b c _ strip.y _ _ t)
+to_end_in_row b c strip [] one = StayIn-none
+to_end_in_row b c strip (t ∷ ts) one = StayIn-append (to_end_in_row b c strip ts one) (title_in_row b c strip _ _ _ t one)
 
-cut_in_row : (b : BlockData) (c strip : Rect) (cut column : ℕ) (ts : List LineData) → StayIn (λ x y. y == strip.y) (titles_cut b c strip cut column ts)
+cut_in_row : (b : BlockData) (c strip : Rect) (cut column : ℕ) (ts : List LineData) → strip.height ≤ 1 → StayIn (λ x y. y == strip.y) (titles_cut b c strip cut column ts)
 unfolding titles_cut
-cut_in_row b c strip cut column [] = StayIn-none
-cut_in_row b c strip cut column (t ∷ ts) =
-    StayIn-append (title_in_row b c _ strip.y _ _ t) (cut_in_row b c strip cut (column + (min (title_width t) (strip.width - column) - (cut - column)) + 1) ts)
+cut_in_row b c strip cut column [] one = StayIn-none
+cut_in_row b c strip cut column (t ∷ ts) one = StayIn-append (title_in_row b c strip _ _ _ t one) (cut_in_row b c strip cut (column + (min (title_width t) (strip.width - column) - (cut - column)) + 1) ts one)
 
-middle_by : (b : BlockData) (c strip : Rect) (ts : List LineData) (fits : Bool) →
+middle_by : (b : BlockData) (c strip : Rect) (ts : List LineData) (fits : Bool) → strip.height ≤ 1 →
     StayIn (λ x y. y == strip.y)
     (if fits then titles_from b c strip ((strip.width - total ts) / 2) ts else titles_cut b c strip ((total ts - strip.width) / 2) 0 ts)
-middle_by b c strip ts true = from_in_row b c strip _ ts
-middle_by b c strip ts false = cut_in_row b c strip _ 0 ts
+middle_by b c strip ts true one = from_in_row b c strip _ ts one
+middle_by b c strip ts false one = cut_in_row b c strip _ 0 ts one
 
-middle_in_row : (b : BlockData) (c strip : Rect) (ts : List LineData) → StayIn (λ x y. y == strip.y) (titles_in_middle b c strip ts)
+middle_in_row : (b : BlockData) (c strip : Rect) (ts : List LineData) → strip.height ≤ 1 → StayIn (λ x y. y == strip.y) (titles_in_middle b c strip ts)
 unfolding titles_in_middle
-middle_in_row b c strip ts = middle_by b c strip ts (nat_le (total ts) strip.width)
+middle_in_row b c strip ts one = middle_by b c strip ts (nat_le (total ts) strip.width) one
+
+strip_low : (b : BlockData) (c : Rect) (p : TitlePosition) → (strip_of b c p).height ≤ 1
+strip_low b c p = omega arith
 
 titles_in_row : (b : BlockData) (c : Rect) (p : TitlePosition) → StayIn (λ x y. y == row_at c p) (row_titles b c p)
 unfolding row_titles
 titles_in_row b c p =
-    StayIn-append (StayIn-append (from_in_row b c (strip_of b c p) 0 _) (middle_in_row b c (strip_of b c p) _)) (to_end_in_row b c (strip_of b c p) _)
+    let one = strip_low b c p in
+    StayIn-append (StayIn-append (from_in_row b c (strip_of b c p) 0 _ one) (middle_in_row b c (strip_of b c p) _ one)) (to_end_in_row b c (strip_of b c p) _ one)
 
 neither : (s t : Bool) → (s || t) ≡ false → (s ≡ false) × (t ≡ false)
 neither true t e = cc
@@ -178,7 +181,7 @@ in_clip_by : (b : BlockData) (c : Rect) (x y : ℕ) (t : Bool) → covers c x y 
 in_clip_by b c x y true e inside = refl
 in_clip_by b c x y false e inside = sym (inner_out (Some b) c x y e) ∙ inside
 
-in_clip : (b : BlockData) (c : Rect) (x y : ℕ) → covers (inner b c) x y ≡ true → covers c x y ≡ true
+pub in_clip : (b : BlockData) (c : Rect) (x y : ℕ) → covers (inner b c) x y ≡ true → covers c x y ≡ true
 in_clip b c x y inside = in_clip_by b c x y (covers c x y) refl inside
 
 shade_inside : (b : BlockData) (s : Option ShadowData) (c : Rect) (x y : ℕ) (k : Look) → covers c x y ≡ true → layers_at (shadow_layers_if s c) x y k ≡ k

@@ -1,7 +1,8 @@
 -- Widgets that may have a block.
-use Rattle.std.specs.Prelude.{⊤, List, [], Option, None, Some}
+use Rattle.std.specs.Prelude.{⊤, ℕ, ◌+◌, List, [], Option, None, Some}
 use Rattle.tui_cells.specs.declared.rect.Rect.{Rect}
 use Rattle.tui_cells.specs.Layers.{Layer}
+use Rattle.tui_text.specs.Width.{saturated}
 use Rattle.tui_frames.specs.Block.{BlockData}
 use Rattle.tui_frames.specs.Light.{IsLightBlock}
 use Rattle.tui_frames.specs.Space.{inner}
@@ -21,3 +22,8 @@ block_layers_if (Some b) clip = block_layers b clip
 abbrev pub IsLightIfBlock : Option BlockData → Type 0
 IsLightIfBlock None = ⊤
 IsLightIfBlock (Some b) = IsLightBlock b
+
+-- a number and what a block adds to it, cut at the greatest of 64 bits; without a block it stays
+abbrev pub beside : ℕ → Option ℕ → ℕ
+beside n None = n
+beside n (Some space) = saturated (n + space)

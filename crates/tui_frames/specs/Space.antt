@@ -38,6 +38,13 @@ inner b area = record {
   height = area.height - (top_edge b + bottom_edge b) - (b.padding.top + b.padding.bottom);
 }
 
+-- the rows and the columns that a block takes around what is inside, each part cut at 65535
+abbrev pub rows_around : BlockData → ℕ
+rows_around b = min (b.padding.top + top_edge b) 65535 + min (b.padding.bottom + bottom_edge b) 65535
+
+abbrev pub columns_around : BlockData → ℕ
+columns_around b = min (b.padding.left + left_edge b) 65535 + min (b.padding.right + right_edge b) 65535
+
 -- an area within another one, edges being cut at 65535
 pub record LiesIn (inside area : Rect) : Type 0 where
   pub from_left : area.x ≤ inside.x

@@ -1,11 +1,12 @@
 //! Blocks that a widget may have.
 
-ghost use Rattle.std.specs.Prelude.{◌≡◌, IsOk, OnOk, option_map};
+ghost use Rattle.std.specs.Prelude.{◌≡◌, IfOk, IsOk, OnOk, option_map, true};
 ghost use Rattle.tui_cells.specs.Layers.{KeptOutside, Painted};
 ghost use Rattle.tui_cells.specs.declared.rect.Rect.{Rect};
 ghost use Rattle.tui_frames.specs.Block.{block_data};
 ghost use Rattle.tui_frames.specs.Footprint.{footprint_if};
-ghost use Rattle.tui_frames.specs.InBlock.{IsLightIfBlock, block_layers_if, inner_of};
+ghost use Rattle.tui_frames.specs.InBlock.{IsLightIfBlock, beside, block_layers_if, inner_of};
+ghost use Rattle.tui_frames.specs.Space.{columns_around, rows_around};
 
 use crate::block::Block;
 use std::alloc::Global;
@@ -46,5 +47,52 @@ pub fn paint_if_some(
     match block {
         None => Ok(()),
         Some(block) => block.paint_in(alloc, buf, clip),
+    }
+}
+
+/// The block that a widget may have, once more. `NoMemory` where there is none for its titles.
+pub fn clone_if_some<'a>(block: &Option<Block<'a>>) -> Mem<Option<Block<'a>>>
+    ensures is { IfOk result (λ copy. option_map block_data copy ≡ option_map block_data block.now) }
+    ensures equal { IfOk result (λ copy. ⟦<Option<Block<'a>> as PartialEq>⟧.eq copy block.now ≡ true) }
+{
+    match block {
+        None => Ok(None),
+        Some(block) => Ok(Some(block.clone()?)),
+    }
+}
+
+/// A number and what a block adds to it, cut at the greatest of 64 bits. Without a block it stays.
+pub fn beside(number: usize, space: Option<usize>) -> usize
+    ensures { result ≡ beside number space }
+{
+    match space {
+        None => number,
+        Some(space) => number.saturating_add(space),
+    }
+}
+
+/// The rows that a block takes above and below what is inside.
+pub fn rows_if_some(block: &Option<Block<'_>>) -> Option<usize>
+    ensures { result ≡ option_map rows_around (option_map block_data block.now) }
+{
+    match block {
+        None => None,
+        Some(block) => {
+            let (above, below) = block.vertical_space();
+            Some(usize::from(above) + usize::from(below))
+        }
+    }
+}
+
+/// The columns that a block takes at the left and at the right of what is inside.
+pub fn columns_if_some(block: &Option<Block<'_>>) -> Option<usize>
+    ensures { result ≡ option_map columns_around (option_map block_data block.now) }
+{
+    match block {
+        None => None,
+        Some(block) => {
+            let (before, behind) = block.horizontal_space();
+            Some(usize::from(before) + usize::from(behind))
+        }
     }
 }

@@ -14,7 +14,9 @@ pub mod shadow;
 pub mod title_position;
 
 pub use block::Block;
-pub use block_ext::{BlockExt, paint_if_some};
+pub use block_ext::{
+    BlockExt, beside, clone_if_some, columns_if_some, paint_if_some, rows_if_some,
+};
 pub use border_type::BorderType;
 pub use borders::Borders;
 pub use clear::Clear;

@@ -4,7 +4,7 @@ use Rattle.std.proofs.lemmas.Bool.{cases_lt}
 use Rattle.std.proofs.lemmas.Bool.Decides.{nat_tests}
 use Rattle.std.specs.Prelude.{sum_by, OnOk, Result, Ok, Err}
 use Rattle.tui_cells.specs.declared.rect.Rect.{Rect}
-use Rattle.tui_cells.specs.Rect.{covers}
+use Rattle.tui_cells.specs.Rect.{covers, intersection_of}
 use Rattle.tui_cells.specs.Cell.{Look, dress, dressed}
 use Rattle.tui_cells.specs.Buffer.{Screen, cell_at}
 use Rattle.tui_cells.specs.Layers.{Painted, layers_at, stroke}
@@ -14,7 +14,11 @@ use Rattle.tui_text.specs.Grapheme.{glyph_width}
 use Rattle.tui_para.specs.Lines.{GlyphLine}
 use Rattle.tui_para.specs.Strokes.{start_of, glyph_line_layers, glyph_lines_layers}
 use Rattle.tui_para.specs.Paragraph.{ParagraphData}
-use Rattle.tui_para.specs.Rendering.{ParagraphShows, paragraph_lines, paragraph_layers}
+use Rattle.tui_frames.specs.Block.{BlockData}
+use Rattle.tui_frames.specs.InBlock.{inner_of}
+use Rattle.tui_frames.specs.Strokes.{block_layers}
+use Rattle.tui_frames.proofs.Inside.{Fits, in_clip, inside}
+use Rattle.tui_para.specs.Rendering.{ParagraphShows, base_of, content_layers, paragraph_lines, paragraph_layers, under_layers}
 use Rattle.tui_para.proofs.TextCut.{lines_are}
 use Rattle.tui_para.specs.Shows.{with_line, Shows}
 use Rattle.tui_para.proofs.ShowingRuns.{run_at, same_both}
@@ -69,27 +73,60 @@ map_same f g None e = refl
 map_same f g (Some c) e = ap Some (e c)
 
 -- inside the area
-base_shown : (rect : Rect) (s : Style) (ss : List GlyphLine) (x y : ℕ) (c : Look) → covers rect x y ≡ true →
-    layers_at (stroke (covers rect) (dress s) ++ glyph_lines_layers rect rect.y ss) x y c ≡ with_line rect (slice_get ss (y - rect.y)) x (dressed s c)
-base_shown rect s ss x y c inside =
-    ap (λ (b : Bool). layers_at (glyph_lines_layers rect rect.y ss) x y (if b then dressed s c else c)) inside
-    ∙ (cell_shown rect ss x y (dressed s c) ∙ ap (λ (b : Bool). if b then with_line rect (slice_get ss (y - rect.y)) x (dressed s c) else dressed s c) inside)
+content_shown : (p : ParagraphData) (rect : Rect) (x y : ℕ) (c : Look) → covers rect x y ≡ true →
+    layers_at (content_layers p rect) x y c ≡ with_line rect (slice_get (drop p.scroll_y (paragraph_lines p rect.width)) (y - rect.y)) x (dressed p.style c)
+unfolding content_layers
+content_shown p rect x y c inside =
+    let ss = drop p.scroll_y (paragraph_lines p rect.width) in
+    ap (λ (b : Bool). layers_at (glyph_lines_layers rect rect.y ss) x y (if b then dressed p.style c else c)) inside
+    ∙ (cell_shown rect ss x y (dressed p.style c) ∙ ap (λ (b : Bool). if b then with_line rect (slice_get ss (y - rect.y)) x (dressed p.style c) else dressed p.style c) inside)
 
--- what the strokes of a style and of lines leave shows these lines
-pub shows-from_painted : (rect : Rect) (s : Style) (ss : List GlyphLine) (before after : Screen) → Painted (stroke (covers rect) (dress s) ++ glyph_lines_layers rect rect.y ss) before after → Shows rect (dressed s) ss before after
-shows-from_painted rect s ss before after p = record {
-  area = p.area;
-  cells = λ x y inside. p.cells x y ∙ map_same (layers_at (stroke (covers rect) (dress s) ++ glyph_lines_layers rect rect.y ss) x y) (λ c. with_line rect (slice_get ss (y - rect.y)) x (dressed s c)) (cell_at before x y) (λ c. base_shown rect s ss x y c inside);
-}
+-- what stands under the text inside the block
+under_at : (o : Option BlockData) (style : Style) (clip : Rect) (x y : ℕ) (c : Look) → (covers clip x y ≡ true → Fits clip) → covers (inner_of o clip) x y ≡ true →
+    dressed style (layers_at (under_layers o style clip) x y c) ≡ base_of o style c
+under_at None style clip x y c fits within = refl
+under_at (Some b) style clip x y c fits within =
+    let on : covers clip x y ≡ true = in_clip b clip x y within in
+    let first : layers_at (stroke (covers clip) (dress style)) x y c ≡ dressed style c = rw on refl in
+    ap (dressed style) (layers_at-append (stroke (covers clip) (dress style)) (block_layers b clip) x y c
+    ∙ (inside b clip x y (layers_at (stroke (covers clip) (dress style)) x y c) (fits on).wide (fits on).high within ∙ ap (dressed b.style) first))
+
+cell_of : (p : ParagraphData) (clip : Rect) (x y : ℕ) (c : Look) → (covers clip x y ≡ true → Fits clip) → covers (inner_of p.block clip) x y ≡ true →
+    layers_at (paragraph_layers p clip) x y c
+    ≡ with_line (inner_of p.block clip) (slice_get (drop p.scroll_y (paragraph_lines p (inner_of p.block clip).width)) (y - (inner_of p.block clip).y)) x (base_of p.block p.style c)
+cell_of p clip x y c fits within =
+    let rect = inner_of p.block clip in
+    layers_at-append (under_layers p.block p.style clip) (content_layers p rect) x y c
+    ∙ (content_shown p rect x y (layers_at (under_layers p.block p.style clip) x y c) within
+    ∙ ap (with_line rect (slice_get (drop p.scroll_y (paragraph_lines p rect.width)) (y - rect.y)) x) (under_at p.block p.style clip x y c fits within))
 
 -- a paragraph shows its lines
-pub paragraph_shows : (p : ParagraphData) (clip : Rect) (before after : Screen) → Painted (paragraph_layers p clip) before after → ParagraphShows p clip before after
-unfolding paragraph_layers
-paragraph_shows p clip before after h =
-    (paragraph_lines p clip.width, lines_are p clip.width, shows-from_painted clip p.style (drop p.scroll_y (paragraph_lines p clip.width)) before after h)
+pub paragraph_shows : (p : ParagraphData) (clip : Rect) (before after : Screen) → ((x y : ℕ) → covers clip x y ≡ true → Fits clip) →
+    Painted (paragraph_layers p clip) before after → ParagraphShows p clip before after
+paragraph_shows p clip before after fits h = record {
+  shown = λ some. (
+    paragraph_lines p (inner_of p.block clip).width,
+    lines_are p (inner_of p.block clip).width,
+    record {
+      area = h.area;
+      cells = λ x y within. h.cells x y ∙ map_same (layers_at (paragraph_layers p clip) x y)
+          (λ c. with_line (inner_of p.block clip) (slice_get (drop p.scroll_y (paragraph_lines p (inner_of p.block clip).width)) (y - (inner_of p.block clip).y)) x (base_of p.block p.style c))
+          (cell_at before x y) (λ c. cell_of p clip x y c (fits x y) within);
+    },
+  );
+}
+
+-- an intersection that has a position has far edges of at most 65535
+wide_of : (a b : Rect) (x y : ℕ) → covers (intersection_of a b) x y ≡ true → (intersection_of a b).x + (intersection_of a b).width ≤ 65535
+wide_of a b x y on = grind (arith, nat_tests)
+
+high_of : (a b : Rect) (x y : ℕ) → covers (intersection_of a b) x y ≡ true → (intersection_of a b).y + (intersection_of a b).height ≤ 65535
+high_of a b x y on = grind (arith, nat_tests)
 
 -- the same of a drawing that ended Ok
-pub drawn_shows : {T E : Type 0} (result : Result T E) (p : ParagraphData) (clip rect : Rect) (before after : Screen) → clip ≡ rect
-    → OnOk result (Painted (paragraph_layers p clip) before after) → OnOk result (ParagraphShows p rect before after)
-drawn_shows (Ok x) p clip rect before after same h = subst (λ (r : Rect). ParagraphShows p r before after) same (paragraph_shows p clip before after h)
-drawn_shows (Err e) p clip rect before after same h = tt
+pub drawn_shows : {T E : Type 0} (result : Result T E) (p : ParagraphData) (clip a b : Rect) (before after : Screen) → clip ≡ intersection_of a b
+    → OnOk result (Painted (paragraph_layers p clip) before after) → OnOk result (ParagraphShows p (intersection_of a b) before after)
+drawn_shows (Ok x) p clip a b before after same h =
+    paragraph_shows p (intersection_of a b) before after (λ x y on. record { wide = wide_of a b x y on; high = high_of a b x y on })
+    (subst (λ (r : Rect). Painted (paragraph_layers p r) before after) same h)
+drawn_shows (Err e) p clip a b before after same h = tt

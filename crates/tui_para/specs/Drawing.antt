@@ -1,18 +1,18 @@
 -- What a Paragraph is to those who place it.
 use Rattle.tui_cells.specs.Drawing.{Drawing}
-use Rattle.tui_cells.specs.Rect.{covers}
-use Rattle.tui_cells.proofs.Painting.{covers_nowhere}
+use Rattle.tui_frames.specs.Footprint.{footprint_if}
+use Rattle.tui_frames.proofs.InBlock.{nowhere_if}
 use Rattle.tui_para.specs.Paragraph.{ParagraphData}
 use Rattle.tui_para.specs.Rendering.{ParagraphShows, paragraph_layers}
-use Rattle.tui_para.specs.Stays.{paragraph_stay}
+use Rattle.tui_para.specs.Stays.{paragraph_stays}
 
 -- it shows the lines of its text, and takes memory for them
 abbrev pub paragraph_drawing : ParagraphData → Drawing
 paragraph_drawing p = record {
   layers = paragraph_layers p;
-  footprint = covers;
+  footprint = footprint_if p.block;
   shows = ParagraphShows p;
   light = ⊥;
-  stays = paragraph_stay p;
-  nowhere = covers_nowhere;
+  stays = paragraph_stays p;
+  nowhere = nowhere_if p.block;
 }

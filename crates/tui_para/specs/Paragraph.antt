@@ -1,7 +1,9 @@
 -- A paragraph as plain data.
-use Rattle.std.specs.Prelude.{ℕ, Option, None, unwrap_or}
+use Rattle.std.specs.Prelude.{ℕ, Option, None, option_map, unwrap_or}
 use Rattle.tui_cells.specs.Style.{no_style}
 use Rattle.tui_cells.specs.declared.style.Style.{Style}
+use Rattle.tui_frames.specs.Block.{BlockData, block_data}
+use Rattle.tui_frames.specs.Space.{columns_around, rows_around}
 use Rattle.tui_para.specs.declared.paragraph.Paragraph.{Paragraph}
 use Rattle.tui_para.specs.declared.wrap.Wrap.{Wrap}
 use Rattle.tui_text.specs.Text.{TextData, text_data}
@@ -9,6 +11,7 @@ use Rattle.tui_text.specs.declared.alignment.Alignment.{Alignment}
 use Rattle.tui_text.specs.declared.alignment.Alignment.TheVariants.{Left}
 
 pub record ParagraphData : Type 0 where
+  pub block : Option BlockData
   pub text : TextData
   pub style : Style
   pub wrap : Option Wrap
@@ -18,6 +21,7 @@ pub record ParagraphData : Type 0 where
 
 abbrev pub paragraph_data : Paragraph → ParagraphData
 paragraph_data p = record {
+  block = option_map block_data p.block;
   text = text_data p.text;
   style = p.style;
   wrap = p.wrap;
@@ -26,9 +30,17 @@ paragraph_data p = record {
   alignment = p.alignment;
 }
 
--- a text with no style beside its own, neither wrapped nor scrolled, in its own alignment or else to the left
+-- the rows and the columns that the block takes, if there is one
+abbrev pub block_rows : ParagraphData → Option ℕ
+block_rows p = option_map rows_around p.block
+
+abbrev pub block_columns : ParagraphData → Option ℕ
+block_columns p = option_map columns_around p.block
+
+-- a text with no block, no style beside its own, neither wrapped nor scrolled, in its own alignment or else to the left
 abbrev pub paragraph_of : TextData → ParagraphData
 paragraph_of text = record {
+  block = None;
   text = text;
   style = no_style;
   wrap = None;

@@ -1,11 +1,15 @@
 -- What a paragraph shows.
-use Rattle.std.specs.Prelude.{ℕ, List, ◌++◌, drop, MatchOption}
+use Rattle.std.specs.Prelude.{◌≡◌, ℕ, false, List, [], ◌++◌, drop, MatchOption, Option, None, Some}
 use Rattle.std.specs.Option.{option_map_or}
 use Rattle.tui_cells.specs.declared.rect.Rect.{Rect}
-use Rattle.tui_cells.specs.Rect.{covers}
-use Rattle.tui_cells.specs.Cell.{dress, dressed}
+use Rattle.tui_cells.specs.declared.style.Style.{Style}
+use Rattle.tui_cells.specs.Rect.{covers, is_empty}
+use Rattle.tui_cells.specs.Cell.{Look, dress, dressed}
 use Rattle.tui_cells.specs.Buffer.{Screen}
 use Rattle.tui_cells.specs.Layers.{Layer, stroke}
+use Rattle.tui_frames.specs.Block.{BlockData}
+use Rattle.tui_frames.specs.InBlock.{inner_of}
+use Rattle.tui_frames.specs.Strokes.{block_layers}
 use Rattle.tui_para.specs.Lines.{GlyphLine}
 use Rattle.tui_para.specs.Paragraph.{ParagraphData}
 use Rattle.tui_para.specs.Shows.{Shows}
@@ -16,14 +20,29 @@ use Rattle.tui_para.specs.WrappedText.{WrappedText, TruncatedText, wrap_text, tr
 abbrev pub ParagraphLines : ParagraphData → ℕ → List GlyphLine → Type 0
 ParagraphLines p w lines = MatchOption p.wrap (TruncatedText w p.scroll_x p.alignment p.text lines) (λ wrap. WrappedText w wrap.trim p.alignment p.text lines)
 
--- the area shows these lines from the scroll line on, over cells with the paragraph's style
-abbrev pub ParagraphShows : ParagraphData → Rect → Screen → Screen → Type 0
-ParagraphShows p rect before after = (lines : List GlyphLine) × ParagraphLines p rect.width lines × Shows rect (dressed p.style) (drop p.scroll_y lines) before after
+-- a cell under the styles of a paragraph and of its block
+abbrev pub base_of : Option BlockData → Style → Look → Look
+base_of None style c = dressed style c
+base_of (Some b) style c = dressed style (dressed b.style (dressed style c))
+
+-- the area inside the block, if it is not empty, shows these lines from the scroll line on, over cells with these styles
+pub record ParagraphShows (p : ParagraphData) (clip : Rect) (before after : Screen) : Type 0 where
+  pub shown : is_empty (inner_of p.block clip) ≡ false → (lines : List GlyphLine) × ParagraphLines p (inner_of p.block clip).width lines
+      × Shows (inner_of p.block clip) (base_of p.block p.style) (drop p.scroll_y lines) before after
 
 -- the lines as a function
 abbrev pub paragraph_lines : ParagraphData → ℕ → List GlyphLine
 paragraph_lines p w = option_map_or (λ wrap. wrap_text w wrap.trim p.alignment p.text) p.wrap (truncate_text w p.scroll_x p.alignment p.text)
 
--- the strokes of a paragraph: its style on the clip, then the lines from the scroll line on, one a row
-unfoldable pub paragraph_layers : ParagraphData → Rect → List Layer
-paragraph_layers p clip = stroke (covers clip) (dress p.style) ++ glyph_lines_layers clip clip.y (drop p.scroll_y (paragraph_lines p clip.width))
+-- what stands under the text of a paragraph with a block: the paragraph's style on the clip, and the block
+abbrev pub under_layers : Option BlockData → Style → Rect → List Layer
+under_layers None style clip = []
+under_layers (Some b) style clip = stroke (covers clip) (dress style) ++ block_layers b clip
+
+-- the style on an area, then the lines from the scroll line on, one a row
+unfoldable pub content_layers : ParagraphData → Rect → List Layer
+content_layers p rect = stroke (covers rect) (dress p.style) ++ glyph_lines_layers rect rect.y (drop p.scroll_y (paragraph_lines p rect.width))
+
+-- the strokes of a paragraph
+abbrev pub paragraph_layers : ParagraphData → Rect → List Layer
+paragraph_layers p clip = under_layers p.block p.style clip ++ content_layers p (inner_of p.block clip)

@@ -1,16 +1,22 @@
 -- The strokes of a paragraph stay in its clip.
-use Rattle.std.specs.Prelude.{◌≡◌, ℕ, ◌+◌, Bool, true, false, List, [], ◌∷◌, ◌++◌, ◌&&◌, ◌==◌, nat_lt, if◌then◌else◌, drop, sum_by}
+use Rattle.std.specs.Prelude.{Option, None, Some, ◌≡◌, ℕ, ◌+◌, Bool, true, false, List, [], ◌∷◌, ◌++◌, ◌&&◌, ◌==◌, nat_lt, if◌then◌else◌, drop, sum_by}
 use Rattle.std.proofs.Common.{◌∙◌, ap, refl, sym}
 use Rattle.std.proofs.lemmas.Bool.{eqb-true, and_parts, false_from_ne_true, false≢true}
 use Rattle.tui_cells.specs.declared.rect.Rect.{Rect}
+use Rattle.tui_cells.specs.declared.style.Style.{Style}
 use Rattle.tui_cells.specs.Rect.{covers}
 use Rattle.tui_cells.specs.Cell.{put, dress}
 use Rattle.tui_cells.specs.Layers.{StayIn, at_place, stroke}
 use Rattle.tui_cells.specs.Stays.{StayIn-none, StayIn-append, StayIn-stroke}
 use Rattle.tui_text.specs.Grapheme.{Glyph, glyph_width}
+use Rattle.tui_frames.specs.Block.{BlockData}
+use Rattle.tui_frames.specs.Footprint.{footprint_if}
+use Rattle.tui_frames.specs.InBlock.{inner_of}
+use Rattle.tui_frames.specs.Stays.{block_stays}
+use Rattle.tui_frames.proofs.InBlock.{clip_stays, inner_stays}
 use Rattle.tui_para.specs.Lines.{GlyphLine}
 use Rattle.tui_para.specs.Paragraph.{ParagraphData}
-use Rattle.tui_para.specs.Rendering.{paragraph_layers, paragraph_lines}
+use Rattle.tui_para.specs.Rendering.{content_layers, paragraph_layers, paragraph_lines, under_layers}
 use Rattle.tui_para.specs.Strokes.{run_layers, start_of, glyph_line_layers, glyph_lines_layers}
 
 -- a position inside is none outside
@@ -38,6 +44,13 @@ glyph_lines_stay : (rect : Rect) (y : ℕ) (ss : List GlyphLine) → StayIn (cov
 glyph_lines_stay rect y [] = StayIn-none
 glyph_lines_stay rect y (s ∷ ss) = StayIn-append (glyph_line_stays rect y s) (glyph_lines_stay rect (y + 1) ss)
 
-pub paragraph_stay : (p : ParagraphData) (clip : Rect) → StayIn (covers clip) (paragraph_layers p clip)
-unfolding paragraph_layers
-paragraph_stay p clip = StayIn-append (StayIn-stroke (covers clip) (dress p.style) (λ x y out. out)) (glyph_lines_stay clip clip.y (drop p.scroll_y (paragraph_lines p clip.width)))
+pub content_stays : (p : ParagraphData) (rect : Rect) → StayIn (covers rect) (content_layers p rect)
+unfolding content_layers
+content_stays p rect = StayIn-append (StayIn-stroke (covers rect) (dress p.style) (λ x y out. out)) (glyph_lines_stay rect rect.y (drop p.scroll_y (paragraph_lines p rect.width)))
+
+under_stays : (o : Option BlockData) (style : Style) (clip : Rect) → StayIn (footprint_if o clip) (under_layers o style clip)
+under_stays None style clip = StayIn-none
+under_stays (Some b) style clip = StayIn-append (clip_stays (Some b) clip (StayIn-stroke (covers clip) (dress style) (λ x y out. out))) (block_stays b clip)
+
+pub paragraph_stays : (p : ParagraphData) (clip : Rect) → StayIn (footprint_if p.block clip) (paragraph_layers p clip)
+paragraph_stays p clip = StayIn-append (under_stays p.block p.style clip) (inner_stays p.block clip (content_stays p (inner_of p.block clip)))

@@ -1,7 +1,9 @@
 //! Paragraphs.
 
 ghost use Rattle.std.specs.Prelude.{◌≡◌, ◌<◌, List, length, None, Some, Ok, All, IsOk, IfOk, true, IsSome, IfSome, ℕ, false, sum_by};
-ghost use Rattle.tui_para.specs.Paragraph.{paragraph_data, paragraph_of};
+ghost use Rattle.tui_frames.specs.Block.{block_data};
+ghost use Rattle.tui_frames.specs.InBlock.{beside};
+ghost use Rattle.tui_para.specs.Paragraph.{block_columns, block_rows, paragraph_data, paragraph_of};
 ghost use Rattle.tui_para.specs.Division.{IsFewest};
 ghost use Rattle.tui_para.specs.Lines.{GlyphLine};
 ghost use Rattle.tui_para.specs.WrappedText.{IsTextOf, WrappedText};
@@ -17,12 +19,14 @@ use crate::counting::wrapped_count;
 use crate::wrap::Wrap;
 use std::alloc::Global;
 use tui_cells::{Mem, Position, Style, Styled};
+use tui_frames::{Block, beside, clone_if_some, columns_if_some, rows_if_some};
 use tui_text::{Alignment, Text};
 
 /// A text shown in rows. Without a wrap each line of the text has one row and is cut at its right
 /// end; with one it is broken into rows of the width that there is.
 #[derive(Debug, PartialEq, Eq, Hash, Drop)]
 pub struct Paragraph<'a> {
+    block: Option<Block<'a>>,
     text: Text<'a>,
     style: Style,
     wrap: Option<Wrap>,
@@ -38,11 +42,22 @@ impl<'a> Paragraph<'a> {
     {
         let alignment = text.text_alignment().unwrap_or(Alignment::Left);
         Paragraph {
+            block: None,
             text,
             style: Style::new(),
             wrap: None,
             scroll: Position::new(0, 0),
             alignment,
+        }
+    }
+
+    /// Puts a block around the text, which then has the area inside.
+    pub fn block(self, block: Block<'a>) -> Paragraph<'a>
+        ensures { paragraph_data result ≡ record (paragraph_data self.entry) { block = Some (block_data block.entry) } }
+    {
+        Paragraph {
+            block: Some(block),
+            ..self
         }
     }
 
@@ -109,6 +124,7 @@ impl<'a> Paragraph<'a> {
         ensures equal { IfOk result (λ paragraph. ⟦<Paragraph<'a> as PartialEq>⟧.eq paragraph self.now ≡ true) }
     {
         Ok(Paragraph {
+            block: clone_if_some(&self.block)?,
             text: self.text.clone()?,
             style: self.style,
             wrap: self.wrap,
@@ -117,35 +133,52 @@ impl<'a> Paragraph<'a> {
         })
     }
 
-    /// The number of lines at a width, cut at the greatest number of 64 bits. It is 0 at width 0.
-    /// Without a wrap it is the number of the text's lines. It takes no memory.
+    /// The number of lines at a width, and the rows of a block above and below them, cut at the greatest number of 64 bits. It is 0
+    /// at width 0. Without a wrap it is the number of the text's lines. The width is that of the lines, without the block's
+    /// columns. It takes no memory.
     pub fn line_count(&self, _alloc: Global, width: u16) -> Mem<usize>
         ensures ok { IsOk result }
         ensures nothing { width ≡ 0 → result ≡ Ok 0 }
-        ensures unwrapped { 0 < width → (paragraph_data self.now).wrap ≡ None → result ≡ Ok (length (paragraph_data self.now).text.lines) }
+        ensures unwrapped { 0 < width → (paragraph_data self.now).wrap ≡ None
+            → result ≡ Ok (beside (length (paragraph_data self.now).text.lines) (block_rows (paragraph_data self.now))) }
         ensures wrapped { 0 < width → IfSome (paragraph_data self.now).wrap (λ wrap. (lines : List GlyphLine)
-            → WrappedText width wrap.trim (paragraph_data self.now).alignment (paragraph_data self.now).text lines → result ≡ Ok (saturated (length lines))) }
+            → WrappedText width wrap.trim (paragraph_data self.now).alignment (paragraph_data self.now).text lines
+            → result ≡ Ok (beside (saturated (length lines)) (block_rows (paragraph_data self.now)))) }
 
         // Where each line of the text is words with single blanks between them, no division of the words has fewer lines.
         ensures fewest { 0 < width → IsSome (paragraph_data self.now).wrap → (words : LineData → List (List Glyph))
             → IsTextOf words width (paragraph_data self.now).text → (counts : LineData → ℕ)
             × All (λ line. IsFewest glyph_width (words line) width (counts line)) (paragraph_data self.now).text.lines
-            × (result ≡ Ok (saturated (sum_by counts (paragraph_data self.now).text.lines))) }
+            × (result ≡ Ok (beside (saturated (sum_by counts (paragraph_data self.now).text.lines)) (block_rows (paragraph_data self.now)))) }
     {
         if width == 0 {
             return Ok(0);
         }
+        Ok(beside(self.lines_at(width), rows_if_some(&self.block)))
+    }
+
+    /// The number of lines at a width above 0, without the block's rows.
+    fn lines_at(&self, width: u16) -> usize
+        requires { 0 < width }
+        ensures unwrapped { (paragraph_data self.now).wrap ≡ None → result ≡ length (paragraph_data self.now).text.lines }
+        ensures wrapped { IfSome (paragraph_data self.now).wrap (λ wrap. (lines : List GlyphLine)
+            → WrappedText width wrap.trim (paragraph_data self.now).alignment (paragraph_data self.now).text lines → result ≡ saturated (length lines)) }
+        ensures fewest { IsSome (paragraph_data self.now).wrap → (words : LineData → List (List Glyph))
+            → IsTextOf words width (paragraph_data self.now).text → (counts : LineData → ℕ)
+            × All (λ line. IsFewest glyph_width (words line) width (counts line)) (paragraph_data self.now).text.lines
+            × (result ≡ saturated (sum_by counts (paragraph_data self.now).text.lines)) }
+    {
         match self.wrap {
-            None => Ok(self.text.height()),
-            Some(wrap) => Ok(wrapped_count(&self.text, usize::from(width), wrap.trim)),
+            None => self.text.height(),
+            Some(wrap) => wrapped_count(&self.text, usize::from(width), wrap.trim),
         }
     }
 
-    /// The columns of the widest line of the text.
+    /// The columns of the widest line of the text, and those of a block beside it, cut at the greatest number of 64 bits.
     pub fn line_width(&self) -> usize
-        ensures { result ≡ saturated (text_width (paragraph_data self.now).text) }
+        ensures { result ≡ beside (saturated (text_width (paragraph_data self.now).text)) (block_columns (paragraph_data self.now)) }
     {
-        self.text.width()
+        beside(self.text.width(), columns_if_some(&self.block))
     }
 }
 

@@ -111,7 +111,7 @@ impl<'a> Block<'a> {
         ensures ok { IfOk result (λ next. (ts : List LineData) (final : Screen)
             → Painted (titles_from (block_data self.now) clip strip next ts) buf.new final
             → Painted (titles_from (block_data self.now) clip strip column (titles_in (block_data self.now) place (title_data title.now ∷ []) ++ ts))
-                buf.old final) }
+            buf.old final) }
         ensures kept { KeptOutside (covers clip) buf.old buf.new }
         ensures light { AreLight (title_data title.now).line.spans → IsOk result }
     {
@@ -164,7 +164,7 @@ impl<'a> Block<'a> {
         ensures ok { IfOk result (λ next. (ts : List LineData) (final : Screen)
             → Painted (titles_cut (block_data self.now) clip strip cut next ts) buf.new final
             → Painted (titles_cut (block_data self.now) clip strip cut column (titles_in (block_data self.now) place (title_data title.now ∷ []) ++ ts))
-                buf.old final) }
+            buf.old final) }
         ensures kept { KeptOutside (covers clip) buf.old buf.new }
         ensures light { AreLight (title_data title.now).line.spans → IsOk result }
     {
@@ -256,7 +256,7 @@ impl<'a> Block<'a> {
             → after ≡ spaced ts
             → Painted (titles_to_end (block_data self.now) clip strip ts) first buf.old
             → Painted (titles_to_end (block_data self.now) clip strip (titles_in (block_data self.now) place (title_data title.now ∷ []) ++ ts))
-                first buf.new) }
+            first buf.new) }
         ensures taken { IfOk result (λ next. next ≡ after + spaced (titles_in (block_data self.now) place (title_data title.now ∷ []))) }
         ensures kept { KeptOutside (covers clip) buf.old buf.new }
         ensures light { AreLight (title_data title.now).line.spans → IsOk result }

@@ -5,7 +5,8 @@ ghost use Rattle.tui_cells.specs.Layers.{KeptOutside, Painted};
 ghost use Rattle.tui_cells.specs.Rect.{covers, is_empty};
 ghost use Rattle.tui_para.specs.Drawing.{paragraph_drawing};
 ghost use Rattle.tui_para.specs.Paragraph.{paragraph_data};
-ghost use Rattle.tui_para.specs.Rendering.{paragraph_layers, paragraph_lines};
+ghost use Rattle.tui_frames.specs.Footprint.{footprint_if};
+ghost use Rattle.tui_para.specs.Rendering.{content_layers, paragraph_layers, paragraph_lines, under_layers};
 ghost use Rattle.tui_para.specs.Strokes.{glyph_lines_layers};
 
 use crate::painting::paint_lines;
@@ -15,6 +16,7 @@ use crate::truncator::LineTruncator;
 use crate::wrapper::WordWrapper;
 use std::alloc::Global;
 use tui_cells::{Buffer, Mem, Rect, Widget};
+use tui_frames::{BlockExt, paint_if_some};
 
 impl<'a> Paragraph<'a> {
     /// Paints the lines from the scroll line on, one in each row.
@@ -39,17 +41,41 @@ impl<'a> Paragraph<'a> {
         }
     }
 
-    /// Sets the style on the clip, and paints the lines.
+    /// Sets the style on an area, and paints the lines in it.
+    #[tactic(auto, unfolding(crate::specs::Rendering::content_layers))]
+    fn paint_content(&self, alloc: Global, buf: &mut Buffer, area: Rect) -> Mem<()>
+        ensures ok { OnOk result (Painted (content_layers (paragraph_data self.now) area) buf.old buf.new) }
+        ensures kept { KeptOutside (covers area) buf.old buf.new }
+        ensures empty { IsTrue (is_empty area) → IsOk result }
+    {
+        if area.is_empty() {
+            return Ok(());
+        }
+        buf.set_style(area, self.style);
+        self.paint_text(alloc, buf, area)
+    }
+
+    /// Paints what stands under the text: with a block, the style on the clip and the block.
+    fn paint_under(&self, alloc: Global, buf: &mut Buffer, clip: Rect) -> Mem<()>
+        ensures ok { OnOk result (Painted (under_layers (paragraph_data self.now).block self.now.style clip) buf.old buf.new) }
+        ensures kept { KeptOutside (footprint_if (paragraph_data self.now).block clip) buf.old buf.new }
+    {
+        if self.block.is_some() {
+            buf.set_style(clip, self.style);
+        }
+        paint_if_some(alloc, buf, clip, &self.block)
+    }
+
     fn paint_in(&self, alloc: Global, buf: &mut Buffer, clip: Rect) -> Mem<()>
         ensures ok { OnOk result (Painted (paragraph_layers (paragraph_data self.now) clip) buf.old buf.new) }
-        ensures kept { KeptOutside (covers clip) buf.old buf.new }
+        ensures kept { KeptOutside (footprint_if (paragraph_data self.now).block clip) buf.old buf.new }
         ensures empty { IsTrue (is_empty clip) → IsOk result }
     {
         if clip.is_empty() {
             return Ok(());
         }
-        buf.set_style(clip, self.style);
-        self.paint_text(alloc, buf, clip)
+        self.paint_under(alloc, buf, clip)?;
+        self.paint_content(alloc, buf, self.block.inner_if_some(clip))
     }
 }
 

@@ -3,4 +3,5 @@ use Rattle.tui_para.specs.contracts.paragraph.ParagraphEq.TheImpl.Laws.{laws-law
 use Rattle.tui_para.proofs.paragraph.Paragraph.clone.Goals as goal
 
 pub returns-clause-equal : goal.returns-clause-equal
-returns-clause-equal c = rw c.in_ok-clone.ensures.equal (and_parts _ _ (laws-law.refl c.args.self.now)).1
+returns-clause-equal c =
+    rw (c.in_ok-clone_if_some.ensures.equal, c.in_ok-clone.ensures.equal) (and_parts _ _ (and_parts _ _ (laws-law.refl c.args.self.now)).1).1
