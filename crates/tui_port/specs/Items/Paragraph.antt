@@ -24,6 +24,7 @@ paragraph_with text style wrap scroll alignment =
     let new = new_paragraph text in
     let shift = unwrap_or scroll (new.scroll_y, new.scroll_x) in
     record {
+      block = new.block;
       text = text;
       style = unwrap_or style new.style;
       wrap = option_or wrap new.wrap;
