@@ -8,7 +8,20 @@ ghost use Rattle.tui_text.specs.Painting.{cells_at};
 ghost use Rattle.tui_frames.specs.Block.{block_data};
 ghost use Rattle.tui_frames.specs.Borders.{has};
 ghost use Rattle.tui_frames.specs.Light.{AreLightBorders, IsLightIf};
-ghost use Rattle.tui_frames.specs.Strokes.{border_layers, column_of, column_side, corner_layers, corners_layers, gap, joins, last_column, last_row, row_of, row_side, sides_layers};
+ghost use Rattle.tui_frames.specs.Strokes.{
+  border_layers,
+  column_of,
+  column_side,
+  corner_layers,
+  corners_layers,
+  gap,
+  joins,
+  last_column,
+  last_row,
+  row_of,
+  row_side,
+  sides_layers,
+};
 
 use crate::block::Block;
 use crate::block::space::count;
@@ -207,12 +220,44 @@ impl<'a> Block<'a> {
         ensures light { AreLightBorders (block_data self.now) → IsOk result }
     {
         let set = self.border_set;
-        let (top, right, bottom, left) =
-            (Borders::TOP, Borders::RIGHT, Borders::BOTTOM, Borders::LEFT);
+        let (top, right, bottom, left) = (
+            Borders::TOP,
+            Borders::RIGHT,
+            Borders::BOTTOM,
+            Borders::LEFT,
+        );
         let (last_x, last_y) = (last_column(clip), last_row(clip));
-        self.paint_corner(alloc, buf, clip, (bottom, right), (last_x, last_y), set.bottom_right)?;
-        self.paint_corner(alloc, buf, clip, (top, right), (last_x, clip.y), set.top_right)?;
-        self.paint_corner(alloc, buf, clip, (bottom, left), (clip.x, last_y), set.bottom_left)?;
-        self.paint_corner(alloc, buf, clip, (top, left), (clip.x, clip.y), set.top_left)
+        self.paint_corner(
+            alloc,
+            buf,
+            clip,
+            (bottom, right),
+            (last_x, last_y),
+            set.bottom_right,
+        )?;
+        self.paint_corner(
+            alloc,
+            buf,
+            clip,
+            (top, right),
+            (last_x, clip.y),
+            set.top_right,
+        )?;
+        self.paint_corner(
+            alloc,
+            buf,
+            clip,
+            (bottom, left),
+            (clip.x, last_y),
+            set.bottom_left,
+        )?;
+        self.paint_corner(
+            alloc,
+            buf,
+            clip,
+            (top, left),
+            (clip.x, clip.y),
+            set.top_left,
+        )
     }
 }

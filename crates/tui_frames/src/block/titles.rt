@@ -111,7 +111,7 @@ impl<'a> Block<'a> {
         ensures ok { IfOk result (λ next. (ts : List LineData) (final : Screen)
             → Painted (titles_from (block_data self.now) clip strip next ts) buf.new final
             → Painted (titles_from (block_data self.now) clip strip column (titles_in (block_data self.now) place (title_data title.now ∷ []) ++ ts))
-                buf.old final) }
+            buf.old final) }
         ensures kept { KeptOutside (covers clip) buf.old buf.new }
         ensures light { AreLight (title_data title.now).line.spans → IsOk result }
     {
@@ -135,7 +135,8 @@ impl<'a> Block<'a> {
         place: Place,
     ) -> Mem<()>
         ensures ok { OnOk result
-            (Painted (titles_from (block_data self.now) clip strip column (titles_in (block_data self.now) place (block_data self.now).titles)) buf.old buf.new) }
+            (Painted (titles_from (block_data self.now) clip strip column (titles_in (block_data self.now) place (block_data self.now).titles))
+            buf.old buf.new) }
         ensures kept { KeptOutside (covers clip) buf.old buf.new }
         ensures light { AreLightTitles (block_data self.now).titles → IsOk result }
     {
@@ -164,7 +165,7 @@ impl<'a> Block<'a> {
         ensures ok { IfOk result (λ next. (ts : List LineData) (final : Screen)
             → Painted (titles_cut (block_data self.now) clip strip cut next ts) buf.new final
             → Painted (titles_cut (block_data self.now) clip strip cut column (titles_in (block_data self.now) place (title_data title.now ∷ []) ++ ts))
-                buf.old final) }
+            buf.old final) }
         ensures kept { KeptOutside (covers clip) buf.old buf.new }
         ensures light { AreLight (title_data title.now).line.spans → IsOk result }
     {
@@ -256,7 +257,7 @@ impl<'a> Block<'a> {
             → after ≡ spaced ts
             → Painted (titles_to_end (block_data self.now) clip strip ts) first buf.old
             → Painted (titles_to_end (block_data self.now) clip strip (titles_in (block_data self.now) place (title_data title.now ∷ []) ++ ts))
-                first buf.new) }
+            first buf.new) }
         ensures taken { IfOk result (λ next. next ≡ after + spaced (titles_in (block_data self.now) place (title_data title.now ∷ []))) }
         ensures kept { KeptOutside (covers clip) buf.old buf.new }
         ensures light { AreLight (title_data title.now).line.spans → IsOk result }
