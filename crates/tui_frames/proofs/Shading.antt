@@ -1,5 +1,28 @@
 -- The cells of an area outside a base, one side after another.
-use Rattle.std.proofs.Common.{◌≡◌, ℕ, ◌<◌, Bool, true, false, ◌&&◌, ◌||◌, not, List, [], ◌∷◌, Result, Ok, Err, OnOk, OnErr, if◌then◌else◌, refl, ◌∙◌, sym, arith}
+use Rattle.std.proofs.Common.{
+  ◌≡◌,
+  ℕ,
+  ◌<◌,
+  Bool,
+  true,
+  false,
+  ◌&&◌,
+  ◌||◌,
+  not,
+  List,
+  [],
+  ◌∷◌,
+  Result,
+  Ok,
+  Err,
+  OnOk,
+  OnErr,
+  if◌then◌else◌,
+  refl,
+  ◌∙◌,
+  sym,
+  arith,
+}
 use Rattle.std.proofs.lemmas.Bool.Decides.{nat_tests}
 use Rattle.tui_cells.specs.declared.rect.Rect.{Rect}
 use Rattle.tui_cells.specs.declared.style.Style.{Style}
@@ -36,7 +59,8 @@ before_behind base x y = grind (arith, nat_tests)
 
 -- what lies outside the base lies on a side of it
 sides : (base : Rect) (x y : ℕ) → x < 65535 → y < 65535 →
-    not (covers base x y) ≡ (((covers (side_of base Above) x y || covers (side_of base Below) x y) || covers (side_of base Before) x y) || covers (side_of base Behind) x y)
+    not (covers base x y)
+    ≡ (((covers (side_of base Above) x y || covers (side_of base Below) x y) || covers (side_of base Before) x y) || covers (side_of base Behind) x y)
 sides base x y p q = grind (arith, nat_tests)
 
 near : (area : Rect) (x y : ℕ) → covers area x y ≡ true → (x < 65535) × (y < 65535)
@@ -61,7 +85,8 @@ on area base side x y = covers area x y && covers (side_of base side) x y
 -- a part with its region as two tests
 part_of : (area base : Rect) (side : Side) (es : List Edit) (a b : Screen) →
     Painted (over (covers (intersection_of area (side_of base side))) es) a b → Painted (over (on area base side) es) a b
-part_of area base side es a b p = Painted-region (covers (intersection_of area (side_of base side))) (on area base side) es a b p (λ x y. covers_both area (side_of base side) x y)
+part_of area base side es a b p =
+    Painted-region (covers (intersection_of area (side_of base side))) (on area base side) es a b p (λ x y. covers_both area (side_of base side) x y)
 
 abbrev two : Rect → Rect → ℕ → ℕ → Bool
 two area base x y = on area base Above x y || on area base Below x y
@@ -94,7 +119,8 @@ four_painted area base es a b c d e p q r s =
 
 -- a part lies in the area and outside the base
 part_in : (area base : Rect) (side : Side) (x y : ℕ) → in_shadow area base x y ≡ false → covers (intersection_of area (side_of base side)) x y ≡ false
-part_in area base side x y out = covers_both area (side_of base side) x y ∙ apart (covers area x y) (covers base x y) (covers (side_of base side) x y) out (beside base side x y)
+part_in area base side x y out =
+    covers_both area (side_of base side) x y ∙ apart (covers area x y) (covers base x y) (covers (side_of base side) x y) out (beside base side x y)
   where
     apart : (a b s : Bool) → (a && not b) ≡ false → (b && s) ≡ false → (a && s) ≡ false
     apart a b s e f = grind arith

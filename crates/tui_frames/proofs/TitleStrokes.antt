@@ -1,7 +1,38 @@
 -- Titles of a block in their columns, one more at a time.
-use Rattle.std.proofs.Common.{◌≡◌, ℕ, ◌+◌, ◌-◌, ◌/◌, ◌<◌, ◌≤◌, min, Bool, true, false, List, [], ◌∷◌, ◌++◌, drop, get_or, length, map, take, unwrap_or, sum_by, nat_le, nat_lt, if◌then◌else◌, refl, ◌∙◌, ap, sym, subst, arith}
+use Rattle.std.proofs.Common.{
+  ◌≡◌,
+  ℕ,
+  ◌+◌,
+  ◌-◌,
+  ◌/◌,
+  ◌<◌,
+  ◌≤◌,
+  min,
+  Bool,
+  true,
+  false,
+  List,
+  [],
+  ◌∷◌,
+  ◌++◌,
+  drop,
+  get_or,
+  length,
+  map,
+  take,
+  unwrap_or,
+  nat_le,
+  nat_lt,
+  if◌then◌else◌,
+  refl,
+  ◌∙◌,
+  ap,
+  sym,
+  subst,
+  arith,
+}
 use Rattle.std.proofs.lemmas.Bool.Decides.{nat_tests}
-use Rattle.std.proofs.lemmas.List.Sums.{sum_by-append, sum_by-cons}
+use Rattle.std.proofs.lemmas.List.Sums.{sum_by-append}
 use Rattle.tui_cells.specs.declared.rect.Rect.{Rect}
 use Rattle.tui_cells.specs.Buffer.{Screen}
 use Rattle.tui_cells.specs.Cell.{dress}
@@ -18,7 +49,7 @@ use Rattle.tui_frames.specs.Strokes.{title_layers, titles_cut, titles_from, titl
 use Rattle.tui_frames.specs.Titles.{is_in, spaced, title_width, titles_in, total}
 use Rattle.tui_frames.specs.declared.block.title.Place.{Place}
 use Rattle.tui_frames.specs.declared.block.title.Title.{Title}
-use Rattle.tui_frames.proofs.TitleLists.{none_there, one_there, titles_in-from, titles_in-none, titles_in-parts}
+use Rattle.tui_frames.proofs.TitleLists.{one_there, titles_in-from, titles_in-none, titles_in-parts}
 
 -- no columns are no cells
 no_columns : (c strip : Rect) (column width : ℕ) → min width (strip.width - column) ≡ 0 → is_empty (intersection_of c (columns_from strip column width)) ≡ true
@@ -178,4 +209,5 @@ pub middle_is_cut : (b : BlockData) (c strip : Rect) (ts : List LineData) (cut a
 unfolding titles_in_middle
 middle_is_cut b c strip ts cut all old new e lt half p =
     subst (λ (ls : List Layer). Painted ls old new)
-    (ap (λ n. titles_cut b c strip n 0 ts) (half ∙ ap (λ n. (n - strip.width) / 2) e) ∙ sym (refused _ _ _ (does_not_fit (total ts) strip.width (omega arith)))) p
+    (ap (λ n. titles_cut b c strip n 0 ts) (half ∙ ap (λ n. (n - strip.width) / 2) e)
+    ∙ sym (refused _ _ _ (does_not_fit (total ts) strip.width (omega arith)))) p

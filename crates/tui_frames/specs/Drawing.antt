@@ -1,10 +1,8 @@
 -- What blocks, shadows and widgets with a block are to those who place them.
-use Rattle.std.specs.Prelude.{List, Option, None, Some}
-use Rattle.tui_cells.specs.declared.rect.Rect.{Rect}
 use Rattle.tui_cells.specs.Drawing.{Drawing}
-use Rattle.tui_cells.specs.Layers.{Layer, Painted, StayIn}
+use Rattle.tui_cells.specs.Layers.{Painted}
 use Rattle.tui_frames.specs.Block.{BlockData}
-use Rattle.tui_frames.specs.Footprint.{block_footprint, footprint_if}
+use Rattle.tui_frames.specs.Footprint.{block_footprint}
 use Rattle.tui_frames.specs.Light.{IsLightBlock}
 use Rattle.tui_frames.specs.Shadow.{IsLightKind, ShadowData, shadow_footprint, shadow_layers}
 use Rattle.tui_frames.specs.Stays.{block_stays, footprint_nowhere, shadow_nowhere, shadow_stays}

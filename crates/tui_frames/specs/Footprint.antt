@@ -1,5 +1,5 @@
 -- The positions that a widget with a block may change.
-use Rattle.std.specs.Prelude.{ℕ, Bool, Option, None, Some, option_and_then}
+use Rattle.std.specs.Prelude.{ℕ, Bool, Option, None, Some}
 use Rattle.tui_cells.specs.declared.rect.Rect.{Rect}
 use Rattle.tui_cells.specs.Rect.{covers}
 use Rattle.tui_frames.specs.Block.{BlockData}

@@ -8,7 +8,20 @@ ghost use Rattle.tui_text.specs.Painting.{cells_at};
 ghost use Rattle.tui_frames.specs.Block.{block_data};
 ghost use Rattle.tui_frames.specs.Borders.{has};
 ghost use Rattle.tui_frames.specs.Light.{AreLightBorders, IsLightIf};
-ghost use Rattle.tui_frames.specs.Strokes.{border_layers, column_of, column_side, corner_layers, corners_layers, gap, joins, last_column, last_row, row_of, row_side, sides_layers};
+ghost use Rattle.tui_frames.specs.Strokes.{
+  border_layers,
+  column_of,
+  column_side,
+  corner_layers,
+  corners_layers,
+  gap,
+  joins,
+  last_column,
+  last_row,
+  row_of,
+  row_side,
+  sides_layers,
+};
 
 use crate::block::Block;
 use crate::block::space::count;

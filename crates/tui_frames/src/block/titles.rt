@@ -135,7 +135,8 @@ impl<'a> Block<'a> {
         place: Place,
     ) -> Mem<()>
         ensures ok { OnOk result
-            (Painted (titles_from (block_data self.now) clip strip column (titles_in (block_data self.now) place (block_data self.now).titles)) buf.old buf.new) }
+            (Painted (titles_from (block_data self.now) clip strip column (titles_in (block_data self.now) place (block_data self.now).titles))
+            buf.old buf.new) }
         ensures kept { KeptOutside (covers clip) buf.old buf.new }
         ensures light { AreLightTitles (block_data self.now).titles → IsOk result }
     {

@@ -16,7 +16,8 @@ loop-title-preserved c =
     let at : c.title-item.result ≡ get_or titles i c.title-item.result = rw c.deref-title-items.ensures.value at c.title-item.is in
     let pushed : c.push.new.self.items ≡ c.loop-title.titles.items ++ c.in_ok-clone.field-0 ∷ [] = search rules in
     record {
-      same = rw pushed (seen_more title_data titles c.loop-title.titles.items i c.title-item.result c.in_ok-clone.field-0 _ (omega arith) at copy.is known.same);
+      same = rw pushed
+          (seen_more title_data titles c.loop-title.titles.items i c.title-item.result c.in_ok-clone.field-0 _ (omega arith) at copy.is known.same);
       equal = rw (pushed, take_more titles i c.title-item.result (omega arith), ← at)
           (pointwise_push eq-value.it c.loop-title.titles.items (take i titles) c.in_ok-clone.field-0 c.title-item.result known.equal copy.equal);
     }

@@ -1,4 +1,4 @@
-use Rattle.std.proofs.Common.{◌≡◌, get_or, arith}
+use Rattle.std.proofs.Common.{arith}
 use Rattle.tui_cells.proofs.Painting.{KeptOutside-then}
 use Rattle.tui_text.specs.Setting.{AreLight}
 use Rattle.tui_text.proofs.Elements.{seen_at}
@@ -15,7 +15,8 @@ pub returns-in_err-column-clause-light : goal.returns-in_err-column-clause-light
 returns-in_err-column-clause-light c light =
     let at = rw c.deref-title-items.ensures.value at c.title-item.is in
     let broken =
-    c.in_err-column.ensures.light (seen_at title_data (λ t. AreLight t.line.spans) c.args.self.now.titles.items c.loop-title.title-index _ _ (omega arith) at light) in
+    c.in_err-column.ensures.light
+    (seen_at title_data (λ t. AreLight t.line.spans) c.args.self.now.titles.items c.loop-title.title-index _ _ (omega arith) at light) in
     cc
 
 pub loop-title-preserved : goal.loop-title-preserved
@@ -24,7 +25,8 @@ loop-title-preserved c =
     let at = rw c.deref-title-items.ensures.value at c.title-item.is in
     record {
       rest = λ final q. c.loop-title.invariant.rest final
-          (one_more (titles_cut b c.args.clip c.args.strip c.args.cut c.loop-title.column) (titles_cut b c.args.clip c.args.strip c.args.cut c.in_ok-column.column) b c.args.place
+          (one_more (titles_cut b c.args.clip c.args.strip c.args.cut c.loop-title.column)
+          (titles_cut b c.args.clip c.args.strip c.args.cut c.in_ok-column.column) b c.args.place
           c.args.self.now.titles.items c.loop-title.title-index c.title-item.result _ _ _ final (omega arith) at c.in_ok-column.ensures.ok q);
       kept = KeptOutside-then c.loop-title.invariant.kept c.in_ok-column.ensures.kept;
     }
@@ -32,4 +34,5 @@ loop-title-preserved c =
 pub returns-clause-ok : goal.returns-clause-ok
 returns-clause-ok c =
     c.loop-title.invariant.rest _
-    (cut_done (block_data c.args.self.now) c.args.clip c.args.strip c.args.cut c.loop-title.column c.args.place c.args.self.now.titles.items c.loop-title.title-index _ (omega arith))
+    (cut_done (block_data c.args.self.now) c.args.clip c.args.strip c.args.cut c.loop-title.column c.args.place
+    c.args.self.now.titles.items c.loop-title.title-index _ (omega arith))

@@ -9,14 +9,15 @@ use Rattle.tui_frames.proofs.block.Block.paint_effect.Goals as goal
 pub returns-clause-ok : goal.returns-clause-ok
 returns-clause-ok g c =
     on_ok c.apply.result
-    (effect_shown (g.E.CellEffect.leaves c.args.effect.now) (block_data c.args.self.now) c.args.clip c.intersection-shadow_area.result c.effect_shadow-shadow.result
-    c.args.buf.now _ _ _ c.effect_shadow-shadow.ensures (rw (c.area.ensures, c.offset.ensures.is) at c.intersection-shadow_area.ensures)
+    (effect_shown (g.E.CellEffect.leaves c.args.effect.now) (block_data c.args.self.now) c.args.clip c.intersection-shadow_area.result
+    c.effect_shadow-shadow.result c.args.buf.now _ _ _ c.effect_shadow-shadow.ensures (rw (c.area.ensures, c.offset.ensures.is) at c.intersection-shadow_area.ensures)
     c.in_ok-paint_frame.ensures.ok c.dress_outside.ensures)
     c.apply.ensures.ok
 
 pub returns-clause-kept : goal.returns-clause-kept
 returns-clause-kept g c =
-    effect_kept (block_data c.args.self.now) c.args.clip c.intersection-shadow_area.result c.effect_shadow-shadow.result (dress c.effect_shadow-shadow.result.style ∷ [])
+    effect_kept (block_data c.args.self.now) c.args.clip c.intersection-shadow_area.result c.effect_shadow-shadow.result
+    (dress c.effect_shadow-shadow.result.style ∷ [])
     c.args.buf.now _ _ _ c.effect_shadow-shadow.ensures (rw (c.area.ensures, c.offset.ensures.is) at c.intersection-shadow_area.ensures)
     c.in_ok-paint_frame.ensures.kept c.dress_outside.ensures c.apply.ensures.kept
 

@@ -1,4 +1,4 @@
-use Rattle.std.proofs.Common.{◌≡◌, get_or, arith}
+use Rattle.std.proofs.Common.{arith}
 use Rattle.tui_cells.proofs.Painting.{KeptOutside-then}
 use Rattle.tui_text.specs.Setting.{AreLight}
 use Rattle.tui_text.proofs.Elements.{seen_at}
@@ -15,7 +15,8 @@ pub returns-in_err-column-clause-light : goal.returns-in_err-column-clause-light
 returns-in_err-column-clause-light c light =
     let at = rw c.deref-title-items.ensures.value at c.title-item.is in
     let broken =
-    c.in_err-column.ensures.light (seen_at title_data (λ t. AreLight t.line.spans) c.args.self.now.titles.items c.loop-title.title-index _ _ (omega arith) at light) in
+    c.in_err-column.ensures.light
+    (seen_at title_data (λ t. AreLight t.line.spans) c.args.self.now.titles.items c.loop-title.title-index _ _ (omega arith) at light) in
     cc
 
 pub loop-title-preserved : goal.loop-title-preserved
@@ -32,4 +33,5 @@ loop-title-preserved c =
 pub returns-clause-ok : goal.returns-clause-ok
 returns-clause-ok c =
     c.loop-title.invariant.rest _
-    (from_done (block_data c.args.self.now) c.args.clip c.args.strip c.loop-title.column c.args.place c.args.self.now.titles.items c.loop-title.title-index _ (omega arith))
+    (from_done (block_data c.args.self.now) c.args.clip c.args.strip c.loop-title.column c.args.place
+    c.args.self.now.titles.items c.loop-title.title-index _ (omega arith))

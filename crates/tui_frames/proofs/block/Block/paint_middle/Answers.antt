@@ -1,4 +1,4 @@
-use Rattle.std.proofs.Common.{◌≡◌, ◌≤◌, ◌<◌, ap, sym, ◌∙◌, arith}
+use Rattle.std.proofs.Common.{arith}
 use Rattle.tui_text.proofs.Elements.{on_ok}
 use Rattle.tui_frames.specs.Block.{block_data}
 use Rattle.tui_frames.specs.Titles.{titles_in}

@@ -19,13 +19,15 @@ pub returns-then-after-from-clause-ok : goal.returns-then-after-from-clause-ok
 returns-then-after-from-clause-ok c =
     let b = block_data c.args.self.now in
     let known = c.loop-i.invariant in
-    end_of_room b c.args.clip c.args.strip c.args.place c.args.self.now.titles.items (c.len-count.result - c.loop-i.i) _ _ (omega (arith, known.taken)) known.shown
+    end_of_room b c.args.clip c.args.strip c.args.place c.args.self.now.titles.items (c.len-count.result - c.loop-i.i) _ _
+    (omega (arith, known.taken)) known.shown
 
 pub returns-in_err-after-clause-light : goal.returns-in_err-after-clause-light
 returns-in_err-after-clause-light c light =
     let broken =
     c.in_err-after.ensures.light
-    (seen_at title_data (λ t. AreLight t.line.spans) c.args.self.now.titles.items (c.len-count.result - 1 - c.loop-i.i) _ _ (omega arith) c.index-title.ensures light) in
+    (seen_at title_data (λ t. AreLight t.line.spans) c.args.self.now.titles.items (c.len-count.result - 1 - c.loop-i.i) _ _
+    (omega arith) c.index-title.ensures light) in
     cc
 
 pub loop-i-preserved : goal.loop-i-preserved

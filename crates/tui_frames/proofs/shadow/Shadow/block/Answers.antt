@@ -1,4 +1,3 @@
-use Rattle.std.proofs.Common.{rules}
 use Rattle.tui_frames.proofs.shadow.Shadow.block.Goals as goal
 
 pub returns : goal.returns

@@ -1,0 +1,226 @@
+//! Blocks and shadows by their calls; what they draw in a scene stands in scene_rows.
+
+ghost use Rattle.std.specs.Prelude.{⊤};
+ghost use Rattle.tui_cells.specs.Layers.{KeptOutside};
+ghost use Rattle.tui_frames.specs.Shadow.{in_shadow};
+
+use crate::shown::shown;
+use std::alloc::Global;
+use std::str::FromStr;
+use std::test::Fail;
+use tui_cells::border as symbols;
+use tui_cells::{
+    Buffer, Color, Mem, MergeStrategy, Modifier, Offset, ParseError, Position, Rect, Style, Styled,
+    Widget,
+};
+use tui_frames::{
+    Block, BlockExt, BorderType, Borders, CellEffect, Dimmed, Padding, Shadow, TitlePosition,
+    border,
+};
+use tui_text::{Alignment, Line};
+
+/// Puts `+` in each cell of a shadow.
+struct Plus;
+
+impl CellEffect for Plus {
+    ghost leaves = { λ _ _ _ _ _. ⊤ };
+
+    fn apply(&self, shadow_area: Rect, base_area: Rect, buf: &mut Buffer) -> Mem<()> {
+        'rows: for y in shadow_area.top()..shadow_area.bottom() {
+            'columns: for x in shadow_area.left()..shadow_area.right() {
+                put_plus(buf, shadow_area, base_area, Position { x, y })?;
+            }
+        }
+        Ok(())
+    }
+}
+
+fn put_plus(buf: &mut Buffer, area: Rect, base: Rect, p: Position) -> Mem<()>
+    ensures { KeptOutside (in_shadow area base) buf.old buf.new }
+{
+    if area.contains(p) && !base.contains(p) {
+        buf.set_symbol(p, "+")?;
+    }
+    Ok(())
+}
+
+fn blank(alloc: Global, width: u16, height: u16) -> Mem<Buffer> {
+    Buffer::empty(alloc, Rect::new(0, 0, width, height))
+}
+
+#[test]
+fn effects_are_applied_in_the_shadow(rt: HostRuntime) -> Result<(), Fail> {
+    let alloc = rt.alloc();
+    let area = Rect::new(0, 0, 2, 2);
+    let mut buffer = blank(alloc, 4, 4)?;
+    Block::new(alloc).render_with_effect(alloc, area, &mut buffer, &Plus)?;
+    assert_eq!(rt; shown(alloc, &buffer)?.as_str(), "    \n  + \n ++ \n    \n");
+    let dark = Style::new().fg(Color::Red);
+    let block = Block::new(alloc).shadow(Shadow::block().style(dark).offset(Offset::new(-1, 0)));
+    block.render_with_effect(alloc, Rect::new(1, 3, 1, 1), &mut buffer, &Dimmed::new())?;
+    assert_eq!(rt; shown(alloc, &buffer)?.as_str(), "    \n  + \n ++ \n    \n");
+    let cell = buffer.cell(Position::new(0, 3));
+    assert_eq!(rt; cell.map(|cell| cell.fg()), Some(Color::Red));
+    assert_eq!(rt; cell.map(|cell| cell.modifier()), Some(Modifier::DIM));
+    Ok(())
+}
+
+#[test]
+fn shadows_lie_outside_their_base(rt: HostRuntime) -> Result<(), Fail> {
+    let alloc = rt.alloc();
+    let cases = [
+        (Shadow::default(), "   \n   \n"),
+        (Shadow::overlay(), "   \n   \n"),
+        (Shadow::dimmed(), "   \n   \n"),
+        (Shadow::symbol("x"), "   \n xx\n"),
+        (Shadow::block(), "   \n ██\n"),
+        (Shadow::light_shade(), "   \n ░░\n"),
+        (Shadow::medium_shade(), "   \n ▒▒\n"),
+        (Shadow::dark_shade(), "   \n ▓▓\n"),
+    ];
+    for (shadow, rows) in cases {
+        let mut buffer = blank(alloc, 3, 2)?;
+        shadow.render(alloc, Rect::new(0, 0, 2, 1), &mut buffer)?;
+        assert!(rt; shown(alloc, &buffer)?.as_str() == rows);
+    }
+    let bold = Style::new().add_modifier(Modifier::BOLD);
+    let shadow = Shadow::default().set_style(bold);
+    assert!(rt; Styled::style(&shadow) == bold);
+    assert!(rt; shadow == Shadow::overlay().style(bold));
+    Ok(())
+}
+
+fn titled<'a>(alloc: Global, alignment: Alignment) -> Mem<Block<'a>> {
+    let mut block = Block::bordered(alloc).title_alignment(alignment);
+    block.title(Line::raw(alloc, "abc")?)?;
+    block.title(Line::raw(alloc, "de")?)?;
+    Ok(block)
+}
+
+#[test]
+fn titles_stand_in_their_columns(rt: HostRuntime) -> Result<(), Fail> {
+    let alloc = rt.alloc();
+    let cases = [
+        (Alignment::Left, 6, "┌abc─┐\n│    │\n└────┘\n"),
+        (Alignment::Center, 6, "┌bc─d┐\n│    │\n└────┘\n"),
+        (Alignment::Right, 6, "┌a─de┐\n│    │\n└────┘\n"),
+        (
+            Alignment::Center,
+            11,
+            "┌─abc─de──┐\n│         │\n└─────────┘\n",
+        ),
+    ];
+    for (alignment, width, rows) in cases {
+        let mut buffer = blank(alloc, width, 3)?;
+        titled(alloc, alignment)?.render(alloc, Rect::new(0, 0, width, 3), &mut buffer)?;
+        assert!(rt; shown(alloc, &buffer)?.as_str() == rows);
+    }
+    let mut block = Block::new(alloc).title_position(TitlePosition::Bottom);
+    block.title_top(Line::raw(alloc, "a")?)?;
+    block.title(Line::raw(alloc, "b")?)?;
+    block.title_bottom(Line::raw(alloc, "c")?.alignment(Alignment::Right))?;
+    let mut buffer = blank(alloc, 5, 3)?;
+    block.render(alloc, Rect::new(0, 0, 5, 3), &mut buffer)?;
+    assert_eq!(rt; shown(alloc, &buffer)?.as_str(), "a    \n     \nb   c\n");
+    assert_eq!(rt; block.inner(Rect::new(0, 0, 5, 3)), Rect::new(0, 1, 5, 1));
+    Ok(())
+}
+
+#[test]
+fn borders_join(rt: HostRuntime) -> Result<(), Fail> {
+    let alloc = rt.alloc();
+    let block = Block::bordered(alloc).merge_borders(MergeStrategy::Exact);
+    let mut buffer = blank(alloc, 5, 3)?;
+    block.render(alloc, Rect::new(0, 0, 3, 3), &mut buffer)?;
+    block.render(alloc, Rect::new(2, 0, 3, 3), &mut buffer)?;
+    assert_eq!(rt; shown(alloc, &buffer)?.as_str(), "┌─┬─┐\n│ │ │\n└─┴─┘\n");
+    Ok(())
+}
+
+#[test]
+fn blocks_are_built_and_copied(rt: HostRuntime) -> Result<(), Fail> {
+    let alloc = rt.alloc();
+    let bold = Style::new().add_modifier(Modifier::BOLD);
+    let block = titled(alloc, Alignment::Left)?
+        .title_style(bold)
+        .border_style(bold)
+        .style(bold)
+        .borders(Borders::TOP | Borders::LEFT)
+        .border_type(BorderType::Rounded)
+        .padding(Padding::new(2, 3, 1, 2))
+        .shadow(Shadow::dimmed());
+    assert!(rt; block.clone()? == block);
+    assert!(rt; Styled::style(&block) == bold);
+    assert_eq!(rt; block.horizontal_space(), (3, 3));
+    assert_eq!(rt; block.vertical_space(), (2, 2));
+    let area = Rect::new(1, 1, 10, 6);
+    assert_eq!(rt; block.inner(area), Rect::new(4, 3, 4, 2));
+    assert_eq!(rt; Some(block).inner_if_some(area), Rect::new(4, 3, 4, 2));
+    assert_eq!(rt; None.inner_if_some(area), area);
+    let plain = Block::new(alloc)
+        .borders(Borders::all())
+        .border_set(symbols::ROUNDED)
+        .set_style(bold);
+    assert!(rt; plain == Block::bordered(alloc).border_type(BorderType::Rounded).style(bold));
+    Ok(())
+}
+
+fn writes(alloc: Global, borders: Borders, text: &str) -> Mem<bool> {
+    Ok(format!(in alloc; "{borders:?}")?.as_str() == text)
+}
+
+#[test]
+fn sets_of_borders(rt: HostRuntime) -> Result<(), Fail> {
+    let alloc = rt.alloc();
+    assert!(rt; writes(alloc, border!(TOP, BOTTOM), "TOP | BOTTOM")?);
+    assert!(rt; writes(alloc, border!(), "NONE")?);
+    assert!(rt; writes(alloc, border!(LEFT, RIGHT, TOP, BOTTOM), "ALL")?);
+    assert!(rt; Borders::from_bits(10) == Some(Borders::RIGHT | Borders::LEFT));
+    assert!(rt; Borders::from_bits(16) == None);
+    let sides = border!(TOP, LEFT);
+    assert_eq!(rt; sides.bits(), 9);
+    assert!(rt; sides.contains(Borders::TOP) && !sides.contains(Borders::ALL));
+    assert!(rt; sides.intersects(border!(LEFT, RIGHT)) && !sides.intersects(Borders::RIGHT));
+    assert!(rt; sides.union(border!(RIGHT, BOTTOM)).is_all() && !sides.is_all());
+    assert!(rt; Borders::empty().is_empty() && !sides.is_empty());
+    assert!(rt; Borders::default() == Borders::NONE);
+    Ok(())
+}
+
+#[test]
+fn paddings(rt: HostRuntime) {
+    let cases = [
+        (Padding::zero(), (0, 0, 0, 0)),
+        (Padding::default(), (0, 0, 0, 0)),
+        (Padding::horizontal(3), (3, 3, 0, 0)),
+        (Padding::vertical(3), (0, 0, 3, 3)),
+        (Padding::uniform(3), (3, 3, 3, 3)),
+        (Padding::from(3), (3, 3, 3, 3)),
+        (Padding::proportional(3), (6, 6, 3, 3)),
+        (Padding::proportional(40000), (65535, 65535, 40000, 40000)),
+        (Padding::symmetric(1, 2), (1, 1, 2, 2)),
+        (Padding::left(3), (3, 0, 0, 0)),
+        (Padding::right(3), (0, 3, 0, 0)),
+        (Padding::top(3), (0, 0, 3, 0)),
+        (Padding::bottom(3), (0, 0, 0, 3)),
+    ];
+    for (padding, (left, right, top, bottom)) in cases {
+        assert_eq!(rt; padding, Padding::new(left, right, top, bottom));
+    }
+    assert!(rt; Padding::left(1) > Padding::new(0, 9, 9, 9));
+}
+
+#[test]
+fn names(rt: HostRuntime) -> Result<(), Fail> {
+    let alloc = rt.alloc();
+    for kind in [BorderType::default(), BorderType::LightQuadrupleDashed] {
+        let name = format!(in alloc; "{kind}")?;
+        assert!(rt; BorderType::from_str(name.as_str()) == Ok(kind));
+    }
+    assert!(rt; BorderType::from_str("") == Err(ParseError::VariantNotFound));
+    let name = format!(in alloc; "{}", TitlePosition::default())?;
+    assert_eq!(rt; name.as_str(), "Top");
+    assert!(rt; TitlePosition::from_str("Bottom") == Ok(TitlePosition::Bottom));
+    assert!(rt; BorderType::border_symbols(BorderType::Double) == symbols::DOUBLE);
+    Ok(())
+}
