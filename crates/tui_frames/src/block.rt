@@ -1,6 +1,6 @@
 //! Frames with titles round an area.
 
-ghost use Rattle.std.specs.Prelude.{◌≡◌, [], ◌∷◌, ◌++◌, true, IfOk, None, OnErr, OnOk, Some};
+ghost use Rattle.std.specs.Prelude.{◌≡◌, [], ◌∷◌, ◌++◌, true, IfOk, None, map, OnErr, OnOk, Some};
 ghost use Rattle.tui_cells.specs.Symbols.{border_data};
 ghost use Rattle.tui_frames.specs.Block.{block_data, block_of, title_data};
 ghost use Rattle.tui_frames.specs.BorderType.{symbols_of};
@@ -14,7 +14,7 @@ mod space;
 mod title;
 mod titles;
 
-use crate::block::title::Title;
+pub use crate::block::title::Title;
 use crate::border_type::BorderType;
 use crate::borders::Borders;
 use crate::padding::Padding;
@@ -126,6 +126,13 @@ impl<'a> Block<'a> {
             titles.push(title.clone()?)?;
         }
         Ok(Block { titles, ..*self })
+    }
+
+    /// Puts these titles in place of the old ones.
+    pub fn titles(self, titles: Vec<Title<'a>>) -> Block<'a>
+        ensures { block_data result ≡ record (block_data self.entry) { titles = map title_data titles.entry.items } }
+    {
+        Block { titles, ..self }
     }
 
     /// Sets the style under the titles.

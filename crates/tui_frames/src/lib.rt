@@ -13,7 +13,7 @@ pub mod padding;
 pub mod shadow;
 pub mod title_position;
 
-pub use block::Block;
+pub use block::{Block, Title};
 pub use block_ext::{
     BlockExt, beside, clone_if_some, columns_if_some, paint_if_some, rows_if_some,
 };

@@ -8,10 +8,9 @@ use crate::shown::shown;
 use std::alloc::Global;
 use std::str::FromStr;
 use std::test::Fail;
-use tui_cells::border as symbols;
 use tui_cells::{
     Buffer, Color, Mem, MergeStrategy, Modifier, Offset, ParseError, Position, Rect, Style, Styled,
-    Widget,
+    Widget, border as symbols,
 };
 use tui_frames::{
     Block, BlockExt, BorderType, Borders, CellEffect, Dimmed, Padding, Shadow, TitlePosition,
@@ -161,7 +160,12 @@ fn blocks_are_built_and_copied(rt: HostRuntime) -> Result<(), Fail> {
         .borders(Borders::all())
         .border_set(symbols::ROUNDED)
         .set_style(bold);
-    assert!(rt; plain == Block::bordered(alloc).border_type(BorderType::Rounded).style(bold));
+    assert!(rt;
+        plain
+            == Block::bordered(alloc)
+                .border_type(BorderType::Rounded)
+                .style(bold)
+    );
     Ok(())
 }
 

@@ -12,9 +12,11 @@ use tui_text::{Alignment, Line};
 
 /// A line, and the side on which it stands, if it has one of its own.
 #[derive(Debug, PartialEq, Eq, Hash, Drop)]
-pub(crate) struct Title<'a> {
-    pub(crate) line: Line<'a>,
-    pub(crate) position: Option<TitlePosition>,
+pub struct Title<'a> {
+    /// What the title says. Its alignment is that of the title; without one the title has the block's.
+    pub line: Line<'a>,
+    /// The side. Without one the title stands on the side that the block names.
+    pub position: Option<TitlePosition>,
 }
 
 /// Where titles stand: a side, and their alignment there.
@@ -25,7 +27,8 @@ pub(crate) struct Place {
 }
 
 impl<'a> Title<'a> {
-    pub(crate) fn clone(&self) -> Mem<Title<'a>>
+    /// An equal title of its own. `NoMemory` where there is none for its line.
+    pub fn clone(&self) -> Mem<Title<'a>>
         ensures is { IfOk result (λ title. title_data title ≡ title_data self.now) }
         ensures equal { IfOk result (λ title. ⟦<Title<'a> as PartialEq>⟧.eq title self.now ≡ true) }
     {
