@@ -5,14 +5,11 @@ use Rattle.std.proofs.Math.Seq.{drop-cons}
 use Rattle.serde_json.specs.Data.{Data, item}
 use Rattle.serde_json.specs.View.{view, items_view}
 use Rattle.serde_json.specs.declared.value.Value.{Value}
-use Rattle.tui_cells.specs.declared.modifier.Modifier.{Modifier}
-use Rattle.tui_cells.specs.Style.{both_modifiers}
 use Rattle.tui_port.specs.declared.kinds.kind.KindError.{KindError}
 use Rattle.tui_port.specs.declared.kinds.kind.KindError.TheVariants as errors
 use Rattle.tui_port.specs.Kinds.{Reads}
-use Rattle.tui_port.specs.Kinds.Members.{each_of, pair_in}
-use Rattle.tui_port.specs.Kinds.Area.{area_in}
-use Rattle.tui_port.specs.Kinds.Modifier.{modifier_named, modifiers_besides}
+use Rattle.tui_port.specs.Kinds.Members.{each_of, joined_of, pair_in}
+use Rattle.tui_port.specs.Kinds.Number.{four_in}
 
 pub items_view-drop : (vs : List Value) (i : ℕ) (v : Value) → i < length vs → v ≡ get_or vs i v
     → items_view (drop i vs) ≡ item (view v) (items_view (drop (i + 1) vs))
@@ -52,15 +49,16 @@ pub each_end : {A : Type 0} (kind : Data → Option A) (front : List A) (i : ℕ
 unfolding each_of
 each_end {A} kind front i vs le = rw (drop_all i vs le) (ap (λ (xs : List A). Some xs) (append-nil front))
 
-pub modifiers_more : (others : Modifier) (i : ℕ) (vs : List Value) (v : Value) → i < length vs → v ≡ get_or vs i v
-    → modifiers_besides others (items_view (drop i vs))
-    ≡ option_and_then (λ m. modifiers_besides (both_modifiers others m) (items_view (drop (i + 1) vs))) (modifier_named (view v))
-unfolding modifiers_besides
-modifiers_more others i vs v lt e = rw (items_view-drop vs i v lt e) refl
+pub joined_more : {A : Type 0} (join : A → A → A) (kind : Data → Option A) (first : A) (i : ℕ) (vs : List Value) (v : Value) → i < length vs → v ≡ get_or vs i v
+    → joined_of join kind first (items_view (drop i vs))
+    ≡ option_and_then (λ x. joined_of join kind (join first x) (items_view (drop (i + 1) vs))) (kind (view v))
+unfolding joined_of
+joined_more join kind first i vs v lt e = rw (items_view-drop vs i v lt e) refl
 
-pub modifiers_end : (others : Modifier) (i : ℕ) (vs : List Value) → length vs ≤ i → modifiers_besides others (items_view (drop i vs)) ≡ Some others
-unfolding modifiers_besides
-modifiers_end others i vs le = rw (drop_all i vs le) refl
+pub joined_end : {A : Type 0} (join : A → A → A) (kind : Data → Option A) (first : A) (i : ℕ) (vs : List Value) → length vs ≤ i
+    → joined_of join kind first (items_view (drop i vs)) ≡ Some first
+unfolding joined_of
+joined_end join kind first i vs le = rw (drop_all i vs le) refl
 
 -- arrays of another length
 pub pair_other : {A B : Type 0} (first : Data → Option A) (second : Data → Option B) (vs : List Value)
@@ -70,10 +68,10 @@ pair_other first second (a ∷ []) h = refl
 pair_other first second (a ∷ b ∷ []) h = absurd (h refl)
 pair_other first second (a ∷ b ∷ c ∷ vs) h = refl
 
-pub area_other : (vs : List Value) → (length vs ≡ 4 → ⊥) → area_in (items_view vs) ≡ None
-area_other [] h = refl
-area_other (a ∷ []) h = refl
-area_other (a ∷ b ∷ []) h = refl
-area_other (a ∷ b ∷ c ∷ []) h = refl
-area_other (a ∷ b ∷ c ∷ d ∷ []) h = absurd (h refl)
-area_other (a ∷ b ∷ c ∷ d ∷ e ∷ vs) h = refl
+pub four_other : {A : Type 0} (make : ℕ → ℕ → ℕ → ℕ → A) (vs : List Value) → (length vs ≡ 4 → ⊥) → four_in make (items_view vs) ≡ None
+four_other make [] h = refl
+four_other make (a ∷ []) h = refl
+four_other make (a ∷ b ∷ []) h = refl
+four_other make (a ∷ b ∷ c ∷ []) h = refl
+four_other make (a ∷ b ∷ c ∷ d ∷ []) h = absurd (h refl)
+four_other make (a ∷ b ∷ c ∷ d ∷ e ∷ vs) h = refl

@@ -2,6 +2,11 @@
 pub mod Named
 pub mod Names
 pub mod Area
+pub mod Borders
+pub mod Block
+pub mod Shadow
+pub mod Padding
+pub mod Title
 pub mod Color
 pub mod Line
 pub mod Members

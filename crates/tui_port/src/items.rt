@@ -2,7 +2,6 @@
 
 mod fill;
 mod paragraph;
-mod unbuilt;
 mod widget;
 
 ghost use Rattle.serde_json.specs.View.{view};

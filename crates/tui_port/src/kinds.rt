@@ -2,6 +2,8 @@
 
 mod area;
 mod array;
+mod block;
+mod borders;
 mod color;
 mod kind;
 mod line;
@@ -9,10 +11,13 @@ mod member;
 mod modifier;
 mod named;
 mod number;
+mod padding;
+mod shadow;
 mod span;
 mod style;
 mod symbol;
 mod text;
+mod title;
 mod wrap;
 
 pub(crate) use array::elements;

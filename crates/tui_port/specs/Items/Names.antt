@@ -1,5 +1,5 @@
 -- The names of widgets. A name that is not here is refused.
-use Rattle.std.specs.Prelude.{ℕ, List, [], ◌∷◌, Option, None, option_and_then, codes}
+use Rattle.std.specs.Prelude.{ℕ, List, [], ◌∷◌, Option, option_and_then, codes}
 use Rattle.serde_json.specs.Data.{Data}
 use Rattle.serde_json.specs.Find.{as_str}
 use Rattle.tui_port.specs.declared.items.widget.Widget.{Widget}
@@ -11,7 +11,3 @@ widget_names = (codes "clear", Clear) ∷ (codes "fill", Fill) ∷ (codes "parag
 
 unfoldable pub widget_of : Data → Option Widget
 widget_of d = option_and_then (named widget_names) (as_str d)
-
--- the kind of a field that is not built: only absent or null is right
-abbrev pub not_built : Data → Option (Unit {0})
-not_built d = None

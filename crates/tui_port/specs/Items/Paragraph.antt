@@ -8,7 +8,7 @@ use Rattle.tui_text.specs.declared.alignment.Alignment.{Alignment}
 use Rattle.tui_para.specs.declared.wrap.Wrap.{Wrap}
 use Rattle.tui_para.specs.Paragraph.{ParagraphData, paragraph_of as new_paragraph}
 use Rattle.tui_port.specs.declared.field.Field.TheVariants as fields
-use Rattle.tui_port.specs.Items.Names.{not_built}
+use Rattle.tui_port.specs.Kinds.Block.{block_of}
 use Rattle.tui_port.specs.Kinds.Named.{named_of}
 use Rattle.tui_port.specs.Kinds.Names.{alignments}
 use Rattle.tui_port.specs.Kinds.Members.{pair_of}
@@ -35,10 +35,10 @@ paragraph_with text style wrap scroll alignment =
 
 unfoldable pub paragraph_of : Option ℕ → Data → Result ParagraphData Refusal
 paragraph_of i d = do
-  block ← optional not_built i fields.Block d
+  block ← optional block_of i fields.Block d
   style ← optional style_of i fields.Style d
   text ← required text_of i fields.Text d
   wrap ← optional wrap_of i fields.Wrap d
   scroll ← optional (pair_of u16_of u16_of) i fields.Scroll d
   alignment ← optional (named_of alignments) i fields.Alignment d
-  Ok (paragraph_with text style wrap scroll alignment)
+  Ok (record (paragraph_with text style wrap scroll alignment) { block = block })

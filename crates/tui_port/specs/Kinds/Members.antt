@@ -40,6 +40,13 @@ each_of kind (item d ds) = do
 unfoldable pub list_of : {A : Type 0} → (Data → Option A) → Data → Option (List A)
 list_of kind d = option_and_then (each_of kind) (as_array d)
 
+-- the values of an array joined one after another
+unfoldable pub joined_of : {A : Type 0} → (A → A → A) → (Data → Option A) → A → Items → Option A
+joined_of join kind first no_items = Some first
+joined_of join kind first (item d ds) = do
+  x ← kind d
+  joined_of join kind (join first x) ds
+
 abbrev pub pair_in : {A B : Type 0} → (Data → Option A) → (Data → Option B) → Items → Option (A × B)
 pair_in first second (item a (item b no_items)) = do
   x ← first a

@@ -1,10 +1,10 @@
 -- Modifiers: arrays of names.
 use Rattle.std.specs.Prelude.{ℕ, List, [], ◌∷◌, Option, Some, option_and_then, codes}
-use Rattle.serde_json.specs.Data.{Data, Items, no_items, item}
+use Rattle.serde_json.specs.Data.{Data}
 use Rattle.serde_json.specs.Find.{as_array, as_str}
 use Rattle.tui_cells.specs.declared.modifier.Modifier.{Modifier}
 use Rattle.tui_cells.specs.Style.{both_modifiers, no_modifier}
-use Rattle.tui_port.specs.Kinds.Members.{◌>>=◌, named}
+use Rattle.tui_port.specs.Kinds.Members.{◌>>=◌, joined_of, named}
 
 -- the names with the bits that stand for them
 abbrev pub modifier_names : List (List ℕ × ℕ)
@@ -18,12 +18,5 @@ modifier_named d = do
   bits ← named modifier_names name
   Some (record { bits = bits })
 
--- these modifiers besides others
-unfoldable pub modifiers_besides : Modifier → Items → Option Modifier
-modifiers_besides others no_items = Some others
-modifiers_besides others (item d ds) = do
-  modifier ← modifier_named d
-  modifiers_besides (both_modifiers others modifier) ds
-
 unfoldable pub modifiers_of : Data → Option Modifier
-modifiers_of d = option_and_then (modifiers_besides no_modifier) (as_array d)
+modifiers_of d = option_and_then (joined_of both_modifiers modifier_named no_modifier) (as_array d)

@@ -1,5 +1,14 @@
 -- The names that enums are read by.
 use Rattle.std.specs.Prelude.{[], ◌∷◌, refl}
+use Rattle.tui_cells.specs.Strategies as strategy
+use Rattle.tui_cells.specs.declared.merge_strategy.MergeStrategy.{MergeStrategy}
+use Rattle.tui_cells.specs.declared.merge_strategy.MergeStrategy.TheVariants.{Replace, Exact, Fuzzy}
+use Rattle.tui_frames.specs.BorderType as border_type
+use Rattle.tui_frames.specs.TitlePosition as title_position
+use Rattle.tui_frames.specs.declared.border_type.BorderType.{BorderType}
+use Rattle.tui_frames.specs.declared.border_type.BorderType.TheVariants as borders
+use Rattle.tui_frames.specs.declared.title_position.TitlePosition.{TitlePosition}
+use Rattle.tui_frames.specs.declared.title_position.TitlePosition.TheVariants.{Top, Bottom}
 use Rattle.tui_text.specs.Alignment as alignment
 use Rattle.tui_text.specs.declared.alignment.Alignment.{Alignment}
 use Rattle.tui_text.specs.declared.alignment.Alignment.TheVariants.{Left, Center, Right}
@@ -10,4 +19,40 @@ alignments = record {
   name = alignment.name_of;
   values = Left ∷ Center ∷ Right ∷ [];
   found = elim [ Left ↦ refl | Center ↦ refl | Right ↦ refl ];
+}
+
+abbrev pub border_types : Names BorderType
+border_types = record {
+  name = border_type.name_of;
+  values = borders.Plain ∷ borders.Rounded ∷ borders.Double ∷ borders.Thick ∷ borders.LightDoubleDashed ∷ borders.HeavyDoubleDashed
+      ∷ borders.LightTripleDashed ∷ borders.HeavyTripleDashed ∷ borders.LightQuadrupleDashed ∷ borders.HeavyQuadrupleDashed
+      ∷ borders.QuadrantInside ∷ borders.QuadrantOutside ∷ [];
+  found = elim [
+    | borders.Plain ↦ refl
+    | borders.Rounded ↦ refl
+    | borders.Double ↦ refl
+    | borders.Thick ↦ refl
+    | borders.LightDoubleDashed ↦ refl
+    | borders.HeavyDoubleDashed ↦ refl
+    | borders.LightTripleDashed ↦ refl
+    | borders.HeavyTripleDashed ↦ refl
+    | borders.LightQuadrupleDashed ↦ refl
+    | borders.HeavyQuadrupleDashed ↦ refl
+    | borders.QuadrantInside ↦ refl
+    | borders.QuadrantOutside ↦ refl
+  ];
+}
+
+abbrev pub title_positions : Names TitlePosition
+title_positions = record {
+  name = title_position.name_of;
+  values = Top ∷ Bottom ∷ [];
+  found = elim [ Top ↦ refl | Bottom ↦ refl ];
+}
+
+abbrev pub merge_strategies : Names MergeStrategy
+merge_strategies = record {
+  name = strategy.name_of;
+  values = Replace ∷ Exact ∷ Fuzzy ∷ [];
+  found = elim [ Replace ↦ refl | Exact ↦ refl | Fuzzy ↦ refl ];
 }

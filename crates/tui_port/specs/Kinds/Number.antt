@@ -1,7 +1,8 @@
 -- Whole numbers and truth values.
-use Rattle.std.specs.Prelude.{ℕ, Option, Some, None, option_and_then, nat_lt, if◌then◌else◌}
-use Rattle.serde_json.specs.Data.{Data}
-use Rattle.serde_json.specs.Find.{as_number, as_u64}
+use Rattle.std.specs.Prelude.{ℕ, ℤ, pos, negsuc, ◌^◌, Option, Some, None, option_and_then, nat_lt, if◌then◌else◌}
+use Rattle.serde_json.specs.Data.{Data, Items, no_items, item}
+use Rattle.serde_json.specs.Find.{as_i64, as_number, as_u64}
+use Rattle.tui_port.specs.Kinds.Members.{◌>>=◌}
 
 -- a whole number below 2^64; what is written with a fraction or an exponent is none
 abbrev pub u64_of : Data → Option ℕ
@@ -13,3 +14,21 @@ below limit n = if nat_lt n limit then Some n else None
 -- a whole number below 2^16
 unfoldable pub u16_of : Data → Option ℕ
 u16_of d = option_and_then (below 65536) (u64_of d)
+
+-- four numbers below 2^16
+abbrev pub four_in : {A : Type 0} → (ℕ → ℕ → ℕ → ℕ → A) → Items → Option A
+four_in make (item a (item b (item c (item d no_items)))) = do
+  first ← u16_of a
+  second ← u16_of b
+  third ← u16_of c
+  fourth ← u16_of d
+  Some (make first second third fourth)
+four_in make _ = None
+
+abbrev pub in_i32 : ℤ → Option ℤ
+in_i32 (pos n) = if nat_lt n (2 ^ 31) then Some (pos n) else None
+in_i32 (negsuc n) = if nat_lt n (2 ^ 31) then Some (negsuc n) else None
+
+-- a whole number from -2^31 up to 2^31 - 1
+unfoldable pub i32_of : Data → Option ℤ
+i32_of d = option_and_then in_i32 (option_and_then as_i64 (as_number d))

@@ -1,7 +1,8 @@
 //! The fields of `paragraph`.
 
-ghost use Rattle.std.specs.Prelude.{◌≡◌};
+ghost use Rattle.std.specs.Prelude.{◌≡◌, None, option_map};
 ghost use Rattle.serde_json.specs.View.{view};
+ghost use Rattle.tui_frames.specs.Block.{block_data};
 ghost use Rattle.tui_text.specs.Text.{text_data};
 ghost use Rattle.tui_para.specs.Paragraph.{paragraph_data};
 ghost use Rattle.tui_port.specs.Items.Paragraph.{paragraph_of, paragraph_with};
@@ -9,11 +10,11 @@ ghost use Rattle.tui_port.specs.Refusals.{Gives};
 
 use crate::error::SceneError;
 use crate::field::Field;
-use crate::items::unbuilt::Unbuilt;
 use crate::table::{optional, required};
 use serde_json::Value;
 use std::alloc::Global;
 use tui_cells::Style;
+use tui_frames::Block;
 use tui_para::{Paragraph, Wrap};
 use tui_text::{Alignment, Text};
 
@@ -38,6 +39,16 @@ fn paragraph_with<'v>(
     }
 }
 
+fn in_block<'v>(paragraph: Paragraph<'v>, block: Option<Block<'v>>) -> Paragraph<'v>
+    requires { (paragraph_data paragraph).block ≡ None }
+    ensures { paragraph_data result ≡ record (paragraph_data paragraph.entry) { block = option_map block_data block.entry } }
+{
+    match block {
+        Some(block) => paragraph.block(block),
+        None => paragraph,
+    }
+}
+
 #[tactic(auto, unfolding(crate::specs::Items::Paragraph::paragraph_of))]
 pub(crate) fn read_paragraph<'v>(
     alloc: Global,
@@ -46,11 +57,12 @@ pub(crate) fn read_paragraph<'v>(
 ) -> Result<Paragraph<'v>, SceneError>
     ensures { Gives paragraph_data result (paragraph_of item (view value.now)) }
 {
-    let _block: Option<Unbuilt> = optional(alloc, item, Field::Block, value)?;
+    let block: Option<Block<'v>> = optional(alloc, item, Field::Block, value)?;
     let style: Option<Style> = optional(alloc, item, Field::Style, value)?;
     let text: Text<'v> = required(alloc, item, Field::Text, value)?;
     let wrap: Option<Wrap> = optional(alloc, item, Field::Wrap, value)?;
     let scroll: Option<(u16, u16)> = optional(alloc, item, Field::Scroll, value)?;
     let alignment: Option<Alignment> = optional(alloc, item, Field::Alignment, value)?;
-    Ok(paragraph_with(text, style, wrap, scroll, alignment))
+    let paragraph = paragraph_with(text, style, wrap, scroll, alignment);
+    Ok(in_block(paragraph, block))
 }

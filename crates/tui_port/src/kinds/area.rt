@@ -17,7 +17,7 @@ impl<'v> Kind<'v> for Rect {
 
     ghost kind = { area_of };
 
-    #[tactic(auto, using(crate::proofs::Arrays::area_other), unfolding(crate::specs::Kinds::Area::area_of))]
+    #[tactic(auto, using(crate::proofs::Arrays::four_other), unfolding(crate::specs::Kinds::Area::area_of))]
     fn read(alloc: Global, value: &'v Value) -> Result<Rect, KindError> {
         let [x, y, width, height] = elements(value)? else {
             return Err(KindError::WrongKind);

@@ -2,8 +2,9 @@
 
 ghost use Rattle.std.specs.Prelude.{◌≡◌};
 ghost use Rattle.serde_json.specs.View.{view, items_view};
-ghost use Rattle.tui_cells.specs.Style.{no_modifier};
-ghost use Rattle.tui_port.specs.Kinds.Modifier.{modifier_named, modifiers_besides, modifiers_of};
+ghost use Rattle.tui_cells.specs.Style.{both_modifiers, no_modifier};
+ghost use Rattle.tui_port.specs.Kinds.Members.{joined_of};
+ghost use Rattle.tui_port.specs.Kinds.Modifier.{modifier_named, modifiers_of};
 
 use crate::kinds::array::elements;
 use crate::kinds::kind::{Kind, KindError};
@@ -30,7 +31,7 @@ fn named_modifier(value: &Value) -> Option<Modifier>
 }
 
 fn all_modifiers(names: &[Value]) -> Option<Modifier>
-    ensures { result ≡ modifiers_besides no_modifier (items_view names.now) }
+    ensures { result ≡ joined_of both_modifiers modifier_named no_modifier (items_view names.now) }
 {
     let mut modifiers = Modifier::empty();
     for name in names {

@@ -4,13 +4,14 @@ ghost use Rattle.std.specs.Prelude.{◌≡◌, ℕ, List, Result};
 ghost use Rattle.std.specs.Result.{result_ok};
 ghost use Rattle.tui_cells.specs.declared.error.ParseError.{ParseError};
 ghost use Rattle.tui_port.specs.Kinds.Named.{Names, named_of, reads_named, value_named};
-ghost use Rattle.tui_port.specs.Kinds.Names.{alignments};
+ghost use Rattle.tui_port.specs.Kinds.Names.{alignments, border_types, merge_strategies, title_positions};
 
 use crate::kinds::kind::{Kind, KindError};
 use serde_json::Value;
 use std::alloc::Global;
 use std::str::FromStr;
-use tui_cells::ParseError;
+use tui_cells::{MergeStrategy, ParseError};
+use tui_frames::{BorderType, TitlePosition};
 use tui_text::Alignment;
 
 /// An enum that is read by its `FromStr`, from the name of a variant.
@@ -40,4 +41,22 @@ impl Named for Alignment {
     ghost names = { alignments };
 
     ghost reads = { reads_named alignments };
+}
+
+impl Named for BorderType {
+    ghost names = { border_types };
+
+    ghost reads = { reads_named border_types };
+}
+
+impl Named for TitlePosition {
+    ghost names = { title_positions };
+
+    ghost reads = { reads_named title_positions };
+}
+
+impl Named for MergeStrategy {
+    ghost names = { merge_strategies };
+
+    ghost reads = { reads_named merge_strategies };
 }

@@ -38,6 +38,25 @@ impl<'v> Kind<'v> for u16 {
     }
 }
 
+impl<'v> Kind<'v> for i32 {
+    ghost use Rattle.std.specs.Prelude.{ℤ};
+    ghost use Rattle.tui_port.specs.Kinds.Number.{i32_of};
+
+    ghost Seen = { ℤ };
+
+    ghost seen = { λ n. n };
+
+    ghost kind = { i32_of };
+
+    #[tactic(auto, unfolding(crate::specs::Kinds::Number::i32_of))]
+    fn read(_alloc: Global, value: &'v Value) -> Result<i32, KindError> {
+        match value.as_i64() {
+            Some(number) => i32::try_from(number).map_err(|_| KindError::WrongKind),
+            None => Err(KindError::WrongKind),
+        }
+    }
+}
+
 impl<'v> Kind<'v> for bool {
     ghost use Rattle.std.specs.Prelude.{Bool};
     ghost use Rattle.serde_json.specs.Find.{as_bool};
