@@ -43,6 +43,20 @@ def styled():
     return scene(1000, 1000, columns + [paragraph(wide, (508, 0, 492, 1000))])
 
 
+ALL = ["top", "right", "bottom", "left"]
+
+
+def block(area, **fields):
+    return {"widget": "block", "area": list(area), "block": {"borders": ALL, **fields}}
+
+
+def blocks():
+    """250 rounded blocks of 60 by 20 with a title, placed over a screen of 200 by 60."""
+    source = random.Random(4712)
+    places = [(source.randint(0, 140), source.randint(0, 40), 60, 20) for _ in range(250)]
+    return scene(200, 60, [block(place, border_type="Rounded", titles=["Title"]) for place in places])
+
+
 SCENES = {
     "blank": lambda: scene(1000, 1000, []),
     "fill": lambda: scene(1000, 1000, [fill("x")]),
@@ -55,6 +69,8 @@ SCENES = {
     "unwrapped": lambda: scene(1000, 10, [paragraph(words(1_000_000), (0, 0, 1000, 10))]),
     "blanks": lambda: scene(20, 10, [paragraph(" " * 1_000_000, (0, 0, 20, 10), wrap={"trim": True})]),
     "styled": styled,
+    "blocks": blocks,
+    "exact": lambda: scene(1000, 1000, [block((0, 0, 1000, 1000), merge_borders="Exact")]),
 }
 
 

@@ -1,13 +1,15 @@
 -- Items: their fields in order, the first whose test fails being the refusal.
+pub mod Block
 pub mod Fill
 pub mod Paragraph
 pub mod Names
 use Rattle.std.specs.Prelude.{ℕ, ◌+◌, List, [], ◌∷◌, Option, Some, None, Result, Ok, Err}
 use Rattle.serde_json.specs.Data.{Data, Items, no_items, item}
-use Rattle.tui_scene.specs.Item.{ItemData, PlacedData, clear, fill, paragraph, still}
+use Rattle.tui_scene.specs.Item.{ItemData, PlacedData, block, clear, fill, paragraph, still}
 use Rattle.tui_port.specs.declared.field.Field.TheVariants as fields
 use Rattle.tui_port.specs.declared.items.widget.Widget.{Widget}
 use Rattle.tui_port.specs.declared.items.widget.Widget.TheVariants as widgets
+use Rattle.tui_port.specs.Items.Block.{block_in}
 use Rattle.tui_port.specs.Items.Fill.{fill_of}
 use Rattle.tui_port.specs.Items.Paragraph.{paragraph_of}
 use Rattle.tui_port.specs.Items.Names.{widget_of}
@@ -20,6 +22,9 @@ shown_of widgets.Clear i d = Ok (still clear)
 shown_of widgets.Fill i d = do
   x ← fill_of i d
   Ok (still (fill x))
+shown_of widgets.Block i d = do
+  x ← block_in i d
+  Ok (still (block x))
 shown_of widgets.Paragraph i d = do
   x ← paragraph_of i d
   Ok (still (paragraph x))

@@ -1,5 +1,6 @@
 //! Items: a widget and its area, each widget read by the fields of its table in order.
 
+mod block;
 mod fill;
 mod paragraph;
 mod widget;
@@ -11,6 +12,7 @@ ghost use Rattle.tui_port.specs.Refusals.{Gives};
 
 use crate::error::SceneError;
 use crate::field::Field;
+use crate::items::block::read_block;
 use crate::items::fill::read_fill;
 use crate::items::paragraph::read_paragraph;
 use crate::items::widget::Widget;
@@ -31,6 +33,7 @@ fn read_shown<'v>(
     Ok(match widget {
         Widget::Clear => Item::Clear(Clear),
         Widget::Fill => Item::Fill(read_fill(alloc, item, value)?),
+        Widget::Block => Item::Block(read_block(alloc, item, value)?),
         Widget::Paragraph => Item::Paragraph(read_paragraph(alloc, item, value)?),
     })
 }

@@ -5,7 +5,9 @@ use Rattle.tui_cells.specs.Rect.{intersection_of, is_empty}
 use Rattle.tui_cells.specs.Buffer.{Screen}
 use Rattle.tui_cells.specs.Drawing.{Drawing, Moving}
 use Rattle.tui_cells.specs.Layers.{Layer, StayIn}
+use Rattle.tui_frames.specs.Block.{BlockData, block_data}
 use Rattle.tui_frames.specs.Clear.{clear_drawing}
+use Rattle.tui_frames.specs.Drawing.{block_drawing}
 use Rattle.tui_frames.specs.Fill.{FillData, fill_data, fill_drawing}
 use Rattle.tui_para.specs.Drawing.{paragraph_drawing}
 use Rattle.tui_para.specs.Paragraph.{ParagraphData, paragraph_data}
@@ -17,6 +19,7 @@ use Rattle.tui_scene.specs.declared.placed.Placed.{Placed}
 pub data StillData : Type 0 where
   clear : StillData
   fill : FillData → StillData
+  block : BlockData → StillData
   paragraph : ParagraphData → StillData
 
 -- a widget, with its state where it has one
@@ -26,11 +29,13 @@ pub data ItemData : Type 0 where
 abbrev pub item_data : Item → ItemData
 item_data (items.Clear _) = still clear
 item_data (items.Fill f) = still (fill (fill_data f))
+item_data (items.Block b) = still (block (block_data b))
 item_data (items.Paragraph p) = still (paragraph (paragraph_data p))
 
 abbrev pub still_drawing : StillData → Drawing
 still_drawing clear = clear_drawing
 still_drawing (fill f) = fill_drawing f
+still_drawing (block b) = block_drawing b
 still_drawing (paragraph p) = paragraph_drawing p
 
 -- what a widget is to a scene, over the clip that it is given

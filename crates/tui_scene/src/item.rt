@@ -6,7 +6,7 @@ ghost use Rattle.tui_cells.specs.Rect.{intersection_of, is_empty};
 
 use std::alloc::Global;
 use tui_cells::{Buffer, Mem, Rect, Widget};
-use tui_frames::{Clear, Fill};
+use tui_frames::{Block, Clear, Fill};
 use tui_para::Paragraph;
 
 /// A widget of any kind, with its state where it has one.
@@ -14,6 +14,7 @@ use tui_para::Paragraph;
 pub enum Item<'a> {
     Clear(Clear),
     Fill(Fill<'a>),
+    Block(Block<'a>),
     Paragraph(Paragraph<'a>),
 }
 
@@ -35,6 +36,7 @@ impl<'a> Item<'a> {
         match &*self {
             Item::Clear(clear) => clear.render(alloc, area, buf),
             Item::Fill(fill) => fill.render(alloc, area, buf),
+            Item::Block(block) => block.render(alloc, area, buf),
             Item::Paragraph(paragraph) => paragraph.render(alloc, area, buf),
         }
     }

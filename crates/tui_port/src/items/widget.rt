@@ -9,6 +9,7 @@ use std::alloc::Global;
 pub(crate) enum Widget {
     Clear,
     Fill,
+    Block,
     Paragraph,
 }
 
@@ -27,6 +28,7 @@ impl<'v> Kind<'v> for Widget {
         match value.as_str() {
             Some("clear") => Ok(Widget::Clear),
             Some("fill") => Ok(Widget::Fill),
+            Some("block") => Ok(Widget::Block),
             Some("paragraph") => Ok(Widget::Paragraph),
             _ => Err(KindError::WrongKind),
         }
