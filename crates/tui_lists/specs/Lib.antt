@@ -1,0 +1,10 @@
+pub mod ListDirection
+pub mod ListState
+pub mod ListItem
+pub mod Items
+pub mod List
+pub mod ListStrokes
+pub mod ListSettles
+pub mod ListStays
+pub mod ListDrawing
+pub mod Laws

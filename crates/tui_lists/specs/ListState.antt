@@ -1,0 +1,23 @@
+-- The state of a list, and what is written through it.
+use Rattle.std.specs.Prelude.{ℕ, Option, None}
+use Rattle.std.specs.contracts.option.Option.{the_row as OptionOf}
+use Rattle.std.specs.Borrow.{Fml, Lends, MutBor, usize}
+use Rattle.tui_lists.specs.declared.list.state.ListState.{ListState}
+use Rattle.tui_lists.specs.contracts.list.state.ListState.{the_row}
+
+-- the state of a list that begins at its first item and has none selected
+abbrev pub at_rest : ListState
+at_rest = record { offset = 0; selected = None }
+
+abbrev pub with_offset : ListState → ℕ → ListState
+with_offset s offset = record s { offset = offset }
+
+abbrev pub with_selected : ListState → Option ℕ → ListState
+with_selected s selected = record s { selected = selected }
+
+-- the state ends with what is last written behind the reference
+abbrev pub LendsOffset : MutBor ListState → MutBor ℕ → Fml
+LendsOffset s r = Lends the_row usize s r (with_offset s.now)
+
+abbrev pub LendsSelected : MutBor ListState → MutBor (Option ℕ) → Fml
+LendsSelected s r = Lends the_row (OptionOf usize) s r (with_selected s.now)

@@ -1,0 +1,196 @@
+//! Lists.
+
+ghost use Rattle.std.specs.Prelude.{◌≡◌, IfOk, OnErr, OnOk, Some, length, map, option_map, true, ◌==◌};
+ghost use Rattle.tui_frames.specs.Block.{block_data};
+ghost use Rattle.tui_lists.specs.List.{list_data, list_of};
+ghost use Rattle.tui_lists.specs.ListItem.{list_item_data};
+ghost use Rattle.tui_text.specs.Line.{line_data};
+
+pub mod item;
+pub mod items;
+mod rendering;
+pub mod state;
+
+use crate::direction::ListDirection;
+use crate::list::item::ListItem;
+use crate::list::items::Items;
+use std::alloc::Global;
+use tui_cells::{Mem, Style, Styled};
+use tui_frames::{Block, clone_if_some};
+use tui_layout::HighlightSpacing;
+use tui_text::Line;
+
+/// Items one below the other, of which one may be selected. What a drawing begins with, and what it leaves for the next one, is
+/// kept in a `ListState`: the list scrolls as far as it has to for the selected item to be seen, and no further.
+#[derive(Debug, PartialEq, Eq, Hash, Drop)]
+pub struct List<'a> {
+    block: Option<Block<'a>>,
+    items: Items<'a>,
+    highlight_symbol: Option<Line<'a>>,
+    style: Style,
+    highlight_style: Style,
+    repeat_highlight_symbol: bool,
+    highlight_spacing: HighlightSpacing,
+    direction: ListDirection,
+    scroll_padding: usize,
+}
+
+impl<'a> List<'a> {
+    /// A list of these items from the top downwards, without a block, styles and a highlight symbol. `NoMemory` where there is none
+    /// for the sums of the items' heights.
+    pub fn new(alloc: Global, items: Vec<ListItem<'a>>) -> Mem<List<'a>>
+        ensures { IfOk result (λ list. list_data list ≡ list_of (map list_item_data items.entry.items)) }
+    {
+        Ok(List {
+            block: None,
+            items: Items::new(alloc, items)?,
+            highlight_symbol: None,
+            style: Style::new(),
+            highlight_style: Style::new(),
+            repeat_highlight_symbol: false,
+            highlight_spacing: HighlightSpacing::WhenSelected,
+            direction: ListDirection::TopToBottom,
+            scroll_padding: 0,
+        })
+    }
+
+    /// Puts these items in place of the old ones. At `NoMemory` the list is as before, and the new items are gone.
+    pub fn items(&mut self, items: Vec<ListItem<'a>>) -> Mem<()>
+        ensures ok { OnOk result (list_data self.new ≡ record (list_data self.old) { items = map list_item_data items.entry.items }) }
+        ensures err { OnErr result (list_data self.new ≡ list_data self.old) }
+    {
+        let alloc = *items.allocator();
+        self.items = Items::new(alloc, items)?;
+        Ok(())
+    }
+
+    /// Puts a block around the items, which then have the area inside.
+    pub fn block(self, block: Block<'a>) -> List<'a>
+        ensures { list_data result ≡ record (list_data self.entry) { block = Some (block_data block.entry) } }
+    {
+        List {
+            block: Some(block),
+            ..self
+        }
+    }
+
+    /// Sets the style under all.
+    pub fn style(self, style: Style) -> List<'a>
+        ensures { list_data result ≡ record (list_data self.entry) { style = style } }
+    {
+        List { style, ..self }
+    }
+
+    /// Sets what stands at the left of the selected item, by the line's alignment, else at the left of its columns.
+    pub fn highlight_symbol(self, symbol: Line<'a>) -> List<'a>
+        ensures { list_data result ≡ record (list_data self.entry) { symbol = Some (line_data symbol.entry) } }
+    {
+        List {
+            highlight_symbol: Some(symbol),
+            ..self
+        }
+    }
+
+    /// Sets the style over the rows of the selected item.
+    pub fn highlight_style(self, style: Style) -> List<'a>
+        ensures { list_data result ≡ record (list_data self.entry) { highlight_style = style } }
+    {
+        List {
+            highlight_style: style,
+            ..self
+        }
+    }
+
+    /// Sets whether the symbol stands in each row of the selected item, and not in its first row alone.
+    pub fn repeat_highlight_symbol(self, repeat: bool) -> List<'a>
+        ensures { list_data result ≡ record (list_data self.entry) { repeats = repeat } }
+    {
+        List {
+            repeat_highlight_symbol: repeat,
+            ..self
+        }
+    }
+
+    /// Sets when the columns of the symbol are kept free.
+    pub fn highlight_spacing(self, spacing: HighlightSpacing) -> List<'a>
+        ensures { list_data result ≡ record (list_data self.entry) { spacing = spacing } }
+    {
+        List {
+            highlight_spacing: spacing,
+            ..self
+        }
+    }
+
+    /// Sets the edge from which the items follow one another.
+    pub fn direction(self, direction: ListDirection) -> List<'a>
+        ensures { list_data result ≡ record (list_data self.entry) { direction = direction } }
+    {
+        List { direction, ..self }
+    }
+
+    /// Sets how many items are to be seen on each side of the selected one, as far as there are so many and they fit.
+    pub fn scroll_padding(self, padding: usize) -> List<'a>
+        ensures { list_data result ≡ record (list_data self.entry) { padding = padding } }
+    {
+        List {
+            scroll_padding: padding,
+            ..self
+        }
+    }
+
+    /// The number of items.
+    pub fn len(&self) -> usize
+        ensures { result ≡ length (list_data self.now).items }
+    {
+        self.items.len()
+    }
+
+    /// Whether there are no items.
+    pub fn is_empty(&self) -> bool
+        ensures { result ≡ (length (list_data self.now).items == 0) }
+    {
+        self.items.len() == 0
+    }
+
+    /// An equal list of its own. `NoMemory` where there is none for the items, or for the titles of the block.
+    pub fn clone(&self) -> Mem<List<'a>>
+        ensures is { IfOk result (λ list. list_data list ≡ list_data self.now) }
+        ensures equal { IfOk result (λ list. ⟦<List<'a> as PartialEq>⟧.eq list self.now ≡ true) }
+    {
+        Ok(List {
+            block: clone_if_some(&self.block)?,
+            items: self.items.clone()?,
+            highlight_symbol: clone_symbol(&self.highlight_symbol)?,
+            style: self.style,
+            highlight_style: self.highlight_style,
+            repeat_highlight_symbol: self.repeat_highlight_symbol,
+            highlight_spacing: self.highlight_spacing,
+            direction: self.direction,
+            scroll_padding: self.scroll_padding,
+        })
+    }
+}
+
+fn clone_symbol<'a>(symbol: &Option<Line<'a>>) -> Mem<Option<Line<'a>>>
+    ensures is { IfOk result (λ copy. option_map line_data copy ≡ option_map line_data symbol.now) }
+    ensures equal { IfOk result (λ copy. ⟦<Option<Line<'a>> as PartialEq>⟧.eq copy symbol.now ≡ true) }
+{
+    match symbol {
+        None => Ok(None),
+        Some(symbol) => Ok(Some(symbol.clone()?)),
+    }
+}
+
+impl<'a> Styled for List<'a> {
+    ghost style_of = { λ list. list.style };
+
+    ghost with_style = { λ list style. record list { style = style } };
+
+    fn style(&self) -> Style {
+        self.style
+    }
+
+    fn set_style(self, style: Style) -> List<'a> {
+        List { style, ..self }
+    }
+}

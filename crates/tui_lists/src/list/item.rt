@@ -1,0 +1,75 @@
+//! Items of a list.
+
+ghost use Rattle.std.specs.Prelude.{◌≡◌, IfOk, true};
+ghost use Rattle.tui_cells.specs.Style.{no_style};
+ghost use Rattle.tui_lists.specs.ListItem.{item_height, list_item_data};
+ghost use Rattle.tui_text.specs.Text.{text_data};
+ghost use Rattle.tui_text.specs.Width.{saturated, text_width};
+
+use tui_cells::{Mem, Style, Styled};
+use tui_text::Text;
+
+/// A text of a list, with a style under the text's. It has a row for each line of the text.
+#[derive(Debug, PartialEq, Eq, Hash, Drop)]
+pub struct ListItem<'a> {
+    pub(crate) content: Text<'a>,
+    pub(crate) style: Style,
+}
+
+impl<'a> ListItem<'a> {
+    /// An item without a style.
+    pub fn new(content: Text<'a>) -> ListItem<'a>
+        ensures { list_item_data result ≡ record { content = text_data content.entry; style = no_style } }
+    {
+        ListItem {
+            content,
+            style: Style::new(),
+        }
+    }
+
+    /// Sets the style under the text's style.
+    pub fn style(self, style: Style) -> ListItem<'a>
+        ensures { list_item_data result ≡ record (list_item_data self.entry) { style = style } }
+    {
+        ListItem { style, ..self }
+    }
+
+    /// The number of its lines, and so of its rows.
+    pub fn height(&self) -> usize
+        ensures { result ≡ item_height (list_item_data self.now) }
+    {
+        self.content.height()
+    }
+
+    /// The columns of its widest line, 0 without lines.
+    pub fn width(&self) -> usize
+        ensures { result ≡ saturated (text_width (list_item_data self.now).content) }
+    {
+        self.content.width()
+    }
+
+    /// An equal item of its own. `NoMemory` where there is none for the text.
+    pub fn clone(&self) -> Mem<ListItem<'a>>
+        ensures is { IfOk result (λ item. list_item_data item ≡ list_item_data self.now) }
+        ensures equal { IfOk result (λ item. ⟦<ListItem<'a> as PartialEq>⟧.eq item self.now ≡ true) }
+    {
+        Ok(ListItem {
+            content: self.content.clone()?,
+            style: self.style,
+        })
+    }
+}
+
+impl<'a> Styled for ListItem<'a> {
+    ghost style_of = { λ item. item.style };
+
+    ghost with_style = { λ item style. record item { style = style } };
+
+    fn style(&self) -> Style {
+        self.style
+    }
+
+    fn set_style(self, style: Style) -> ListItem<'a> {
+        ListItem { style, ..self }
+    }
+}
