@@ -6,4 +6,5 @@ pub mod Numbered
 pub mod Outside
 pub mod RowLemmas
 pub mod RunLemmas
+pub mod StateLines
 pub mod Unique

@@ -150,9 +150,9 @@ one_text (row ∷ rows) number text other a b =
 pub print_exists : (screen : Screen) (placed : List PlacedData) → (text : List ℕ) × IsPrint screen placed text
 print_exists screen placed =
     let runs = lines_exist screen.rows 0 in
-    (flat_map row_line screen.rows ++ (runs.0 ++ state_lines placed), record { runs = runs.0; are_runs = runs.1; parts = refl })
+    (flat_map row_line screen.rows ++ (runs.0 ++ state_lines 0 placed), record { runs = runs.0; are_runs = runs.1; parts = refl })
 
 pub one_print : (screen : Screen) (placed : List PlacedData) (text other : List ℕ) → IsPrint screen placed text → IsPrint screen placed other → other ≡ text
 one_print screen placed text other a b =
     let runs : b.runs ≡ a.runs = one_text screen.rows 0 a.runs b.runs a.are_runs b.are_runs in
-    b.parts ∙ (ap (λ (l : List ℕ). flat_map row_line screen.rows ++ (l ++ state_lines placed)) runs ∙ sym a.parts)
+    b.parts ∙ (ap (λ (l : List ℕ). flat_map row_line screen.rows ++ (l ++ state_lines 0 placed)) runs ∙ sym a.parts)

@@ -1,16 +1,18 @@
 -- Items: their fields in order, the first whose test fails being the refusal.
 pub mod Block
 pub mod Fill
+pub mod ListFields
 pub mod Paragraph
 pub mod Names
 use Rattle.std.specs.Prelude.{ℕ, ◌+◌, List, [], ◌∷◌, Option, Some, None, Result, Ok, Err}
 use Rattle.serde_json.specs.Data.{Data, Items, no_items, item}
-use Rattle.tui_scene.specs.Item.{ItemData, PlacedData, block, clear, fill, paragraph, still}
+use Rattle.tui_scene.specs.Item.{ItemData, PlacedData, block, clear, fill, list, paragraph, still}
 use Rattle.tui_port.specs.declared.field.Field.TheVariants as fields
 use Rattle.tui_port.specs.declared.items.widget.Widget.{Widget}
 use Rattle.tui_port.specs.declared.items.widget.Widget.TheVariants as widgets
 use Rattle.tui_port.specs.Items.Block.{block_in}
 use Rattle.tui_port.specs.Items.Fill.{fill_of}
+use Rattle.tui_port.specs.Items.ListFields.{shown_list}
 use Rattle.tui_port.specs.Items.Paragraph.{paragraph_of}
 use Rattle.tui_port.specs.Items.Names.{widget_of}
 use Rattle.tui_port.specs.Kinds.Area.{area_of}
@@ -28,6 +30,9 @@ shown_of widgets.Block i d = do
 shown_of widgets.Paragraph i d = do
   x ← paragraph_of i d
   Ok (still (paragraph x))
+shown_of widgets.List i d = do
+  x ← shown_list i d
+  Ok (list x.0 x.1)
 
 -- the item of number i
 unfoldable pub item_of : ℕ → Data → Result PlacedData Refusal

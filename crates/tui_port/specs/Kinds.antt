@@ -9,6 +9,7 @@ pub mod Padding
 pub mod Title
 pub mod Color
 pub mod Line
+pub mod ListItem
 pub mod Members
 pub mod Modifier
 pub mod Number

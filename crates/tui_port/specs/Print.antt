@@ -1,11 +1,11 @@
 -- The print of a screen, in bytes.
-use Rattle.std.specs.Prelude.{◌≡◌, ℕ, zero, suc, ◌+◌, ◌-◌, ◌/◌, ◌%◌, max, List, [], ◌∷◌, ◌++◌, codes, decimal, flat_map, slice_index_or}
+use Rattle.std.specs.Prelude.{◌≡◌, ℕ, zero, suc, ◌+◌, ◌-◌, ◌/◌, ◌%◌, max, List, [], ◌∷◌, ◌++◌, codes, decimal, flat_map, slice_index_or, Option, None, Some}
 use Rattle.tui_cells.specs.declared.color.Color.{Color}
 use Rattle.tui_cells.specs.declared.color.Color.TheVariants as colors
 use Rattle.tui_cells.specs.Cell.{Look}
 use Rattle.tui_cells.specs.Buffer.{Screen}
 use Rattle.tui_text.specs.Grapheme.{width_of}
-use Rattle.tui_scene.specs.Item.{PlacedData}
+use Rattle.tui_scene.specs.Item.{ItemData, PlacedData, list, still}
 use Rattle.tui_port.specs.Runs.{StyleRun, AreStyleRuns}
 
 -- the end of a line
@@ -71,12 +71,31 @@ AreRunLines number (row ∷ rows) text =
     (runs : List StyleRun) × (rest : List ℕ) × AreStyleRuns row runs × AreRunLines (number + 1) rows rest
     × (text ≡ flat_map (run_line number) runs ++ rest)
 
--- the lines of the widgets' states: no widget so far has a state
-abbrev pub state_lines : List PlacedData → List ℕ
-state_lines placed = []
+-- a place, or `-` for none
+abbrev pub place_text : Option ℕ → List ℕ
+place_text None = codes "-"
+place_text (Some place) = decimal place
+
+-- the line of a state: `t`, the widget's number in the scene and its name, where it begins, and two selected places
+unfoldable pub state_text : ℕ → List ℕ → ℕ → Option ℕ → Option ℕ → List ℕ
+state_text number name start row column = codes "t " ++ (decimal number
+    ++ (codes " " ++ (name
+    ++ (codes " " ++ (decimal start
+    ++ (codes " " ++ (place_text row
+    ++ (codes " " ++ (place_text column ++ newline)))))))))
+
+-- the line of a widget with a state
+abbrev pub state_line : ℕ → ItemData → List ℕ
+state_line number (still w) = []
+state_line number (list l s) = state_text number (codes "list") s.offset s.selected None
+
+-- the lines of widgets, which are numbered from the first one's number on
+unfoldable pub state_lines : ℕ → List PlacedData → List ℕ
+state_lines number [] = []
+state_lines number (p ∷ ps) = state_line number p.item ++ state_lines (number + 1) ps
 
 -- The print of a buffer and of the widgets that were drawn: the rows, the runs of the rows, and the states.
 pub record IsPrint (screen : Screen) (placed : List PlacedData) (text : List ℕ) : Type 0 where
   pub runs : List ℕ
   pub are_runs : AreRunLines 0 screen.rows runs
-  pub parts : text ≡ flat_map row_line screen.rows ++ (runs ++ state_lines placed)
+  pub parts : text ≡ flat_map row_line screen.rows ++ (runs ++ state_lines 0 placed)

@@ -2,6 +2,7 @@
 
 mod block;
 mod fill;
+mod list;
 mod paragraph;
 mod widget;
 
@@ -14,6 +15,7 @@ use crate::error::SceneError;
 use crate::field::Field;
 use crate::items::block::read_block;
 use crate::items::fill::read_fill;
+use crate::items::list::read_list;
 use crate::items::paragraph::read_paragraph;
 use crate::items::widget::Widget;
 use crate::table::required;
@@ -35,6 +37,10 @@ fn read_shown<'v>(
         Widget::Fill => Item::Fill(read_fill(alloc, item, value)?),
         Widget::Block => Item::Block(read_block(alloc, item, value)?),
         Widget::Paragraph => Item::Paragraph(read_paragraph(alloc, item, value)?),
+        Widget::List => {
+            let (list, state) = read_list(alloc, item, value)?;
+            Item::List(list, state)
+        }
     })
 }
 

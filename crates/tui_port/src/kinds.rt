@@ -7,6 +7,7 @@ mod borders;
 mod color;
 mod kind;
 mod line;
+mod list_item;
 mod member;
 mod modifier;
 mod named;

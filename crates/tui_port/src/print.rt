@@ -6,6 +6,7 @@ ghost use Rattle.tui_port.specs.Print.{IsPrint};
 
 mod rows;
 mod runs;
+mod states;
 mod steps;
 mod words;
 
@@ -16,8 +17,8 @@ use tui_scene::Scene;
 
 /// Writes the print of a buffer and of the scene that was drawn into it: a line `r` and the symbols for each row, a line
 /// `s row column cells foreground background modifiers` for each longest run of neighbouring cells that have equal colours
-/// and modifiers and are not at rest. No widget has a state so far. `WriteFault`: the sink has taken the first bytes, but not
-/// all of them. Takes no memory.
+/// and modifiers and are not at rest, and a line `t item widget offset selected column` for each widget with a state.
+/// `WriteFault`: the sink has taken the first bytes, but not all of them. Takes no memory.
 pub fn write_screen<K: Sink>(
     buf: &Buffer,
     scene: &Scene<'_>,
@@ -33,12 +34,13 @@ pub fn write_screen<K: Sink>(
     }
 }
 
-fn put_screen<K: Sink>(buf: &Buffer, _scene: &Scene<'_>, sink: &mut K) -> bool
-    ensures { (text : List ℕ) × IsPrint buf.now _scene.now text
+fn put_screen<K: Sink>(buf: &Buffer, scene: &Scene<'_>, sink: &mut K) -> bool
+    ensures { (text : List ℕ) × IsPrint buf.now scene.now text
         × Puts (K.held sink.old) (K.held sink.new) (K.faults sink.old) (K.faults sink.new) true result text }
 {
     let mut gather = Gather::new();
     rows::put_rows(&mut gather, buf, sink);
     runs::put_runs(&mut gather, buf, sink);
+    states::put_states(&mut gather, scene, sink);
     gather.end(sink)
 }

@@ -1,5 +1,6 @@
 -- The widgets of a scene: what each is to the scene, and where.
 use Rattle.std.specs.Prelude.{◌≡◌, refl, ℕ, Bool, true, false, List}
+use Rattle.std.proofs.Common.{ap}
 use Rattle.tui_cells.specs.declared.rect.Rect.{Rect}
 use Rattle.tui_cells.specs.Rect.{intersection_of, is_empty}
 use Rattle.tui_cells.specs.Buffer.{Screen}
@@ -9,6 +10,9 @@ use Rattle.tui_frames.specs.Block.{BlockData, block_data}
 use Rattle.tui_frames.specs.Clear.{clear_drawing}
 use Rattle.tui_frames.specs.Drawing.{block_drawing}
 use Rattle.tui_frames.specs.Fill.{FillData, fill_data, fill_drawing}
+use Rattle.tui_lists.specs.List.{ListData, list_data}
+use Rattle.tui_lists.specs.ListDrawing.{list_moving}
+use Rattle.tui_lists.specs.declared.list.state.ListState.{ListState}
 use Rattle.tui_para.specs.Drawing.{paragraph_drawing}
 use Rattle.tui_para.specs.Paragraph.{ParagraphData, paragraph_data}
 use Rattle.tui_scene.specs.declared.item.Item.{Item}
@@ -25,12 +29,19 @@ pub data StillData : Type 0 where
 -- a widget, with its state where it has one
 pub data ItemData : Type 0 where
   still : StillData → ItemData
+  list : ListData → ListState → ItemData
 
 abbrev pub item_data : Item → ItemData
 item_data (items.Clear _) = still clear
 item_data (items.Fill f) = still (fill (fill_data f))
 item_data (items.Block b) = still (block (block_data b))
 item_data (items.Paragraph p) = still (paragraph (paragraph_data p))
+item_data (items.List l s) = list (list_data l) s
+
+-- a list with this state
+abbrev pub with_list_state : ListState → ItemData → ItemData
+with_list_state after (list l s) = list l after
+with_list_state after item = item
 
 abbrev pub still_drawing : StillData → Drawing
 still_drawing clear = clear_drawing
@@ -76,6 +87,7 @@ with_state {S = S} item m s = record {
 
 abbrev pub item_drawing : ItemData → ItemDrawing
 item_drawing (still w) = without_state (still w) (still_drawing w)
+item_drawing (list l s) = with_state (list l) (list_moving l) s
 
 -- over an empty clip a widget rests, and drawn again over the same clip it keeps the state that the first drawing left
 pub record Lasts (item : ItemData) (clip : Rect) : Type 0 where
@@ -84,6 +96,10 @@ pub record Lasts (item : ItemData) (clip : Rect) : Type 0 where
 
 pub item_lasts : (item : ItemData) (clip : Rect) → Lasts item clip
 item_lasts (still w) clip = record { rests = λ e. refl; settles = refl }
+item_lasts (list l s) clip = record {
+  rests = λ e. ap (list l) ((list_moving l).rests s clip e);
+  settles = ap (list l) ((list_moving l).settles s clip);
+}
 
 -- a widget and its area
 pub record PlacedData : Type 0 where

@@ -5,8 +5,9 @@ ghost use Rattle.tui_cells.specs.Layers.{KeptOutside, Painted};
 ghost use Rattle.tui_cells.specs.Rect.{intersection_of, is_empty};
 
 use std::alloc::Global;
-use tui_cells::{Buffer, Mem, Rect, Widget};
+use tui_cells::{Buffer, Mem, Rect, StatefulWidget, Widget};
 use tui_frames::{Block, Clear, Fill};
+use tui_lists::{List, ListState};
 use tui_para::Paragraph;
 
 /// A widget of any kind, with its state where it has one.
@@ -16,10 +17,11 @@ pub enum Item<'a> {
     Fill(Fill<'a>),
     Block(Block<'a>),
     Paragraph(Paragraph<'a>),
+    List(List<'a>, ListState),
 }
 
 impl<'a> Item<'a> {
-    ghost use Rattle.tui_scene.specs.Item.{item_data, item_drawing};
+    ghost use Rattle.tui_scene.specs.Item.{item_data, item_drawing, with_list_state};
 
     /// Draws the widget in its area, and leaves its state moved. At NoMemory the item is as before.
     pub(crate) fn render(&mut self, alloc: Global, area: Rect, buf: &mut Buffer) -> Mem<()>
@@ -38,6 +40,21 @@ impl<'a> Item<'a> {
             Item::Fill(fill) => fill.render(alloc, area, buf),
             Item::Block(block) => block.render(alloc, area, buf),
             Item::Paragraph(paragraph) => paragraph.render(alloc, area, buf),
+            Item::List(list, state) => {
+                let mut after = *state;
+                StatefulWidget::render(list, alloc, area, buf, &mut after)?;
+                self.set_list_state(after);
+                Ok(())
+            }
+        }
+    }
+
+    /// Puts another state in place of a list's.
+    fn set_list_state(&mut self, after: ListState)
+        ensures { item_data self.new ≡ with_list_state after (item_data self.old) }
+    {
+        if let Item::List(_, state) = self {
+            *state = after;
         }
     }
 }

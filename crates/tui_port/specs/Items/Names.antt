@@ -3,11 +3,12 @@ use Rattle.std.specs.Prelude.{ℕ, List, [], ◌∷◌, Option, option_and_then,
 use Rattle.serde_json.specs.Data.{Data}
 use Rattle.serde_json.specs.Find.{as_str}
 use Rattle.tui_port.specs.declared.items.widget.Widget.{Widget}
-use Rattle.tui_port.specs.declared.items.widget.Widget.TheVariants.{Block, Clear, Fill, Paragraph}
+use Rattle.tui_port.specs.declared.items.widget.Widget.TheVariants as widgets
 use Rattle.tui_port.specs.Kinds.Members.{named}
 
 abbrev pub widget_names : List (List ℕ × Widget)
-widget_names = (codes "clear", Clear) ∷ (codes "fill", Fill) ∷ (codes "block", Block) ∷ (codes "paragraph", Paragraph) ∷ []
+widget_names = (codes "clear", widgets.Clear) ∷ (codes "fill", widgets.Fill) ∷ (codes "block", widgets.Block)
+    ∷ (codes "paragraph", widgets.Paragraph) ∷ (codes "list", widgets.List) ∷ []
 
 unfoldable pub widget_of : Data → Option Widget
 widget_of d = option_and_then (named widget_names) (as_str d)

@@ -9,6 +9,12 @@ use Rattle.tui_frames.specs.declared.border_type.BorderType.{BorderType}
 use Rattle.tui_frames.specs.declared.border_type.BorderType.TheVariants as borders
 use Rattle.tui_frames.specs.declared.title_position.TitlePosition.{TitlePosition}
 use Rattle.tui_frames.specs.declared.title_position.TitlePosition.TheVariants.{Top, Bottom}
+use Rattle.tui_layout.specs.HighlightSpacing as highlight_spacing
+use Rattle.tui_layout.specs.declared.highlight_spacing.HighlightSpacing.{HighlightSpacing}
+use Rattle.tui_layout.specs.declared.highlight_spacing.HighlightSpacing.TheVariants.{Always, WhenSelected, Never}
+use Rattle.tui_lists.specs.ListDirection as list_direction
+use Rattle.tui_lists.specs.declared.direction.ListDirection.{ListDirection}
+use Rattle.tui_lists.specs.declared.direction.ListDirection.TheVariants.{TopToBottom, BottomToTop}
 use Rattle.tui_text.specs.Alignment as alignment
 use Rattle.tui_text.specs.declared.alignment.Alignment.{Alignment}
 use Rattle.tui_text.specs.declared.alignment.Alignment.TheVariants.{Left, Center, Right}
@@ -55,4 +61,18 @@ merge_strategies = record {
   name = strategy.name_of;
   values = Replace ∷ Exact ∷ Fuzzy ∷ [];
   found = elim [ Replace ↦ refl | Exact ↦ refl | Fuzzy ↦ refl ];
+}
+
+abbrev pub highlight_spacings : Names HighlightSpacing
+highlight_spacings = record {
+  name = highlight_spacing.name_of;
+  values = Always ∷ WhenSelected ∷ Never ∷ [];
+  found = elim [ Always ↦ refl | WhenSelected ↦ refl | Never ↦ refl ];
+}
+
+abbrev pub list_directions : Names ListDirection
+list_directions = record {
+  name = list_direction.name_of;
+  values = TopToBottom ∷ BottomToTop ∷ [];
+  found = elim [ TopToBottom ↦ refl | BottomToTop ↦ refl ];
 }

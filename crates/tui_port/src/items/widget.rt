@@ -11,6 +11,7 @@ pub(crate) enum Widget {
     Fill,
     Block,
     Paragraph,
+    List,
 }
 
 impl<'v> Kind<'v> for Widget {
@@ -30,6 +31,7 @@ impl<'v> Kind<'v> for Widget {
             Some("fill") => Ok(Widget::Fill),
             Some("block") => Ok(Widget::Block),
             Some("paragraph") => Ok(Widget::Paragraph),
+            Some("list") => Ok(Widget::List),
             _ => Err(KindError::WrongKind),
         }
     }

@@ -4,7 +4,7 @@ ghost use Rattle.std.specs.Prelude.{◌≡◌, ℕ, List, Result};
 ghost use Rattle.std.specs.Result.{result_ok};
 ghost use Rattle.tui_cells.specs.declared.error.ParseError.{ParseError};
 ghost use Rattle.tui_port.specs.Kinds.Named.{Names, named_of, reads_named, value_named};
-ghost use Rattle.tui_port.specs.Kinds.Names.{alignments, border_types, merge_strategies, title_positions};
+ghost use Rattle.tui_port.specs.Kinds.Names.{alignments, border_types, highlight_spacings, list_directions, merge_strategies, title_positions};
 
 use crate::kinds::kind::{Kind, KindError};
 use serde_json::Value;
@@ -12,6 +12,8 @@ use std::alloc::Global;
 use std::str::FromStr;
 use tui_cells::{MergeStrategy, ParseError};
 use tui_frames::{BorderType, TitlePosition};
+use tui_layout::HighlightSpacing;
+use tui_lists::ListDirection;
 use tui_text::Alignment;
 
 /// An enum that is read by its `FromStr`, from the name of a variant.
@@ -59,4 +61,16 @@ impl Named for MergeStrategy {
     ghost names = { merge_strategies };
 
     ghost reads = { reads_named merge_strategies };
+}
+
+impl Named for HighlightSpacing {
+    ghost names = { highlight_spacings };
+
+    ghost reads = { reads_named highlight_spacings };
+}
+
+impl Named for ListDirection {
+    ghost names = { list_directions };
+
+    ghost reads = { reads_named list_directions };
 }

@@ -8,6 +8,7 @@ use serde_json::Value;
 use std::alloc::Global;
 
 /// A text of at most 32 bytes without control characters.
+#[derive(Drop)]
 pub(crate) struct Symbol<'v>(pub &'v str);
 
 fn is_control(c: char) -> bool
