@@ -1,3 +1,4 @@
 pub mod ListItems
 pub mod ListMoved
 pub mod ListShown
+pub mod TabsPainted

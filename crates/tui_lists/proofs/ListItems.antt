@@ -11,7 +11,8 @@ use Rattle.tui_cells.specs.Layers.{Painted, stroke}
 use Rattle.tui_cells.proofs.Painting.{Painted-none, Painted-then}
 use Rattle.tui_lists.specs.List.{ListData}
 use Rattle.tui_lists.specs.ListItem.{ListItemData, heights_of, item_height}
-use Rattle.tui_lists.specs.ListStrokes.{gutter_layers, gutter_of, is_at, item_layers, items_layers, mark_layers, row_of}
+use Rattle.tui_lists.specs.ListStrokes.{gutter_layers, gutter_of, item_layers, items_layers, mark_layers, row_of}
+use Rattle.tui_lists.specs.Selection.{is_at}
 use Rattle.tui_text.specs.Painting.{text_layers}
 use Rattle.tui_text.proofs.Elements.{on_ok}
 

@@ -1,4 +1,5 @@
 pub mod ListDirection
+pub mod Selection
 pub mod ListState
 pub mod ListItem
 pub mod Items
@@ -7,4 +8,7 @@ pub mod ListStrokes
 pub mod ListSettles
 pub mod ListStays
 pub mod ListDrawing
+pub mod Tabs
+pub mod TabsStrokes
+pub mod TabsDrawing
 pub mod Laws

@@ -1,11 +1,10 @@
 -- The strokes of a list stay in its footprint.
 use Rattle.std.specs.Prelude.{ℕ, zero, suc, ◌+◌, ◌-◌, ◌==◌, ◌&&◌, ◌||◌, min, max, Bool, true, false, List, [], ◌∷◌, drop, length, Option, None, Some, unwrap_or, if◌then◌else◌}
 use Rattle.tui_cells.specs.declared.rect.Rect.{Rect}
-use Rattle.tui_cells.specs.declared.style.Style.{Style}
 use Rattle.tui_cells.specs.Cell.{dress, put, space}
-use Rattle.tui_cells.specs.Layers.{Layer, StayIn, stroke}
+use Rattle.tui_cells.specs.Layers.{Layer, StayIn}
 use Rattle.tui_cells.specs.Rect.{columns_from, covers, rows_from}
-use Rattle.tui_cells.specs.Stays.{StayIn-append, StayIn-none, StayIn-over, StayIn-stroke}
+use Rattle.tui_cells.specs.Stays.{StayIn-append, StayIn-none, StayIn-over}
 use Rattle.tui_cells.specs.Style.{no_style, patched}
 use Rattle.tui_cells.proofs.Regions.{StayIn-wider, columns_out, rows_out}
 use Rattle.tui_frames.specs.Footprint.{footprint_if}
@@ -14,14 +13,12 @@ use Rattle.tui_frames.proofs.InBlock.{block_stays_if, clip_stays, inner_stays}
 use Rattle.tui_layout.specs.Window.{cut_selection}
 use Rattle.tui_lists.specs.List.{ListData, list_window}
 use Rattle.tui_lists.specs.ListItem.{ListItemData, heights_of, item_height}
-use Rattle.tui_lists.specs.ListStrokes.{content_layers, gutter_layers, gutter_of, is_at, item_layers, items_layers, list_layers, mark_layers, row_of, symbol_layers}
+use Rattle.tui_lists.specs.ListStrokes.{content_layers, gutter_layers, gutter_of, item_layers, items_layers, list_layers, mark_layers, row_of, symbol_layers}
+use Rattle.tui_lists.specs.Selection.{dress_stays, highlight_stays, is_at}
 use Rattle.tui_lists.specs.declared.list.state.ListState.{ListState}
 use Rattle.tui_text.specs.Line.{LineData}
 use Rattle.tui_text.specs.declared.alignment.Alignment.TheVariants.{Left}
 use Rattle.tui_text.proofs.RowStays.{row_stays, text_stays}
-
-pub dress_stays : (area : Rect) (style : Style) → StayIn (covers area) (stroke (covers area) (dress style))
-dress_stays area style = StayIn-stroke (covers area) (dress style) (λ x y out. out)
 
 -- what stays in a part of the rows, or of the columns, stays in the whole
 pub in_rows : (area : Rect) (from count : ℕ) {ls : List Layer} → StayIn (covers (rows_from area from count)) ls → StayIn (covers area) ls
@@ -44,10 +41,6 @@ gutter_stays l is_selected gutter j zero = StayIn-none
 gutter_stays l is_selected gutter j (suc n) =
     StayIn-append (in_rows gutter j 1 (mark_stays l (is_selected && ((j == 0) || l.repeats)) (rows_from gutter j 1)))
     (gutter_stays l is_selected gutter (j + 1) n)
-
-highlight_stays : (rows : Rect) (style : Style) (is_selected : Bool) → StayIn (covers rows) (if is_selected then stroke (covers rows) (dress style) else [])
-highlight_stays rows style true = dress_stays rows style
-highlight_stays rows style false = StayIn-none
 
 pub item_stays : (l : ListData) (g : ℕ) (rows : Rect) (is_selected : Bool) (item : ListItemData) → StayIn (covers rows) (item_layers l g rows is_selected item)
 unfolding item_layers

@@ -10,6 +10,7 @@ use Rattle.tui_layout.specs.HighlightSpacing.{should_add}
 use Rattle.tui_layout.specs.Window.{cut_selection}
 use Rattle.tui_lists.specs.List.{ListData, list_window}
 use Rattle.tui_lists.specs.ListItem.{ListItemData, heights_of, item_height}
+use Rattle.tui_lists.specs.Selection.{is_at}
 use Rattle.tui_lists.specs.declared.direction.ListDirection.{ListDirection}
 use Rattle.tui_lists.specs.declared.direction.ListDirection.TheVariants.{TopToBottom, BottomToTop}
 use Rattle.tui_lists.specs.declared.list.state.ListState.{ListState}
@@ -17,11 +18,6 @@ use Rattle.tui_text.specs.Line.{LineData}
 use Rattle.tui_text.specs.Painting.{row_layers, text_layers}
 use Rattle.tui_text.specs.Width.{line_width}
 use Rattle.tui_text.specs.declared.alignment.Alignment.TheVariants.{Left}
-
--- whether item i is the selected one
-abbrev pub is_at : Option ℕ → ℕ → Bool
-is_at None i = false
-is_at (Some s) i = s == i
 
 -- the columns of a symbol, at most 65535
 abbrev pub symbol_columns : Option LineData → ℕ

@@ -10,12 +10,13 @@ ghost use Rattle.tui_layout.specs.Window.{cut_selection};
 ghost use Rattle.tui_lists.specs.List.{list_after, list_data};
 ghost use Rattle.tui_lists.specs.ListDrawing.{IsLightItem, IsLightList, IsLightSymbol, list_drawing, list_moving};
 ghost use Rattle.tui_lists.specs.ListItem.{heights_of, list_item_data};
-ghost use Rattle.tui_lists.specs.ListStrokes.{content_layers, gutter_layers, gutter_of, is_at, item_layers, items_layers, list_layers, mark_layers, row_of};
+ghost use Rattle.tui_lists.specs.ListStrokes.{content_layers, gutter_layers, gutter_of, item_layers, items_layers, list_layers, mark_layers, row_of};
 
 use crate::direction::ListDirection;
 use crate::list::List;
 use crate::list::item::ListItem;
 use crate::list::state::ListState;
+use crate::painting::{dress_if, is_at};
 use std::alloc::Global;
 use tui_cells::{Buffer, Mem, Rect, StatefulWidget, Style, Widget};
 use tui_frames::{BlockExt, paint_if_some};
@@ -241,24 +242,6 @@ impl<'a> Widget for List<'a> {
     fn render(&self, alloc: Global, area: Rect, buf: &mut Buffer) -> Mem<()> {
         let mut state = ListState::default();
         StatefulWidget::render(self, alloc, area, buf, &mut state)
-    }
-}
-
-fn dress_if(is_asked: bool, buf: &mut Buffer, area: Rect, style: Style)
-    ensures ok { Painted (if is_asked then stroke (covers area) (dress style) else []) buf.old buf.new }
-    ensures kept { KeptOutside (covers area) buf.old buf.new }
-{
-    if is_asked {
-        buf.set_style(area, style);
-    }
-}
-
-fn is_at(selected: Option<usize>, i: usize) -> bool
-    ensures { result ≡ is_at selected i }
-{
-    match selected {
-        None => false,
-        Some(selected) => selected == i,
     }
 }
 

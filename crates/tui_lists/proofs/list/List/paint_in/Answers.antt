@@ -4,7 +4,8 @@ use Rattle.tui_frames.specs.InBlock.{inner_of}
 use Rattle.tui_frames.proofs.InBlock.{clip_kept, inner_empty, inner_kept, nowhere_if}
 use Rattle.tui_lists.specs.List.{list_data}
 use Rattle.tui_lists.specs.ListSettles.{list_rests}
-use Rattle.tui_lists.specs.ListStays.{dress_stays, list_stays}
+use Rattle.tui_lists.specs.ListStays.{list_stays}
+use Rattle.tui_lists.specs.Selection.{dress_stays}
 use Rattle.tui_text.proofs.Elements.{on_ok}
 use Rattle.tui_lists.proofs.list.List.paint_in.Goals as goal
 
