@@ -10,9 +10,9 @@ use tui_text::Text;
 /// A text in one column of a table, or across several.
 #[derive(Debug, PartialEq, Eq, Hash, Drop)]
 pub struct Cell<'a> {
-    content: Text<'a>,
-    style: Style,
-    column_span: u16,
+    pub(crate) content: Text<'a>,
+    pub(crate) style: Style,
+    pub(crate) column_span: u16,
 }
 
 impl<'a> Cell<'a> {
@@ -62,13 +62,6 @@ impl<'a> Cell<'a> {
             style: self.style,
             column_span: self.column_span,
         })
-    }
-
-    /// The columns that the cell asks for.
-    pub(crate) fn span(&self) -> u16
-        ensures { result ≡ (cell_data self.now).span }
-    {
-        self.column_span
     }
 }
 

@@ -2,6 +2,8 @@
 #![tactic(auto)]
 
 pub mod cell;
+mod cells;
+pub mod laws;
 pub mod row;
 mod rows;
 pub mod state;
@@ -10,6 +12,7 @@ mod widths;
 pub mod widths_error;
 
 pub use cell::Cell;
+pub use laws::table_laws;
 pub use row::Row;
 pub use state::TableState;
 pub use table::Table;

@@ -7,6 +7,9 @@ ghost use Rattle.tui_table.specs.Table.{table_data, table_of};
 ghost use Rattle.tui_table.specs.Widths.{first_above};
 ghost use Rattle.tui_text.specs.Text.{text_data};
 
+mod areas;
+mod rendering;
+
 use crate::row::Row;
 use crate::rows::Rows;
 use crate::widths::{checked, clone_widths};
