@@ -1,0 +1,4 @@
+pub mod InColumns
+pub mod RowLists
+pub mod Contents
+pub mod Moving

@@ -1,0 +1,12 @@
+pub mod Cell
+pub mod Row
+pub mod State
+pub mod Table
+pub mod Widths
+pub mod Areas
+pub mod Moves
+pub mod Strokes
+pub mod Stays
+pub mod Settles
+pub mod Drawing
+pub mod Laws

@@ -1,0 +1,37 @@
+-- Rows of a table as plain data.
+use Rattle.std.specs.Prelude.{ℕ, ◌+◌, max, List, fold, length, map}
+use Rattle.tui_cells.specs.Style.{no_style}
+use Rattle.tui_cells.specs.declared.style.Style.{Style}
+use Rattle.tui_table.specs.Cell.{CellData, cell_data}
+use Rattle.tui_table.specs.declared.row.Row.{Row}
+
+pub record RowData : Type 0 where
+  pub cells : List CellData
+  pub height : ℕ
+  pub top_margin : ℕ
+  pub bottom_margin : ℕ
+  pub style : Style
+
+abbrev pub row_data : Row → RowData
+row_data r = record {
+  cells = map cell_data r.cells.items;
+  height = r.height;
+  top_margin = r.top_margin;
+  bottom_margin = r.bottom_margin;
+  style = r.style;
+}
+
+-- cells in one row of the screen, without margins and a style of their own
+abbrev pub row_of : List CellData → RowData
+row_of cells = record { cells = cells; height = 1; top_margin = 0; bottom_margin = 0; style = no_style }
+
+-- the rows of the screen that a row takes, both margins included
+abbrev pub row_height : RowData → ℕ
+row_height r = r.top_margin + r.height + r.bottom_margin
+
+abbrev pub heights_of : List RowData → List ℕ
+heights_of rows = map row_height rows
+
+-- the most cells of any row, 0 without rows
+abbrev pub most_cells : List RowData → ℕ
+most_cells rows = fold max 0 (map (λ r. length r.cells) rows)

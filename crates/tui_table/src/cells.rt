@@ -1,0 +1,105 @@
+//! Cells in columns.
+
+ghost use Rattle.std.specs.Prelude.{◌≡◌, ◌+◌, ◌-◌, ◌*◌, ◌<◌, ◌^◌, OnOk, length, map, min, sum_by};
+ghost use Rattle.tui_cells.specs.Layers.{KeptOutside, Painted};
+ghost use Rattle.tui_cells.specs.Rect.{columns_from, covers};
+ghost use Rattle.tui_table.specs.Areas.{area_in};
+ghost use Rattle.tui_table.specs.Cell.{cell_data};
+ghost use Rattle.tui_table.specs.Row.{row_data};
+ghost use Rattle.tui_table.specs.Strokes.{cell_layers, cells_layers, span_in, text_over};
+ghost use Rattle.tui_text.specs.Text.{text_data};
+
+use crate::cell::Cell;
+use crate::row::Row;
+use tui_cells::{Buffer, Mem, Rect, Style};
+use tui_layout::Segment;
+use tui_text::{Text, paint_rows};
+
+/// A style on an area, and a text over it.
+#[tactic(auto, unfolding(crate::specs::Strokes::text_over))]
+pub(crate) fn paint_over(buf: &mut Buffer, area: Rect, style: Style, text: &Text<'_>) -> Mem<()>
+    ensures ok { OnOk result (Painted (text_over area style (text_data text.now)) buf.old buf.new) }
+    ensures kept { KeptOutside (covers area) buf.old buf.new }
+{
+    buf.set_style(area, style);
+    paint_rows(buf, area, text)
+}
+
+/// The columns of the screen that some columns and the spacing between two take, cut at 65535.
+fn width_over(columns: &[Segment], spacing: u16) -> u16
+    requires { 0 < length columns.now }
+    ensures { result ≡ min (sum_by (λ c. c.width) columns.now + spacing * (length columns.now - 1)) 65535 }
+{
+    let mut width = 0u128;
+    for column in columns {
+        width += u128::from(column.width);
+    }
+    let between = u128::from(spacing) * ((columns.len() - 1) as u128);
+    (width + between).min(65535) as u16
+}
+
+/// The part of an area from a column on, counted from behind the highlight symbol's.
+pub(crate) fn part_of(area: Rect, gutter: u16, start: u16, width: u16) -> Rect
+    ensures { result ≡ columns_from area (gutter + start) width }
+{
+    area.columns_from(gutter.saturating_add(start), width)
+}
+
+/// A cell in its columns: from the first of them, as wide as all of them and the spacing between.
+fn paint_cell(
+    buf: &mut Buffer,
+    area: Rect,
+    gutter: u16,
+    spacing: u16,
+    columns: &[Segment],
+    cell: &Cell<'_>,
+) -> Mem<()>
+    ensures ok { OnOk result (Painted (cell_layers area gutter spacing columns.now (cell_data cell.now)) buf.old buf.new) }
+    ensures kept { KeptOutside (covers area) buf.old buf.new }
+{
+    if columns.is_empty() {
+        return Ok(());
+    }
+    let width = width_over(columns, spacing);
+    let part = part_of(area, gutter, columns[0].start, width);
+    paint_over(buf, part, cell.style, &cell.content)
+}
+
+/// How many columns a cell asks for: in a header or a footer one, whatever its span.
+fn span_in(is_edge: bool, cell: &Cell<'_>) -> u16
+    ensures { result ≡ span_in is_edge (cell_data cell.now) }
+{
+    if is_edge { 1 } else { cell.column_span }
+}
+
+/// Cells in order, each in the next columns, as many as it asks for.
+pub(crate) fn paint_cells(
+    buf: &mut Buffer,
+    area: Rect,
+    gutter: u16,
+    spacing: u16,
+    is_edge: bool,
+    columns: &[Segment],
+    cells: &[Cell<'_>],
+) -> Mem<()>
+    ensures ok { OnOk result (Painted (cells_layers area gutter spacing is_edge columns.now (map cell_data cells.now)) buf.old buf.new) }
+    ensures kept { KeptOutside (covers area) buf.old buf.new }
+{
+    let mut used = 0usize;
+    'cells: for i in 0..cells.len() {
+        let cell = &cells[i];
+        let end = used + usize::from(span_in(is_edge, cell)).min(columns.len() - used);
+        paint_cell(buf, area, gutter, spacing, &columns[used..end], cell)?;
+        used = end;
+    }
+    Ok(())
+}
+
+/// The area of a row behind so many rows of another area.
+pub(crate) fn area_in(rect: Rect, from: u128, row: &Row<'_>) -> Rect
+    requires { from < 2 ^ 100 }
+    ensures { result ≡ area_in rect from (row_data row.now) }
+{
+    let top = from + u128::from(row.top_margin);
+    rect.rows_from(top.min(65535) as u16, row.height)
+}

@@ -1,0 +1,19 @@
+//! Tables of rows and columns.
+#![tactic(auto)]
+
+pub mod cell;
+mod cells;
+pub mod laws;
+pub mod row;
+mod rows;
+pub mod state;
+pub mod table;
+mod widths;
+pub mod widths_error;
+
+pub use cell::Cell;
+pub use laws::table_laws;
+pub use row::Row;
+pub use state::TableState;
+pub use table::Table;
+pub use widths_error::WidthsError;

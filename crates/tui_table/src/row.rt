@@ -1,0 +1,112 @@
+//! Rows of a table.
+
+ghost use Rattle.std.specs.Prelude.{◌≡◌, ◌≤◌, IfOk, map, true};
+ghost use Rattle.tui_table.specs.Cell.{cell_data};
+ghost use Rattle.tui_table.specs.Row.{row_data, row_height, row_of};
+
+use crate::cell::Cell;
+use tui_cells::{Mem, Style, Styled};
+
+/// Cells side by side, with free rows above and below.
+#[derive(Debug, PartialEq, Eq, Hash, Drop)]
+pub struct Row<'a> {
+    pub(crate) cells: Vec<Cell<'a>>,
+    pub(crate) height: u16,
+    pub(crate) top_margin: u16,
+    pub(crate) bottom_margin: u16,
+    pub(crate) style: Style,
+}
+
+impl<'a> Row<'a> {
+    /// A row of these cells, one row of the screen high, without margins and a style of its own.
+    pub fn new(cells: Vec<Cell<'a>>) -> Row<'a>
+        ensures { row_data result ≡ row_of (map cell_data cells.entry.items) }
+    {
+        Row {
+            cells,
+            height: 1,
+            top_margin: 0,
+            bottom_margin: 0,
+            style: Style::new(),
+        }
+    }
+
+    /// Puts these cells in place of the old ones.
+    pub fn cells(self, cells: Vec<Cell<'a>>) -> Row<'a>
+        ensures { row_data result ≡ record (row_data self.entry) { cells = map cell_data cells.entry.items } }
+    {
+        Row { cells, ..self }
+    }
+
+    /// Sets the height in rows of the screen, without the margins.
+    pub fn height(self, height: u16) -> Row<'a>
+        ensures { row_data result ≡ record (row_data self.entry) { height = height } }
+    {
+        Row { height, ..self }
+    }
+
+    /// Sets how many rows of the screen are left free above.
+    pub fn top_margin(self, margin: u16) -> Row<'a>
+        ensures { row_data result ≡ record (row_data self.entry) { top_margin = margin } }
+    {
+        Row {
+            top_margin: margin,
+            ..self
+        }
+    }
+
+    /// Sets how many rows of the screen are left free below.
+    pub fn bottom_margin(self, margin: u16) -> Row<'a>
+        ensures { row_data result ≡ record (row_data self.entry) { bottom_margin = margin } }
+    {
+        Row {
+            bottom_margin: margin,
+            ..self
+        }
+    }
+
+    /// Sets the style under the cells.
+    pub fn style(self, style: Style) -> Row<'a>
+        ensures { row_data result ≡ record (row_data self.entry) { style = style } }
+    {
+        Row { style, ..self }
+    }
+
+    /// An equal row of its own. `NoMemory` where there is none for the cells.
+    pub fn clone(&self) -> Mem<Row<'a>>
+        ensures is { IfOk result (λ row. row_data row ≡ row_data self.now) }
+        ensures equal { IfOk result (λ row. ⟦<Row<'a> as PartialEq>⟧.eq row self.now ≡ true) }
+    {
+        let mut cells = Vec::with_capacity(*self.cells.allocator(), self.cells.len())?;
+        for cell in &self.cells {
+            cells.push(cell.clone()?)?;
+        }
+        Ok(Row { cells, ..*self })
+    }
+
+    /// The rows of the screen that it takes, both margins included.
+    pub(crate) fn outer_height(&self) -> u32
+        ensures rows { result ≡ row_height (row_data self.now) }
+        ensures small { result ≤ 196605 }
+    {
+        // Each is read first: so its range is known where the sum is formed.
+        let above = self.top_margin;
+        let height = self.height;
+        let below = self.bottom_margin;
+        u32::from(above) + u32::from(height) + u32::from(below)
+    }
+}
+
+impl<'a> Styled for Row<'a> {
+    ghost style_of = { λ row. row.style };
+
+    ghost with_style = { λ row style. record row { style = style } };
+
+    fn style(&self) -> Style {
+        self.style
+    }
+
+    fn set_style(self, style: Style) -> Row<'a> {
+        Row { style, ..self }
+    }
+}

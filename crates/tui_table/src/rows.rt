@@ -1,0 +1,149 @@
+//! The rows of a table with what is known of all of them.
+
+ghost use Rattle.std.specs.Prelude.{◌≡◌, ◌≤◌, IfOk, OnErr, OnOk, length, map, true};
+ghost use Rattle.std.specs.Cmp.Lexicographic.{lists_equiv, lists_per, pointwise};
+ghost use Rattle.std.specs.Hash as fed;
+ghost use Rattle.std.specs.Hash.{items_Alike};
+ghost use Rattle.tui_layout.specs.Found.{window_of};
+ghost use Rattle.tui_table.specs.Row.{heights_of, most_cells, row_data};
+ghost use Rattle.tui_table.specs.contracts.row.RowEq.TheImpl.Laws as rows_equal;
+ghost use Rattle.tui_table.specs.contracts.row.RowHash.TheImpl.Laws as rows_hash;
+ghost use Rattle.tui_table.specs.contracts.row.RowPartialEq.TheImpl.Laws as rows_agree;
+
+use crate::row::Row;
+use std::fmt;
+use std::hash::{Hash, Hasher};
+use std::marker::Model;
+use tui_cells::Mem;
+use tui_layout::{Sums, Window, uncounted_window};
+
+/// Rows, the sums of their heights, and the most cells of any of them. The last two follow from the rows, so they count neither in
+/// a comparison nor in a hash, and `Debug` leaves them out.
+#[derive(Drop)]
+pub struct Rows<'a> {
+    rows: Vec<Row<'a>>,
+    heights: Sums,
+    most: usize,
+}
+
+impl<'a> Model for Rows<'a> {
+    ghost use Rattle.std.specs.Prelude.{◌≡◌, List, map};
+    ghost use Rattle.tui_table.specs.Row.{heights_of, most_cells, row_data};
+    ghost use Rattle.tui_table.specs.declared.row.Row.{Row};
+
+    ghost Value = { List Row };
+
+    ghost view = { λ r. r.rows.items };
+
+    ghost invariant = { λ r. (r.heights ≡ heights_of (map row_data r.rows.items)) × (r.most ≡ most_cells (map row_data r.rows.items)) };
+}
+
+impl<'a> Rows<'a> {
+    /// These rows. `NoMemory` where there is none for the sums of their heights.
+    pub(crate) fn new(rows: Vec<Row<'a>>) -> Mem<Rows<'a>>
+        ensures { IfOk result (λ kept. kept ≡ rows.entry.items) }
+    {
+        let heights = heights_of(&rows)?;
+        let most = most_cells(&rows);
+        Ok(Rows {
+            rows,
+            heights,
+            most,
+        })
+    }
+
+    /// Puts these rows in place of the old ones. At `NoMemory` the old ones stay.
+    pub(crate) fn replace(&mut self, rows: Vec<Row<'a>>) -> Mem<()>
+        ensures ok { OnOk result (self.new ≡ rows.entry.items) }
+        ensures err { OnErr result (self.new ≡ self.old) }
+    {
+        let heights = heights_of(&rows)?;
+        self.most = most_cells(&rows);
+        self.heights = heights;
+        self.rows = rows;
+        Ok(())
+    }
+
+    pub(crate) fn as_slice(&self) -> &[Row<'a>]
+        ensures { result.now ≡ self.now }
+    {
+        &self.rows
+    }
+
+    /// The most cells of any row, 0 where there is none.
+    pub(crate) fn most_cells(&self) -> usize
+        ensures { result ≡ most_cells (map row_data self.now) }
+    {
+        self.most
+    }
+
+    /// The rows that are shown in so many rows of the screen.
+    pub(crate) fn window(&self, room: u16, offset: usize, selected: Option<usize>) -> Window
+        ensures found { result ≡ window_of (heights_of (map row_data self.now)) room offset selected 0 }
+        ensures order { (result.first ≤ result.end) × (result.end ≤ length self.now) }
+    {
+        uncounted_window(&self.heights, u64::from(room), offset, selected, 0)
+    }
+
+    /// Equal rows of their own. `NoMemory` where there is none for them.
+    pub(crate) fn clone(&self) -> Mem<Rows<'a>>
+        ensures is { IfOk result (λ rows. map row_data rows ≡ map row_data self.now) }
+        ensures equal { IfOk result (λ rows. ⟦<Rows<'a> as PartialEq>⟧.eq rows self.now ≡ true) }
+    {
+        let mut rows = Vec::with_capacity(*self.rows.allocator(), self.rows.len())?;
+        for row in &self.rows {
+            rows.push(row.clone()?)?;
+        }
+        Rows::new(rows)
+    }
+}
+
+fn heights_of(rows: &Vec<Row<'_>>) -> Mem<Sums>
+    ensures { IfOk result (λ heights. heights ≡ heights_of (map row_data rows.now.items)) }
+{
+    let mut heights = Sums::new(*rows.allocator());
+    for row in rows {
+        heights.push(u64::from(row.outer_height()))?;
+    }
+    Ok(heights)
+}
+
+fn most_cells(rows: &[Row<'_>]) -> usize
+    ensures { result ≡ most_cells (map row_data rows.now) }
+{
+    let mut most = 0usize;
+    for row in rows {
+        most = most.max(row.cells.len());
+    }
+    most
+}
+
+impl<'a> PartialEq for Rows<'a> {
+    ghost eq = { pointwise ⟦<Row<'a> as PartialEq>⟧.eq };
+
+    ghost laws = { lists_per rows_agree.laws-law };
+
+    fn eq(&self, other: &Rows<'a>) -> bool {
+        self.rows == other.rows
+    }
+}
+
+impl<'a> Eq for Rows<'a> {
+    ghost laws = { lists_equiv rows_equal.laws-law };
+}
+
+impl<'a> Hash for Rows<'a> {
+    ghost hash_input = { fed.slice ⟦<Row<'a> as Hash>⟧.hash_input };
+
+    ghost respects_eq = { (items_Alike (record { fed = rows_hash.respects_eq-law })).fed };
+
+    fn hash<H: Hasher>(&self, state: &mut H) {
+        self.rows.hash(state);
+    }
+}
+
+impl<'a> fmt::Debug for Rows<'a> {
+    fn fmt<W: fmt::Write>(&self, f: &mut fmt::Formatter<W>) -> fmt::Result {
+        self.rows.fmt(f)
+    }
+}

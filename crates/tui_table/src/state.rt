@@ -1,0 +1,312 @@
+//! What a table keeps from one drawing to the next.
+
+ghost use Rattle.std.specs.Prelude.{◌≡◌, IfSome, None, Some};
+ghost use Rattle.std.specs.Borrow.{sem};
+ghost use Rattle.tui_table.specs.State.{
+  LendsColumn,
+  LendsOffset,
+  LendsSelected,
+  at_rest,
+  back,
+  cell_of,
+  column_of_cell,
+  further,
+  greatest,
+  next_of,
+  previous_of,
+  row_of_cell,
+};
+
+/// The first row that is shown, and the selected row and column; all places count from 0. A row or a column past the last one
+/// may be selected: a drawing makes it the last.
+#[derive(Clone, Copy, Debug, PartialEq, Eq, Hash)]
+pub struct TableState {
+    offset: usize,
+    selected: Option<usize>,
+    selected_column: Option<usize>,
+}
+
+impl Default for TableState {
+    /// The first row, and nothing selected.
+    fn default() -> TableState
+        ensures { result ≡ at_rest }
+    {
+        TableState::new()
+    }
+}
+
+impl TableState {
+    /// The first row, and nothing selected.
+    pub fn new() -> TableState
+        ensures { result ≡ at_rest }
+    {
+        TableState {
+            offset: 0,
+            selected: None,
+            selected_column: None,
+        }
+    }
+
+    /// Sets the first row that is shown.
+    pub fn with_offset(self, offset: usize) -> TableState
+        ensures { result ≡ record self { offset = offset } }
+    {
+        TableState { offset, ..self }
+    }
+
+    /// Sets the selected row.
+    pub fn with_selected(self, selected: Option<usize>) -> TableState
+        ensures { result ≡ record self { selected = selected } }
+    {
+        TableState { selected, ..self }
+    }
+
+    /// Sets the selected column.
+    pub fn with_selected_column(self, selected: Option<usize>) -> TableState
+        ensures { result ≡ record self { selected_column = selected } }
+    {
+        TableState {
+            selected_column: selected,
+            ..self
+        }
+    }
+
+    /// Sets the selected row and column, or neither.
+    pub fn with_selected_cell(self, selected: Option<(usize, usize)>) -> TableState
+        ensures { result ≡ record self { selected = row_of_cell selected; selected_column = column_of_cell selected } }
+    {
+        TableState {
+            selected: row_of_cell(selected),
+            selected_column: column_of_cell(selected),
+            ..self
+        }
+    }
+
+    /// The first row that is shown.
+    pub fn offset(&self) -> usize
+        ensures { result ≡ self.now.offset }
+    {
+        self.offset
+    }
+
+    /// The first row that is shown, to be written.
+    pub fn offset_mut(&mut self) -> &mut usize
+        ensures* writes_back { sem 𝓛 (LendsOffset self.entry result) }
+        ensures value { result.now ≡ self.old.offset }
+    {
+        &mut self.offset
+    }
+
+    /// The selected row.
+    pub fn selected(&self) -> Option<usize>
+        ensures { result ≡ self.now.selected }
+    {
+        self.selected
+    }
+
+    /// The selected row, to be written.
+    pub fn selected_mut(&mut self) -> &mut Option<usize>
+        ensures* writes_back { sem 𝓛 (LendsSelected self.entry result) }
+        ensures value { result.now ≡ self.old.selected }
+    {
+        &mut self.selected
+    }
+
+    /// The selected column.
+    pub fn selected_column(&self) -> Option<usize>
+        ensures { result ≡ self.now.selected_column }
+    {
+        self.selected_column
+    }
+
+    /// The selected column, to be written.
+    pub fn selected_column_mut(&mut self) -> &mut Option<usize>
+        ensures* writes_back { sem 𝓛 (LendsColumn self.entry result) }
+        ensures value { result.now ≡ self.old.selected_column }
+    {
+        &mut self.selected_column
+    }
+
+    /// The selected row and column, None exactly where one of them is.
+    pub fn selected_cell(&self) -> Option<(usize, usize)>
+        ensures { result ≡ cell_of self.now.selected self.now.selected_column }
+    {
+        match (self.selected, self.selected_column) {
+            (Some(row), Some(column)) => Some((row, column)),
+            _ => None,
+        }
+    }
+
+    /// Selects a row, or none; then the first row is shown again.
+    pub fn select(&mut self, index: Option<usize>)
+        ensures some { IfSome index (λ row. self.new ≡ record self.old { selected = Some row }) }
+        ensures none { index ≡ None → self.new ≡ record self.old { selected = None; offset = 0 } }
+    {
+        self.selected = index;
+        if index.is_none() {
+            self.offset = 0;
+        }
+    }
+
+    /// Selects a column, or none.
+    pub fn select_column(&mut self, index: Option<usize>)
+        ensures { self.new ≡ record self.old { selected_column = index } }
+    {
+        self.selected_column = index;
+    }
+
+    /// Selects a row and a column, or neither; then the first row is shown again.
+    pub fn select_cell(&mut self, cell: Option<(usize, usize)>)
+        ensures some { IfSome cell (λ cell. self.new ≡ record self.old { selected = Some cell.0; selected_column = Some cell.1 }) }
+        ensures none { cell ≡ None → self.new ≡ at_rest }
+    {
+        self.selected = row_of_cell(cell);
+        self.selected_column = column_of_cell(cell);
+        if cell.is_none() {
+            self.offset = 0;
+        }
+    }
+
+    /// Selects the next row, or the first where none is selected.
+    pub fn select_next(&mut self)
+        ensures { self.new ≡ record self.old { selected = Some (next_of self.old.selected) } }
+    {
+        self.selected = Some(next_of(self.selected));
+    }
+
+    /// Selects the next column, or the first where none is selected.
+    pub fn select_next_column(&mut self)
+        ensures { self.new ≡ record self.old { selected_column = Some (next_of self.old.selected_column) } }
+    {
+        self.selected_column = Some(next_of(self.selected_column));
+    }
+
+    /// Selects the row before, or the greatest place where none is selected.
+    pub fn select_previous(&mut self)
+        ensures { self.new ≡ record self.old { selected = Some (previous_of self.old.selected) } }
+    {
+        self.selected = Some(previous_of(self.selected));
+    }
+
+    /// Selects the column before, or the greatest place where none is selected.
+    pub fn select_previous_column(&mut self)
+        ensures { self.new ≡ record self.old { selected_column = Some (previous_of self.old.selected_column) } }
+    {
+        self.selected_column = Some(previous_of(self.selected_column));
+    }
+
+    /// Selects the first row.
+    pub fn select_first(&mut self)
+        ensures { self.new ≡ record self.old { selected = Some 0 } }
+    {
+        self.selected = Some(0);
+    }
+
+    /// Selects the first column.
+    pub fn select_first_column(&mut self)
+        ensures { self.new ≡ record self.old { selected_column = Some 0 } }
+    {
+        self.selected_column = Some(0);
+    }
+
+    /// Selects the greatest place, which a drawing makes the last row.
+    pub fn select_last(&mut self)
+        ensures { self.new ≡ record self.old { selected = Some greatest } }
+    {
+        self.selected = Some(usize::MAX);
+    }
+
+    /// Selects the greatest place, which a drawing makes the last column.
+    pub fn select_last_column(&mut self)
+        ensures { self.new ≡ record self.old { selected_column = Some greatest } }
+    {
+        self.selected_column = Some(usize::MAX);
+    }
+
+    /// Selects so many rows further on, counted from the first where none is selected.
+    pub fn scroll_down_by(&mut self, amount: u16)
+        ensures { self.new ≡ record self.old { selected = Some (further self.old.selected amount) } }
+    {
+        self.selected = Some(further(self.selected, amount));
+    }
+
+    /// Selects so many rows back, at least the first.
+    pub fn scroll_up_by(&mut self, amount: u16)
+        ensures { self.new ≡ record self.old { selected = Some (back self.old.selected amount) } }
+    {
+        self.selected = Some(back(self.selected, amount));
+    }
+
+    /// Selects so many columns further on, counted from the first where none is selected.
+    pub fn scroll_right_by(&mut self, amount: u16)
+        ensures { self.new ≡ record self.old { selected_column = Some (further self.old.selected_column amount) } }
+    {
+        self.selected_column = Some(further(self.selected_column, amount));
+    }
+
+    /// Selects so many columns back, at least the first.
+    pub fn scroll_left_by(&mut self, amount: u16)
+        ensures { self.new ≡ record self.old { selected_column = Some (back self.old.selected_column amount) } }
+    {
+        self.selected_column = Some(back(self.selected_column, amount));
+    }
+
+    /// The state that a drawing leaves.
+    pub(crate) fn drawn(offset: usize, selected: Option<usize>, column: Option<usize>) -> TableState
+        ensures { result ≡ record { offset = offset; selected = selected; selected_column = column } }
+    {
+        TableState {
+            offset,
+            selected,
+            selected_column: column,
+        }
+    }
+}
+
+fn row_of_cell(cell: Option<(usize, usize)>) -> Option<usize>
+    ensures { result ≡ row_of_cell cell }
+{
+    match cell {
+        Some((row, _)) => Some(row),
+        None => None,
+    }
+}
+
+fn column_of_cell(cell: Option<(usize, usize)>) -> Option<usize>
+    ensures { result ≡ column_of_cell cell }
+{
+    match cell {
+        Some((_, column)) => Some(column),
+        None => None,
+    }
+}
+
+fn next_of(selected: Option<usize>) -> usize
+    ensures { result ≡ next_of selected }
+{
+    match selected {
+        None => 0,
+        Some(place) => place.saturating_add(1),
+    }
+}
+
+fn previous_of(selected: Option<usize>) -> usize
+    ensures { result ≡ previous_of selected }
+{
+    match selected {
+        None => usize::MAX,
+        Some(place) => place.saturating_sub(1),
+    }
+}
+
+fn further(selected: Option<usize>, amount: u16) -> usize
+    ensures { result ≡ further selected amount }
+{
+    selected.unwrap_or(0).saturating_add(usize::from(amount))
+}
+
+fn back(selected: Option<usize>, amount: u16) -> usize
+    ensures { result ≡ back selected amount }
+{
+    selected.unwrap_or(0).saturating_sub(usize::from(amount))
+}

@@ -1,0 +1,246 @@
+//! Tables.
+
+ghost use Rattle.std.specs.Prelude.{◌≡◌, ◌↔◌, ℕ, Err, IfOk, OnErr, OnOk, Some, map, option_map, true};
+ghost use Rattle.tui_frames.specs.Block.{block_data};
+ghost use Rattle.tui_table.specs.Row.{row_data};
+ghost use Rattle.tui_table.specs.Table.{table_data, table_of};
+ghost use Rattle.tui_table.specs.Widths.{first_above};
+ghost use Rattle.tui_text.specs.Text.{text_data};
+
+mod areas;
+mod rendering;
+
+use crate::row::Row;
+use crate::rows::Rows;
+use crate::widths::{checked, clone_widths};
+use crate::widths_error::WidthsError;
+use std::alloc::Global;
+use tui_cells::{Mem, Style, Styled};
+use tui_frames::{Block, clone_if_some};
+use tui_layout::{Constraint, Flex, HighlightSpacing};
+use tui_text::Text;
+
+/// Rows of cells in columns, with a header above and a footer below. A row and a column may be selected.
+#[derive(Debug, PartialEq, Eq, Hash, Drop)]
+pub struct Table<'a> {
+    rows: Rows<'a>,
+    header: Option<Row<'a>>,
+    footer: Option<Row<'a>>,
+    block: Option<Block<'a>>,
+    highlight_symbol: Text<'a>,
+    widths: Vec<Constraint>,
+    column_spacing: u16,
+    style: Style,
+    row_highlight_style: Style,
+    column_highlight_style: Style,
+    cell_highlight_style: Style,
+    highlight_spacing: HighlightSpacing,
+    flex: Flex,
+}
+
+impl<'a> Table<'a> {
+    /// A table of these rows. Its columns have these widths, or are all alike where there are none, and are one column of the
+    /// screen apart. It has no header, footer, block, styles and highlight symbol.
+    ///
+    /// `PercentageAbove100` comes exactly where a width is a percentage above 100, with the first such place, before memory is
+    /// asked for. `NoMemory` where there is none for what is known of the rows.
+    pub fn new(
+        alloc: Global,
+        rows: Vec<Row<'a>>,
+        widths: Vec<Constraint>,
+    ) -> Result<Table<'a>, WidthsError>
+        ensures ok { IfOk result (λ table. table_data table ≡ table_of (map row_data rows.entry.items) widths.items) }
+        ensures refused { (index : ℕ) → (result ≡ Err (WidthsError.PercentageAbove100 index)) ↔ (first_above widths.items ≡ Some index) }
+    {
+        checked(&widths)?;
+        let rows = Rows::new(rows)?;
+        Ok(Table {
+            rows,
+            header: None,
+            footer: None,
+            block: None,
+            highlight_symbol: Text::new(alloc),
+            widths,
+            column_spacing: 1,
+            style: Style::new(),
+            row_highlight_style: Style::new(),
+            column_highlight_style: Style::new(),
+            cell_highlight_style: Style::new(),
+            highlight_spacing: HighlightSpacing::WhenSelected,
+            flex: Flex::Start,
+        })
+    }
+
+    /// Puts these rows in place of the old ones. At `NoMemory` the table is as before, and the new rows are gone.
+    pub fn rows(&mut self, rows: Vec<Row<'a>>) -> Mem<()>
+        ensures ok { OnOk result (table_data self.new ≡ record (table_data self.old) { rows = map row_data rows.entry.items }) }
+        ensures err { OnErr result (table_data self.new ≡ table_data self.old) }
+    {
+        self.rows.replace(rows)
+    }
+
+    /// Puts these widths of columns in place of the old ones. It takes no memory. `PercentageAbove100` comes exactly where a
+    /// width is a percentage above 100, with the first such place; then the table is as before, and the new widths are gone.
+    pub fn widths(&mut self, widths: Vec<Constraint>) -> Result<(), WidthsError>
+        ensures ok { OnOk result (table_data self.new ≡ record (table_data self.old) { widths = widths.items }) }
+        ensures refused { (index : ℕ) → (result ≡ Err (WidthsError.PercentageAbove100 index)) ↔ (first_above widths.items ≡ Some index) }
+        ensures err { OnErr result (table_data self.new ≡ table_data self.old) }
+        ensures memory { result ≡ Err WidthsError.NoMemory → ⊥ }
+    {
+        checked(&widths)?;
+        self.widths = widths;
+        Ok(())
+    }
+
+    /// Sets the row above the rows, whose cells have a column each.
+    pub fn header(self, header: Row<'a>) -> Table<'a>
+        ensures { table_data result ≡ record (table_data self.entry) { header = Some (row_data header.entry) } }
+    {
+        Table {
+            header: Some(header),
+            ..self
+        }
+    }
+
+    /// Sets the row below the rows, whose cells have a column each.
+    pub fn footer(self, footer: Row<'a>) -> Table<'a>
+        ensures { table_data result ≡ record (table_data self.entry) { footer = Some (row_data footer.entry) } }
+    {
+        Table {
+            footer: Some(footer),
+            ..self
+        }
+    }
+
+    /// Sets how many columns of the screen are left free between two columns.
+    pub fn column_spacing(self, spacing: u16) -> Table<'a>
+        ensures { table_data result ≡ record (table_data self.entry) { spacing = spacing } }
+    {
+        Table {
+            column_spacing: spacing,
+            ..self
+        }
+    }
+
+    /// Puts a block around the table, which then has the area inside.
+    pub fn block(self, block: Block<'a>) -> Table<'a>
+        ensures { table_data result ≡ record (table_data self.entry) { block = Some (block_data block.entry) } }
+    {
+        Table {
+            block: Some(block),
+            ..self
+        }
+    }
+
+    /// Sets the style under all.
+    pub fn style(self, style: Style) -> Table<'a>
+        ensures { table_data result ≡ record (table_data self.entry) { style = style } }
+    {
+        Table { style, ..self }
+    }
+
+    /// Sets the style over the selected row, as `row_highlight_style` does.
+    pub fn highlight_style(self, style: Style) -> Table<'a>
+        ensures { table_data result ≡ record (table_data self.entry) { row_style = style } }
+    {
+        self.row_highlight_style(style)
+    }
+
+    /// Sets the style over the selected row.
+    pub fn row_highlight_style(self, style: Style) -> Table<'a>
+        ensures { table_data result ≡ record (table_data self.entry) { row_style = style } }
+    {
+        Table {
+            row_highlight_style: style,
+            ..self
+        }
+    }
+
+    /// Sets the style over the selected column.
+    pub fn column_highlight_style(self, style: Style) -> Table<'a>
+        ensures { table_data result ≡ record (table_data self.entry) { column_style = style } }
+    {
+        Table {
+            column_highlight_style: style,
+            ..self
+        }
+    }
+
+    /// Sets the style over the cell where the selected row and the selected column meet.
+    pub fn cell_highlight_style(self, style: Style) -> Table<'a>
+        ensures { table_data result ≡ record (table_data self.entry) { cell_style = style } }
+    {
+        Table {
+            cell_highlight_style: style,
+            ..self
+        }
+    }
+
+    /// Sets the text at the left of the selected row.
+    pub fn highlight_symbol(self, symbol: Text<'a>) -> Table<'a>
+        ensures { table_data result ≡ record (table_data self.entry) { symbol = text_data symbol.entry } }
+    {
+        Table {
+            highlight_symbol: symbol,
+            ..self
+        }
+    }
+
+    /// Sets when columns of the screen are kept for the highlight symbol.
+    pub fn highlight_spacing(self, spacing: HighlightSpacing) -> Table<'a>
+        ensures { table_data result ≡ record (table_data self.entry) { symbol_spacing = spacing } }
+    {
+        Table {
+            highlight_spacing: spacing,
+            ..self
+        }
+    }
+
+    /// Sets where columns stand that leave a rest of the width.
+    pub fn flex(self, flex: Flex) -> Table<'a>
+        ensures { table_data result ≡ record (table_data self.entry) { flex = flex } }
+    {
+        Table { flex, ..self }
+    }
+
+    /// An equal table of its own. `NoMemory` where there is none for what it holds.
+    pub fn clone(&self) -> Mem<Table<'a>>
+        ensures is { IfOk result (λ table. table_data table ≡ table_data self.now) }
+        ensures equal { IfOk result (λ table. ⟦<Table<'a> as PartialEq>⟧.eq table self.now ≡ true) }
+    {
+        Ok(Table {
+            rows: self.rows.clone()?,
+            header: clone_row_if_some(&self.header)?,
+            footer: clone_row_if_some(&self.footer)?,
+            block: clone_if_some(&self.block)?,
+            highlight_symbol: self.highlight_symbol.clone()?,
+            widths: clone_widths(&self.widths)?,
+            ..*self
+        })
+    }
+}
+
+/// A row that a table may have, once more.
+fn clone_row_if_some<'a>(row: &Option<Row<'a>>) -> Mem<Option<Row<'a>>>
+    ensures is { IfOk result (λ copy. option_map row_data copy ≡ option_map row_data row.now) }
+    ensures equal { IfOk result (λ copy. ⟦<Option<Row<'a>> as PartialEq>⟧.eq copy row.now ≡ true) }
+{
+    match row {
+        None => Ok(None),
+        Some(row) => Ok(Some(row.clone()?)),
+    }
+}
+
+impl<'a> Styled for Table<'a> {
+    ghost style_of = { λ table. table.style };
+
+    ghost with_style = { λ table style. record table { style = style } };
+
+    fn style(&self) -> Style {
+        self.style
+    }
+
+    fn set_style(self, style: Style) -> Table<'a> {
+        Table { style, ..self }
+    }
+}

@@ -1,0 +1,384 @@
+//! How a table is drawn.
+
+ghost use Rattle.std.specs.Prelude.{◌≡◌, ◌+◌, ◌<◌, ◌≤◌, ◌^◌, [], IfOk, IsOk, IsTrue, OnOk, false, length, min, option_map, if◌then◌else◌};
+ghost use Rattle.tui_cells.specs.Layers.{KeptOutside, Painted};
+ghost use Rattle.tui_cells.specs.Rect.{columns_from, covers, is_empty};
+ghost use Rattle.tui_frames.specs.Footprint.{footprint_if};
+ghost use Rattle.tui_frames.specs.InBlock.{inner_of};
+ghost use Rattle.tui_layout.specs.Sums.{total};
+ghost use Rattle.tui_table.specs.Areas.{columns_in, gutter_of};
+ghost use Rattle.tui_table.specs.Drawing.{table_drawing, table_moving};
+ghost use Rattle.tui_table.specs.Moves.{column_after, row_after, table_after, table_window};
+ghost use Rattle.tui_table.specs.Row.{heights_of, row_data};
+ghost use Rattle.tui_table.specs.State.{at_rest};
+ghost use Rattle.tui_table.specs.Strokes.{
+  body_if,
+  body_layers,
+  both_areas,
+  content_layers,
+  dress_if,
+  edge_layers,
+  highlight_layers,
+  is_at,
+  row_area,
+  row_layers,
+  rows_layers,
+  selected_column,
+  selected_row,
+  table_layers,
+  text_over,
+};
+ghost use Rattle.tui_table.specs.Table.{table_data};
+
+use crate::cells::{area_in, paint_cells, paint_over, part_of};
+use crate::row::Row;
+use crate::state::TableState;
+use crate::table::Table;
+use crate::table::areas::{cut_to, height_if};
+use std::alloc::Global;
+use tui_cells::{Buffer, Mem, Rect, StatefulWidget, Style, Widget};
+use tui_frames::{BlockExt, paint_if_some};
+use tui_layout::{Segment, Window};
+
+impl<'a> Table<'a> {
+    /// The highlight symbol over the row's own style, if the row is selected.
+    fn paint_symbol(
+        &self,
+        buf: &mut Buffer,
+        area: Rect,
+        gutter: u16,
+        style: Style,
+        is_selected: bool,
+    ) -> Mem<()>
+        ensures ok { OnOk result (Painted (if is_selected then text_over (columns_from area 0 gutter) style (table_data self.now).symbol else []) buf.old buf.new) }
+        ensures kept { KeptOutside (covers area) buf.old buf.new }
+    {
+        if !is_selected {
+            return Ok(());
+        }
+        let part = area.columns_from(0, gutter);
+        paint_over(buf, part, style, &self.highlight_symbol)
+    }
+
+    /// A row in its area.
+    #[tactic(auto, unfolding(crate::specs::Strokes::row_layers))]
+    fn paint_row(
+        &self,
+        buf: &mut Buffer,
+        area: Rect,
+        gutter: u16,
+        columns: &[Segment],
+        is_edge: bool,
+        is_selected: bool,
+        row: &Row<'_>,
+    ) -> Mem<()>
+        ensures ok { OnOk result
+            (Painted (row_layers (table_data self.now) gutter columns.now is_edge is_selected area (row_data row.now)) buf.old buf.new) }
+        ensures kept { KeptOutside (covers area) buf.old buf.new }
+    {
+        buf.set_style(area, row.style);
+        self.paint_symbol(buf, area, gutter, row.style, is_selected)?;
+        let spacing = self.column_spacing;
+        paint_cells(buf, area, gutter, spacing, is_edge, columns, &row.cells)
+    }
+
+    /// The header or the footer, if there is one, behind so many rows of the screen.
+    #[tactic(auto, unfolding(crate::specs::Strokes::edge_layers))]
+    fn paint_edge(
+        &self,
+        buf: &mut Buffer,
+        inner: Rect,
+        gutter: u16,
+        columns: &[Segment],
+        from: u128,
+        row: &Option<Row<'_>>,
+    ) -> Mem<()>
+        requires { from < 2 ^ 100 }
+        ensures ok { OnOk result
+            (Painted (edge_layers (table_data self.now) inner gutter columns.now from (option_map row_data row.now)) buf.old buf.new) }
+        ensures kept { KeptOutside (covers inner) buf.old buf.new }
+    {
+        match row {
+            None => Ok(()),
+            Some(row) => {
+                let area = area_in(inner, from, row);
+                self.paint_row(buf, area, gutter, columns, true, false, row)
+            }
+        }
+    }
+
+    /// The rows from one place up to another.
+    fn paint_rows(
+        &self,
+        buf: &mut Buffer,
+        body: Rect,
+        gutter: u16,
+        columns: &[Segment],
+        selected: Option<usize>,
+        first: usize,
+        end: usize,
+    ) -> Mem<()>
+        requires order { first ≤ end }
+        requires within { end ≤ length (table_data self.now).rows }
+        ensures ok { OnOk result (Painted (rows_layers (table_data self.now) body gutter columns.now selected first end) buf.old buf.new) }
+        ensures kept { KeptOutside (covers body) buf.old buf.new }
+    {
+        let rows = self.rows.as_slice();
+        let mut used = 0u128;
+        'rows: for i in first..end {
+            let row = &rows[i];
+            let area = area_in(body, used, row);
+            self.paint_row(buf, area, gutter, columns, false, is_at(selected, i), row)?;
+            used += u128::from(row.outer_height());
+        }
+        Ok(())
+    }
+
+    /// The selected row, the selected column, and the cell of both.
+    #[tactic(auto, unfolding(crate::specs::Strokes::highlight_layers))]
+    fn paint_highlights(&self, buf: &mut Buffer, row: Option<Rect>, column: Option<Rect>)
+        ensures { Painted (highlight_layers (table_data self.now) row column) buf.old buf.new }
+    {
+        dress_if(buf, self.row_highlight_style, row);
+        dress_if(buf, self.column_highlight_style, column);
+        dress_if(buf, self.cell_highlight_style, both_areas(row, column));
+    }
+
+    /// The rows of the screen of the rows from one place up to another.
+    fn rows_between(&self, first: usize, s: usize) -> u128
+        requires within { s ≤ length (table_data self.now).rows }
+        ensures total { result ≡ total (heights_of (table_data self.now).rows) first s }
+        ensures small { result < 2 ^ 100 }
+    {
+        if s <= first {
+            return 0;
+        }
+        let rows = self.rows.as_slice();
+        let mut sum = 0u128;
+        'rows: for i in first..s {
+            sum += u128::from(rows[i].outer_height());
+        }
+        sum
+    }
+
+    /// The area of the selected row, where the first row that is shown is known.
+    fn selected_row(&self, body: Rect, first: usize, selected: Option<usize>) -> Option<Rect>
+        ensures { result ≡ selected_row (table_data self.now) body first selected }
+    {
+        match selected {
+            None => None,
+            Some(s) => {
+                let rows = self.rows.as_slice();
+                if s >= rows.len() {
+                    return None;
+                }
+                Some(area_in(body, self.rows_between(first, s), &rows[s]))
+            }
+        }
+    }
+
+    /// The rows of the window and one more, which is cut, and then the highlights.
+    fn paint_body(
+        &self,
+        buf: &mut Buffer,
+        body: Rect,
+        gutter: u16,
+        columns: &[Segment],
+        selected: Option<usize>,
+        column: Option<usize>,
+        window: Window,
+    ) -> Mem<()>
+        requires order { window.first ≤ window.end }
+        requires within { window.end ≤ length (table_data self.now).rows }
+        ensures ok { OnOk result
+            (Painted (body_layers (table_data self.now) body gutter columns.now selected column window.first window.end) buf.old buf.new) }
+        ensures kept { KeptOutside (covers body) buf.old buf.new }
+    {
+        let end = one_more(window.end, self.rows.as_slice().len());
+        self.paint_rows(buf, body, gutter, columns, selected, window.first, end)?;
+        let row = self.selected_row(body, window.first, selected);
+        let column = selected_column(body, gutter, columns, column);
+        self.paint_highlights(buf, row, column);
+        Ok(())
+    }
+
+    /// The rows and the highlights, if there are rows.
+    fn paint_body_if(
+        &self,
+        buf: &mut Buffer,
+        inner: Rect,
+        gutter: u16,
+        columns: &[Segment],
+        state: TableState,
+        window: Window,
+    ) -> Mem<()>
+        requires found { window ≡ table_window (table_data self.now) inner.height state }
+        requires order { window.first ≤ window.end }
+        requires within { window.end ≤ length (table_data self.now).rows }
+        ensures ok { OnOk result (Painted (body_if (table_data self.now) inner gutter columns.now state) buf.old buf.new) }
+        ensures kept { KeptOutside (covers inner) buf.old buf.new }
+    {
+        if self.rows.as_slice().is_empty() {
+            return Ok(());
+        }
+        let body = self.body(inner);
+        let selected = self.row_after(state);
+        let column = self.column_after(state);
+        self.paint_body(buf, body, gutter, columns, selected, column, window)
+    }
+
+    /// The selected row and column that a drawing leaves.
+    fn row_after(&self, state: TableState) -> Option<usize>
+        ensures { result ≡ row_after (table_data self.now) state }
+    {
+        cut_to(self.rows.as_slice().len(), state.selected())
+    }
+
+    fn column_after(&self, state: TableState) -> Option<usize>
+        ensures { result ≡ column_after (table_data self.now) state }
+    {
+        cut_to(self.column_count(), state.selected_column())
+    }
+
+    /// Header, rows and footer. Answers the state that is left.
+    fn paint_content(
+        &self,
+        alloc: Global,
+        buf: &mut Buffer,
+        inner: Rect,
+        state: TableState,
+    ) -> Mem<TableState>
+        requires { is_empty inner ≡ false }
+        ensures ok { OnOk result (Painted (content_layers (table_data self.now) inner state) buf.old buf.new) }
+        ensures after { IfOk result (λ after. after ≡ table_after (table_data self.now) inner state) }
+        ensures kept { KeptOutside (covers inner) buf.old buf.new }
+    {
+        let selected = self.row_after(state);
+        let columns = self.columns(alloc, inner.width, selected)?;
+        let gutter = self.gutter(inner.width, selected);
+        let room = self.room(inner.height);
+        let window = self.rows.window(room, state.offset(), state.selected());
+        self.paint_edge(buf, inner, gutter, &columns, 0, &self.header)?;
+        self.paint_body_if(buf, inner, gutter, &columns, state, window)?;
+        let below = height_if(&self.header) + u128::from(room);
+        self.paint_edge(buf, inner, gutter, &columns, below, &self.footer)?;
+        Ok(TableState::drawn(window.first, selected, self.column_after(state)))
+    }
+
+    /// The same where the area is not empty; else the state stays.
+    fn paint_inside(
+        &self,
+        alloc: Global,
+        buf: &mut Buffer,
+        inner: Rect,
+        state: TableState,
+    ) -> Mem<TableState>
+        ensures ok { OnOk result (Painted (content_layers (table_data self.now) inner state) buf.old buf.new) }
+        ensures after { IfOk result (λ after. after ≡ table_after (table_data self.now) inner state) }
+        ensures kept { KeptOutside (covers inner) buf.old buf.new }
+    {
+        if inner.is_empty() {
+            return Ok(state);
+        }
+        self.paint_content(alloc, buf, inner, state)
+    }
+
+    /// The style, the block, and the content inside it. Answers the state that is left.
+    fn paint_in(
+        &self,
+        alloc: Global,
+        buf: &mut Buffer,
+        clip: Rect,
+        state: TableState,
+    ) -> Mem<TableState>
+        ensures ok { OnOk result (Painted (table_layers (table_data self.now) state clip) buf.old buf.new) }
+        ensures after { IfOk result (λ after. after ≡ table_after (table_data self.now) (inner_of (table_data self.now).block clip) state) }
+        ensures kept { KeptOutside (footprint_if (table_data self.now).block clip) buf.old buf.new }
+        ensures empty { IsTrue (is_empty clip) → IsOk result }
+    {
+        if clip.is_empty() {
+            return Ok(state);
+        }
+        buf.set_style(clip, self.style);
+        paint_if_some(alloc, buf, clip, &self.block)?;
+        self.paint_inside(alloc, buf, self.block.inner_if_some(clip), state)
+    }
+}
+
+impl<'a> StatefulWidget for Table<'a> {
+    type State = TableState;
+
+    ghost moving = { λ table. table_moving (table_data table) };
+
+    fn render(&self, alloc: Global, area: Rect, buf: &mut Buffer, state: &mut TableState) -> Mem<()> {
+        let clip = area.intersection(buf.area());
+        *state = self.paint_in(alloc, buf, clip, *state)?;
+        Ok(())
+    }
+}
+
+/// As a plain widget a table is drawn from its first row on, with nothing selected.
+impl<'a> Widget for Table<'a> {
+    ghost drawing = { λ table. table_drawing (table_data table) };
+
+    fn render(&self, alloc: Global, area: Rect, buf: &mut Buffer) -> Mem<()> {
+        let clip = area.intersection(buf.area());
+        self.paint_in(alloc, buf, clip, TableState::new())?;
+        Ok(())
+    }
+}
+
+fn is_at(selected: Option<usize>, i: usize) -> bool
+    ensures { result ≡ is_at selected i }
+{
+    match selected {
+        None => false,
+        Some(s) => s == i,
+    }
+}
+
+/// One more, where there are so many.
+fn one_more(last: usize, count: usize) -> usize
+    requires { last ≤ count }
+    ensures { result ≡ min (last + 1) count }
+{
+    if last < count { last + 1 } else { count }
+}
+
+/// The area of the selected column.
+fn selected_column(
+    body: Rect,
+    gutter: u16,
+    columns: &[Segment],
+    selected: Option<usize>,
+) -> Option<Rect>
+    ensures { result ≡ selected_column body gutter columns.now selected }
+{
+    match selected {
+        None => None,
+        Some(s) => {
+            if s >= columns.len() {
+                return None;
+            }
+            let column = columns[s];
+            Some(part_of(body, gutter, column.start, column.width))
+        }
+    }
+}
+
+fn dress_if(buf: &mut Buffer, style: Style, area: Option<Rect>)
+    ensures { Painted (dress_if style area) buf.old buf.new }
+{
+    if let Some(area) = area {
+        buf.set_style(area, style);
+    }
+}
+
+fn both_areas(row: Option<Rect>, column: Option<Rect>) -> Option<Rect>
+    ensures { result ≡ both_areas row column }
+{
+    match (row, column) {
+        (Some(row), Some(column)) => Some(row.intersection(column)),
+        _ => None,
+    }
+}

@@ -1,0 +1,26 @@
+//! Why widths of columns are refused.
+
+use thiserror::Error;
+use tui_cells::NoMemory;
+
+/// Why a table does not take the widths of its columns.
+#[derive(Clone, Copy, Debug, PartialEq, Eq, Error)]
+pub enum WidthsError {
+    /// A percentage is above 100; `index` is the first such place, from 0.
+    #[error("PercentageAbove100")]
+    PercentageAbove100 { index: usize },
+    /// The memory that the table takes was not there.
+    #[error("NoMemory")]
+    NoMemory,
+}
+
+impl From<NoMemory> for WidthsError {
+    ghost use Rattle.std.specs.Prelude.{◌≡◌};
+    ghost use Rattle.tui_table.specs.declared.widths_error.WidthsError.TheVariants as errors;
+
+    ghost from_gives = { λ _ e. e ≡ errors.NoMemory };
+
+    fn from(_error: NoMemory) -> WidthsError {
+        WidthsError::NoMemory
+    }
+}
