@@ -1,6 +1,7 @@
 -- What a drawing of a list paints, and what it leaves of the state.
-use Rattle.std.proofs.Common.{◌≡◌, ℕ, ◌-◌, ◌<◌, ◌==◌, max, true, false, drop, length, Option, refl, ◌∙◌, ap, sym, subst, arith}
+use Rattle.std.proofs.Common.{◌≡◌, ℕ, ◌-◌, ◌<◌, ◌==◌, max, true, false, drop, length, Option, Some, refl, ◌∙◌, ap, sym, subst, arith}
 use Rattle.std.proofs.lemmas.Bool.Decides.{nat_tests}
+use Rattle.std.proofs.lemmas.List.{length-map}
 use Rattle.tui_cells.specs.declared.rect.Rect.{Rect}
 use Rattle.tui_cells.specs.Buffer.{Screen}
 use Rattle.tui_cells.specs.Rect.{is_empty}
@@ -11,8 +12,9 @@ use Rattle.tui_layout.proofs.Settling.{first_of_cut}
 use Rattle.tui_layout.specs.Window.{IsFirst, cut_selection}
 use Rattle.tui_layout.specs.declared.window.Window.{Window}
 use Rattle.tui_lists.specs.List.{ListData, ListMoves, list_after, list_moved, list_window}
-use Rattle.tui_lists.specs.ListItem.{heights_of}
+use Rattle.tui_lists.specs.ListItem.{heights_of, item_height}
 use Rattle.tui_lists.specs.ListState.{at_rest}
+use Rattle.tui_lists.proofs.ListShown.{selected_is_shown}
 use Rattle.tui_lists.specs.ListStrokes.{content_layers, items_layers}
 use Rattle.tui_lists.specs.declared.list.state.ListState.{ListState}
 
@@ -67,4 +69,16 @@ list_moves l inner s new e = record {
       let P : ListState → Type 0 = λ t. IsFirst heights inner.height s.offset t.selected l.padding t.offset in
       let begins = (window_is heights inner.height s.offset s.selected l.padding).begins in
       subst P (sym (e ∙ after_some l inner s h some)) (first_of_cut heights inner.height s.offset s.selected l.padding (list_window l inner.height s).first begins);
+  seen = λ h some place at fits.
+      let moved = e ∙ after_some l inner s h some in
+      let cut : cut_selection (heights_of l.items) s.selected ≡ Some place = sym (ap (λ (t : ListState). t.selected) moved) ∙ at in
+      let u = selected_is_shown l inner.height place s some cut fits in
+      let first : new.offset ≡ (list_window l inner.height s).first = ap (λ (t : ListState). t.offset) moved in
+      record {
+        last = (list_window l inner.height s).end;
+        from_offset = omega (arith, u.0, first);
+        before_last = u.1;
+        within = omega (arith, u.2, length-map l.items item_height);
+        fits = rw first u.3;
+      };
 }

@@ -11,4 +11,10 @@ pub mod ListDrawing
 pub mod Tabs
 pub mod TabsStrokes
 pub mod TabsDrawing
+pub mod ScrollDirection
+pub mod Orientation
+pub mod ScrollbarState
+pub mod Parts
+pub mod Scrollbar
+pub mod ScrollbarStrokes
 pub mod Laws

@@ -1,11 +1,12 @@
 -- A list as plain data, and how a drawing moves its state.
-use Rattle.std.specs.Prelude.{◌≡◌, ℕ, ◌<◌, ◌==◌, Bool, true, false, List, length, Option, None, option_map, if◌then◌else◌}
+use Rattle.std.specs.Prelude.{◌≡◌, ℕ, ◌<◌, ◌≤◌, ◌==◌, Bool, true, false, List, length, slice_index, Option, None, Some, option_map, if◌then◌else◌}
 use Rattle.tui_cells.specs.declared.rect.Rect.{Rect}
 use Rattle.tui_cells.specs.declared.style.Style.{Style}
 use Rattle.tui_cells.specs.Rect.{is_empty}
 use Rattle.tui_cells.specs.Style.{no_style}
 use Rattle.tui_frames.specs.Block.{BlockData, block_data}
 use Rattle.tui_layout.specs.Found.{window_of}
+use Rattle.tui_layout.specs.Sums.{total}
 use Rattle.tui_layout.specs.Window.{IsFirst, cut_selection}
 use Rattle.tui_layout.specs.declared.highlight_spacing.HighlightSpacing.{HighlightSpacing}
 use Rattle.tui_layout.specs.declared.highlight_spacing.HighlightSpacing.TheVariants.{WhenSelected}
@@ -68,11 +69,21 @@ list_moved l room s = record { offset = (list_window l room s).first; selected =
 unfoldable pub list_after : ListData → Rect → ListState → ListState
 list_after l inner s = if is_empty inner then s else (if length l.items == 0 then at_rest else list_moved l inner.height s)
 
+-- an item is among those from an offset on that fit together
+pub record IsSeen (heights : List ℕ) (room offset place : ℕ) : Type 0 where
+  pub last : ℕ
+  pub from_offset : offset ≤ place
+  pub before_last : place < last
+  pub within : last ≤ length heights
+  pub fits : total heights offset last ≤ room
+
 -- What a user relies on. Over an empty area the state stays; without items nothing is selected, and the offset is 0; else the
--- selection is cut to the last item, and the offset moves least to show it with its padding.
+-- selection is cut to the last item, and the offset moves least to show it with its padding, so that a selected item that fits is seen.
 pub record ListMoves (l : ListData) (inner : Rect) (old new : ListState) : Type 0 where
   pub stays : is_empty inner ≡ true → new ≡ old
   pub none : is_empty inner ≡ false → length l.items ≡ 0 → new ≡ at_rest
   pub selected : is_empty inner ≡ false → 0 < length l.items → new.selected ≡ cut_selection (heights_of l.items) old.selected
   pub least : is_empty inner ≡ false → 0 < length l.items →
       IsFirst (heights_of l.items) inner.height old.offset new.selected l.padding new.offset
+  pub seen : is_empty inner ≡ false → 0 < length l.items → (place : ℕ) → new.selected ≡ Some place → slice_index (heights_of l.items) place ≤ inner.height →
+      IsSeen (heights_of l.items) inner.height new.offset place

@@ -5,11 +5,16 @@ pub mod direction;
 pub mod laws;
 pub mod list;
 mod painting;
+pub mod scrollbar;
 pub mod tabs;
 
 pub use direction::ListDirection;
-pub use laws::list_laws;
+pub use laws::{list_laws, thumb_laws};
 pub use list::List;
 pub use list::item::ListItem;
 pub use list::state::ListState;
+pub use scrollbar::Scrollbar;
+pub use scrollbar::direction::ScrollDirection;
+pub use scrollbar::orientation::ScrollbarOrientation;
+pub use scrollbar::state::ScrollbarState;
 pub use tabs::Tabs;
