@@ -1,5 +1,5 @@
 -- The rows, the header and the footer of a table together.
-use Rattle.std.proofs.Common.{◌≡◌, ◌≤◌, ℕ, ◌+◌, min, ◌==◌, Bool, true, false, if◌then◌else◌, List, [], length, Option, ◌∙◌, ap, subst, sym}
+use Rattle.std.proofs.Common.{◌≡◌, ◌≤◌, ℕ, ◌+◌, min, ◌==◌, true, false, List, length, Option, ◌∙◌, ap, subst}
 use Rattle.tui_cells.specs.declared.rect.Rect.{Rect}
 use Rattle.tui_cells.specs.Buffer.{Screen}
 use Rattle.tui_cells.specs.declared.style.Style.{Style}

@@ -11,7 +11,7 @@ use Rattle.tui_frames.specs.InBlock.{block_layers_if, inner_of}
 use Rattle.tui_layout.proofs.Found.{window_is}
 use Rattle.tui_layout.proofs.Settling.{first_of_cut, selected_is_shown}
 use Rattle.tui_layout.proofs.Splitting.{columns_in_order}
-use Rattle.tui_layout.proofs.Totals.{total-upto, total_wider}
+use Rattle.tui_layout.proofs.Totals.{total_wider}
 use Rattle.tui_layout.specs.Found.{window_of}
 use Rattle.tui_layout.specs.Sums.{total}
 use Rattle.tui_layout.specs.Window.{IsFirst, cut_selection}
@@ -21,7 +21,7 @@ use Rattle.tui_table.specs.Laws.{ColumnsAreInOrder, DrawingSettles, SelectedIsSh
 use Rattle.tui_table.specs.Moves.{TableMoves, column_after, row_after, table_after, table_window}
 use Rattle.tui_table.specs.Row.{RowData, heights_of, row_height}
 use Rattle.tui_table.specs.Settles.{after_empty, after_shown, column_again, row_again, same_cut, shown, state_settles, window_again}
-use Rattle.tui_table.specs.Strokes.{body_layers, content_layers, edge_layers, row_area, table_layers}
+use Rattle.tui_table.specs.Strokes.{body_layers, content_layers, edge_layers, row_area}
 use Rattle.tui_table.specs.Table.{TableData}
 use Rattle.tui_table.specs.declared.state.TableState.{TableState}
 use Rattle.tui_table.proofs.RowLists.{total_more}

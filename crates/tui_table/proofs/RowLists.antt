@@ -1,5 +1,5 @@
 -- Rows of a table, one more at a time.
-use Rattle.std.proofs.Common.{◌≡◌, ℕ, ◌+◌, ◌-◌, ◌<◌, ◌≤◌, min, Bool, false, List, [], ◌∷◌, ◌++◌, drop, length, map, take, get_or, Option, refl, inl, inr, ◌∙◌, ap, sym, subst, arith}
+use Rattle.std.proofs.Common.{◌≡◌, ℕ, ◌+◌, ◌-◌, ◌<◌, ◌≤◌, min, Bool, false, List, [], ◌∷◌, ◌++◌, drop, length, map, take, get_or, Option, inl, inr, ◌∙◌, ap, sym, subst, arith}
 use Rattle.std.specs.Prelude.{flat_map, slice_range}
 use Rattle.std.specs.List.{enumerate_from}
 use Rattle.std.proofs.lemmas.Bool.{cases_lt}
@@ -67,7 +67,7 @@ rows_more t body area gutter columns selected first i used is_selected r a b c l
     let rows = enumerate_from 0 t.rows in
     let inside : i < length (enumerate_from 0 t.rows) = rw (length-enumerate_from 0 t.rows) lt in
     let count : 0 + i ≡ i = omega arith in
-    let found : (i, r) ≡ get_or (enumerate_from 0 t.rows) i (i, r) = 
+    let found : (i, r) ≡ get_or (enumerate_from 0 t.rows) i (i, r) =
     sym (get_or-enumerate_from 0 t.rows i (i, r) lt ∙ (ap (λ (n : ℕ). (n, get_or t.rows i r)) count ∙ ap (λ (y : RowData). (i, y)) (sym here))) in
     let P : List (ℕ × RowData) → Type 0 = λ rs. Painted (flat_map (row_in t body gutter columns selected first) rs) a c in
     let R : ℕ → Bool → Type 0 = λ n k. Painted (row_layers t gutter columns false k (area_in body n r) r) b c in

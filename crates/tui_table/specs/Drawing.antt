@@ -1,5 +1,4 @@
 -- What a Table is to those who place it.
-use Rattle.std.specs.Prelude.{◌≡◌}
 use Rattle.tui_cells.specs.Drawing.{Drawing, Moving}
 use Rattle.tui_cells.specs.Layers.{Painted}
 use Rattle.tui_frames.specs.Footprint.{footprint_if}

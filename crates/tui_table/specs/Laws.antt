@@ -5,7 +5,7 @@ use Rattle.tui_layout.specs.Columns.{AreInOrder}
 use Rattle.tui_layout.specs.Sums.{total}
 use Rattle.tui_frames.specs.InBlock.{inner_of}
 use Rattle.tui_table.specs.Areas.{body_of, columns_in, gutter_of, room_of}
-use Rattle.tui_table.specs.Moves.{TableMoves, row_after, table_after, table_window}
+use Rattle.tui_table.specs.Moves.{row_after, table_after, table_window}
 use Rattle.tui_table.specs.Row.{RowData, heights_of, row_height}
 use Rattle.tui_table.specs.Strokes.{row_area, table_layers}
 use Rattle.tui_table.specs.Table.{TableData}
@@ -13,8 +13,8 @@ use Rattle.tui_table.specs.declared.state.TableState.{TableState}
 
 -- A selected row that fits with both margins is one of those that are shown whole: its area is as high as it is. What is shown fits.
 abbrev pub SelectedIsShown : Type 0
-SelectedIsShown = (t : TableData) (inner : Rect) (s : TableState) (place : ℕ) (r : RowData) → row_after t s ≡ Some place → slice_get t.rows place ≡ Some r →
-    row_height r ≤ room_of t inner.height → let w = table_window t inner.height s in
+SelectedIsShown = (t : TableData) (inner : Rect) (s : TableState) (place : ℕ) (r : RowData) →
+    row_after t s ≡ Some place → slice_get t.rows place ≡ Some r → row_height r ≤ room_of t inner.height → let w = table_window t inner.height s in
     (w.first ≤ place) × (place < w.end) × (w.end ≤ length t.rows) × (total (heights_of t.rows) w.first w.end ≤ room_of t inner.height)
     × ((row_area t (body_of t inner) w.first place r).height ≡ r.height)
 
@@ -25,4 +25,5 @@ DrawingSettles = (t : TableData) (clip : Rect) (s : TableState) → let after = 
 
 -- the columns lie behind the highlight symbol's, inside the width, in order and apart
 abbrev pub ColumnsAreInOrder : Type 0
-ColumnsAreInOrder = (t : TableData) (width : ℕ) (selected : Option ℕ) → AreInOrder (width - gutter_of t width selected) t.spacing (columns_in t width selected)
+ColumnsAreInOrder = (t : TableData) (width : ℕ) (selected : Option ℕ) →
+    AreInOrder (width - gutter_of t width selected) t.spacing (columns_in t width selected)

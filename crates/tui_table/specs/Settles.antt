@@ -1,5 +1,5 @@
 -- The state that a drawing of a table leaves stays in the next one, which draws the same strokes.
-use Rattle.std.specs.Prelude.{◌≡◌, ℕ, ◌-◌, ◌==◌, min, Bool, true, false, List, length, map, Option, None, Some, if◌then◌else◌}
+use Rattle.std.specs.Prelude.{◌≡◌, ℕ, ◌-◌, ◌==◌, Bool, true, false, List, length, Option, None, Some}
 use Rattle.std.proofs.Common.{refl, ap, sym, ◌∙◌}
 use Rattle.std.proofs.lemmas.List.{length-map}
 use Rattle.tui_cells.specs.declared.rect.Rect.{Rect}
@@ -9,7 +9,6 @@ use Rattle.tui_frames.proofs.InBlock.{inner_empty}
 use Rattle.tui_layout.proofs.Settling.{cut_place, window_settles}
 use Rattle.tui_layout.specs.Found.{window_of}
 use Rattle.tui_layout.specs.Window.{cut_selection}
-use Rattle.tui_layout.specs.declared.window.Window.{Window}
 use Rattle.tui_table.specs.Areas.{column_count, room_of}
 use Rattle.tui_table.specs.Moves.{column_after, cut_to, row_after, table_after, table_window}
 use Rattle.tui_table.specs.Row.{RowData, heights_of, row_height}
@@ -40,7 +39,8 @@ pub column_again : (t : TableData) (s : TableState) → cut_to (column_count t) 
 column_again t s = cut_twice (column_count t) s.selected_column (column_count t == 0) refl
 
 -- the two cuts of a selection are the same where there are rows
-pub same_cut : (rows : List RowData) (selected : Option ℕ) → (length rows == 0) ≡ false → cut_to (length rows) selected ≡ cut_selection (heights_of rows) selected
+pub same_cut : (rows : List RowData) (selected : Option ℕ) → (length rows == 0) ≡ false →
+    cut_to (length rows) selected ≡ cut_selection (heights_of rows) selected
 same_cut rows None e = refl
 same_cut rows (Some s) e = rw (e, length-map rows row_height) refl
 
@@ -62,7 +62,8 @@ window_again t height s = window_by t height s (length t.rows == 0) refl
 shown_again : (t : TableData) (height : ℕ) (s : TableState) → shown t height (shown t height s) ≡ shown t height s
 shown_again t height s = rw (window_by t height s (length t.rows == 0) refl, row_again t s, column_again t s) refl
 
-settled : (t : TableData) (inner : Rect) (s : TableState) (empty : Bool) → is_empty inner ≡ empty → table_after t inner (table_after t inner s) ≡ table_after t inner s
+settled : (t : TableData) (inner : Rect) (s : TableState) (empty : Bool) → is_empty inner ≡ empty →
+    table_after t inner (table_after t inner s) ≡ table_after t inner s
 settled t inner s true h = after_empty t inner (table_after t inner s) h
 settled t inner s false h =
     ap (table_after t inner) (after_shown t inner s h)

@@ -38,9 +38,9 @@ abbrev pub column_of_cell : Option (ℕ × ℕ) → Option ℕ
 column_of_cell None = None
 column_of_cell (Some cell) = Some cell.1
 
-abbrev pub cell_of : Option ℕ → Option ℕ → Option (ℕ × ℕ)
-cell_of (Some row) (Some column) = Some (row, column)
-cell_of _ _ = None
+abbrev pub selected_cell : Option ℕ → Option ℕ → Option (ℕ × ℕ)
+selected_cell (Some row) (Some column) = Some (row, column)
+selected_cell _ _ = None
 
 -- what a write through a borrowed field leaves
 abbrev pub LendsOffset : MutBor TableState → MutBor ℕ → Fml

@@ -1,11 +1,34 @@
 -- The strokes of a table stay in its footprint.
-use Rattle.std.specs.Prelude.{◌≡◌, ℕ, ◌+◌, ◌==◌, Bool, true, false, List, [], ◌∷◌, ◌++◌, drop, take, flat_map, length, slice_get, slice_range, Option, None, Some, option_map, if◌then◌else◌}
+use Rattle.std.specs.Prelude.{
+  ◌≡◌,
+  ℕ,
+  ◌+◌,
+  ◌==◌,
+  Bool,
+  true,
+  false,
+  List,
+  [],
+  ◌∷◌,
+  ◌++◌,
+  drop,
+  take,
+  flat_map,
+  length,
+  slice_get,
+  slice_range,
+  Option,
+  None,
+  Some,
+  option_map,
+  if◌then◌else◌,
+}
 use Rattle.std.specs.List.{enumerate_from}
 use Rattle.tui_cells.specs.declared.rect.Rect.{Rect}
 use Rattle.tui_cells.specs.declared.style.Style.{Style}
 use Rattle.tui_cells.specs.Cell.{dress}
 use Rattle.tui_cells.specs.Layers.{Layer, StayIn}
-use Rattle.tui_cells.specs.Rect.{columns_from, covers, intersection_of, is_empty, rows_from}
+use Rattle.tui_cells.specs.Rect.{columns_from, covers, is_empty, rows_from}
 use Rattle.tui_cells.specs.Stays.{StayIn-append, StayIn-none, StayIn-stroke}
 use Rattle.tui_cells.proofs.Regions.{StayIn-wider, columns_out, outside_both, rows_out}
 use Rattle.tui_frames.specs.Footprint.{footprint_if}
@@ -15,7 +38,7 @@ use Rattle.tui_layout.specs.declared.segment.Segment.{Segment}
 use Rattle.tui_table.specs.Areas.{area_in, body_of, columns_in, gutter_of, height_if, room_of}
 use Rattle.tui_table.specs.Cell.{CellData}
 use Rattle.tui_table.specs.Moves.{column_after, row_after, table_window}
-use Rattle.tui_table.specs.Row.{RowData, row_height}
+use Rattle.tui_table.specs.Row.{RowData}
 use Rattle.tui_table.specs.Strokes.{
   body_if,
   body_layers,
@@ -67,7 +90,8 @@ cells_stay : (area : Rect) (gutter spacing : ℕ) (is_edge : Bool) (columns : Li
 unfolding cells_layers
 cells_stay area gutter spacing is_edge columns [] = StayIn-none
 cells_stay area gutter spacing is_edge columns (c ∷ cs) =
-    StayIn-append (cell_stays area gutter spacing (take (span_in is_edge c) columns) c) (cells_stay area gutter spacing is_edge (drop (span_in is_edge c) columns) cs)
+    StayIn-append (cell_stays area gutter spacing (take (span_in is_edge c) columns) c)
+    (cells_stay area gutter spacing is_edge (drop (span_in is_edge c) columns) cs)
 
 symbol_stays : (t : TableData) (gutter : ℕ) (area : Rect) (style : Style) (is_selected : Bool) →
     StayIn (covers area) (if is_selected then text_over (columns_from area 0 gutter) style t.symbol else [])
@@ -78,7 +102,8 @@ row_stays : (t : TableData) (gutter : ℕ) (columns : List Segment) (is_edge is_
     StayIn (covers area) (row_layers t gutter columns is_edge is_selected area r)
 unfolding row_layers
 row_stays t gutter columns is_edge is_selected area r =
-    StayIn-append (dress_stays area r.style) (StayIn-append (symbol_stays t gutter area r.style is_selected) (cells_stay area gutter t.spacing is_edge columns r.cells))
+    StayIn-append (dress_stays area r.style) (StayIn-append (symbol_stays t gutter area r.style is_selected)
+    (cells_stay area gutter t.spacing is_edge columns r.cells))
 
 edge_stays : (t : TableData) (inner : Rect) (gutter : ℕ) (columns : List Segment) (from : ℕ) (o : Option RowData) →
     StayIn (covers inner) (edge_layers t inner gutter columns from o)
@@ -128,7 +153,8 @@ dress_if_stays : (body : Rect) (style : Style) (o : Option Rect) → OutOf body 
 dress_if_stays body style None p = StayIn-none
 dress_if_stays body style (Some area) p = StayIn-stroke (covers area) (dress style) p
 
-highlights_stay : (t : TableData) (body : Rect) (row column : Option Rect) → OutOf body row → OutOf body column → StayIn (covers body) (highlight_layers t row column)
+highlights_stay : (t : TableData) (body : Rect) (row column : Option Rect) → OutOf body row → OutOf body column →
+    StayIn (covers body) (highlight_layers t row column)
 unfolding highlight_layers
 highlights_stay t body row column p q =
     StayIn-append (dress_if_stays body t.row_style row p)
@@ -141,11 +167,13 @@ body_stays t body gutter columns selected column first last =
     StayIn-append (rows_stay t body gutter columns selected first (last + 1))
     (highlights_stay t body _ _ (row_out t body first selected) (column_out body gutter columns column))
 
-body_if_stays : (t : TableData) (inner : Rect) (gutter : ℕ) (columns : List Segment) (s : TableState) (none : Bool) → StayIn (covers inner) (if none then [] else
+body_if_stays : (t : TableData) (inner : Rect) (gutter : ℕ) (columns : List Segment) (s : TableState) (none : Bool) →
+    StayIn (covers inner) (if none then [] else
     body_layers t (body_of t inner) gutter columns (row_after t s) (column_after t s) (table_window t inner.height s).first (table_window t inner.height s).end)
 body_if_stays t inner gutter columns s true = StayIn-none
 body_if_stays t inner gutter columns s false =
-    in_rows inner _ _ (body_stays t (body_of t inner) gutter columns (row_after t s) (column_after t s) (table_window t inner.height s).first (table_window t inner.height s).end)
+    in_rows inner _ _ (body_stays t (body_of t inner) gutter columns (row_after t s) (column_after t s)
+    (table_window t inner.height s).first (table_window t inner.height s).end)
 
 parts_stay : (t : TableData) (inner : Rect) (gutter : ℕ) (columns : List Segment) (s : TableState) (empty : Bool) → StayIn (covers inner) (if empty then [] else
     edge_layers t inner gutter columns 0 t.header

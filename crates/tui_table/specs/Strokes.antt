@@ -1,5 +1,29 @@
 -- The strokes of a table.
-use Rattle.std.specs.Prelude.{ℕ, ◌+◌, ◌*◌, ◌==◌, Bool, true, false, List, [], ◌∷◌, ◌++◌, drop, take, flat_map, length, sum_by, slice_get, slice_range, Option, None, Some, option_map, if◌then◌else◌}
+use Rattle.std.specs.Prelude.{
+  ℕ,
+  ◌+◌,
+  ◌*◌,
+  ◌==◌,
+  Bool,
+  true,
+  false,
+  List,
+  [],
+  ◌∷◌,
+  ◌++◌,
+  drop,
+  take,
+  flat_map,
+  length,
+  sum_by,
+  slice_get,
+  slice_range,
+  Option,
+  None,
+  Some,
+  option_map,
+  if◌then◌else◌,
+}
 use Rattle.std.specs.List.{enumerate_from}
 use Rattle.tui_cells.specs.declared.rect.Rect.{Rect}
 use Rattle.tui_cells.specs.declared.style.Style.{Style}

@@ -8,13 +8,13 @@ ghost use Rattle.tui_table.specs.State.{
   LendsSelected,
   at_rest,
   back,
-  cell_of,
   column_of_cell,
   further,
   greatest,
   next_of,
   previous_of,
   row_of_cell,
+  selected_cell,
 };
 
 /// The first row that is shown, and the selected row and column; all places count from 0. A row or a column past the last one
@@ -129,7 +129,7 @@ impl TableState {
 
     /// The selected row and column, None exactly where one of them is.
     pub fn selected_cell(&self) -> Option<(usize, usize)>
-        ensures { result ≡ cell_of self.now.selected self.now.selected_column }
+        ensures { result ≡ selected_cell self.now.selected self.now.selected_column }
     {
         match (self.selected, self.selected_column) {
             (Some(row), Some(column)) => Some((row, column)),

@@ -20,4 +20,6 @@ mod scene;
 #[cfg(test)]
 mod shown;
 #[cfg(test)]
+mod table;
+#[cfg(test)]
 mod text;

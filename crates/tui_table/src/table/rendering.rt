@@ -1,6 +1,22 @@
 //! How a table is drawn.
 
-ghost use Rattle.std.specs.Prelude.{◌≡◌, ◌+◌, ◌<◌, ◌≤◌, ◌^◌, [], IfOk, IsOk, IsTrue, OnOk, false, length, min, option_map, if◌then◌else◌};
+ghost use Rattle.std.specs.Prelude.{
+  ◌≡◌,
+  ◌+◌,
+  ◌<◌,
+  ◌≤◌,
+  ◌^◌,
+  [],
+  IfOk,
+  IsOk,
+  IsTrue,
+  OnOk,
+  false,
+  length,
+  min,
+  option_map,
+  if◌then◌else◌,
+};
 ghost use Rattle.tui_cells.specs.Layers.{KeptOutside, Painted};
 ghost use Rattle.tui_cells.specs.Rect.{columns_from, covers, is_empty};
 ghost use Rattle.tui_frames.specs.Footprint.{footprint_if};
@@ -50,7 +66,8 @@ impl<'a> Table<'a> {
         style: Style,
         is_selected: bool,
     ) -> Mem<()>
-        ensures ok { OnOk result (Painted (if is_selected then text_over (columns_from area 0 gutter) style (table_data self.now).symbol else []) buf.old buf.new) }
+        ensures ok { OnOk result
+            (Painted (if is_selected then text_over (columns_from area 0 gutter) style (table_data self.now).symbol else []) buf.old buf.new) }
         ensures kept { KeptOutside (covers area) buf.old buf.new }
     {
         if !is_selected {
@@ -310,7 +327,13 @@ impl<'a> StatefulWidget for Table<'a> {
 
     ghost moving = { λ table. table_moving (table_data table) };
 
-    fn render(&self, alloc: Global, area: Rect, buf: &mut Buffer, state: &mut TableState) -> Mem<()> {
+    fn render(
+        &self,
+        alloc: Global,
+        area: Rect,
+        buf: &mut Buffer,
+        state: &mut TableState,
+    ) -> Mem<()> {
         let clip = area.intersection(buf.area());
         *state = self.paint_in(alloc, buf, clip, *state)?;
         Ok(())

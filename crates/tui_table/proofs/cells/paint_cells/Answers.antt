@@ -1,4 +1,4 @@
-use Rattle.std.proofs.Common.{◌+◌, ap, arith, length, map}
+use Rattle.std.proofs.Common.{◌+◌, ap, arith, map}
 use Rattle.std.proofs.lemmas.List.{length-map}
 use Rattle.tui_cells.proofs.Painting.{KeptOutside-then}
 use Rattle.tui_table.specs.Cell.{cell_data}

@@ -1,4 +1,4 @@
-use Rattle.std.proofs.Common.{◌+◌, ap, map, min, sym, ◌∙◌}
+use Rattle.std.proofs.Common.{◌+◌, ap, min, sym, ◌∙◌}
 use Rattle.std.proofs.lemmas.List.{length-map}
 use Rattle.tui_cells.proofs.Painting.{Painted-kept}
 use Rattle.tui_table.specs.Row.{row_data}
