@@ -1,0 +1,2 @@
+pub mod LightTexts
+pub mod GaugeStrokes
