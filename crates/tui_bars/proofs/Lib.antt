@@ -1,2 +1,5 @@
 pub mod LightTexts
 pub mod GaugeStrokes
+pub mod StandingBars
+pub mod SparklineBars
+pub mod Ticks

@@ -1,4 +1,4 @@
--- What gauges are to those who place them.
+-- What gauges and sparklines are to those who place them.
 use Rattle.std.specs.Prelude.{List, Option}
 use Rattle.tui_cells.specs.declared.rect.Rect.{Rect}
 use Rattle.tui_cells.specs.declared.style.Style.{Style}
@@ -10,10 +10,12 @@ use Rattle.tui_frames.specs.Block.{BlockData}
 use Rattle.tui_frames.specs.Footprint.{footprint_if}
 use Rattle.tui_frames.specs.InBlock.{IsLightIfBlock, inner_of}
 use Rattle.tui_frames.proofs.InBlock.{nowhere_if}
-use Rattle.tui_bars.specs.Framed.{framed_layers}
+use Rattle.tui_bars.specs.Framed.{framed_layers, in_block_layers}
 use Rattle.tui_bars.specs.Gauge.{GaugeData, IsLightLabel, gauge_layers}
 use Rattle.tui_bars.specs.LineGauge.{IsLightLine, LineGaugeData, line_gauge_layers}
-use Rattle.tui_bars.specs.Stays.{framed_stays, gauge_stays, line_gauge_stays}
+use Rattle.tui_bars.specs.Levels.{AreLightLevels}
+use Rattle.tui_bars.specs.Sparkline.{SparklineData, sparkline_layers}
+use Rattle.tui_bars.specs.Stays.{framed_stays, gauge_stays, in_block_stays, line_gauge_stays, sparkline_stays}
 
 -- a widget with a style and perhaps a block, which shows its strokes
 abbrev pub framed_drawing : Option BlockData → Style → (content : Rect → List Layer) → Type 0 → ((area : Rect) → StayIn (covers area) (content area)) → Drawing
@@ -42,3 +44,19 @@ gauge_drawing g = framed_drawing g.block g.style (gauge_layers g) (IsLightGauge 
 
 abbrev pub line_gauge_drawing : LineGaugeData → Drawing
 line_gauge_drawing g = framed_drawing g.block g.style (line_gauge_layers g) (IsLightLineGauge g) (line_gauge_stays g)
+
+-- a sparkline has no style under its block
+pub record IsLightSparkline (s : SparklineData) : Type 0 where
+  pub block : IsLightIfBlock s.block
+  pub symbols : AreLightLevels s.symbols
+  pub absent : IsLight s.absent_symbol
+
+abbrev pub sparkline_drawing : SparklineData → Drawing
+sparkline_drawing s = record {
+  layers = in_block_layers s.block (sparkline_layers s);
+  footprint = footprint_if s.block;
+  shows = λ clip. Painted (in_block_layers s.block (sparkline_layers s) clip);
+  light = IsLightSparkline s;
+  stays = λ clip. in_block_stays s.block (sparkline_layers s) clip (sparkline_stays s _);
+  nowhere = nowhere_if s.block;
+}

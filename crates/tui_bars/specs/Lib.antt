@@ -3,5 +3,8 @@ pub mod Framed
 pub mod Percent
 pub mod Gauge
 pub mod LineGauge
+pub mod Levels
+pub mod RenderDirection
+pub mod Sparkline
 pub mod Stays
 pub mod Drawing

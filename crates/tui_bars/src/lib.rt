@@ -1,14 +1,23 @@
-//! Bars by whole numbers: gauges that fill by a share.
+//! Bars by whole numbers: gauges that fill by a share, and values side by side.
 #![tactic(auto)]
 
 mod areas;
 pub mod error;
 pub mod gauge;
 mod label;
+pub mod laws;
+mod levels;
 pub mod line_gauge;
 mod percent;
+pub mod render_direction;
 mod share;
+pub mod sparkline;
+pub mod sparkline_bar;
 
 pub use error::GaugeError;
 pub use gauge::Gauge;
+pub use laws::tick_laws;
 pub use line_gauge::LineGauge;
+pub use render_direction::RenderDirection;
+pub use sparkline::Sparkline;
+pub use sparkline_bar::SparklineBar;
