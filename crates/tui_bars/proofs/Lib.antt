@@ -3,3 +3,5 @@ pub mod GaugeStrokes
 pub mod StandingBars
 pub mod SparklineBars
 pub mod Ticks
+pub mod Walks
+pub mod CharStarts

@@ -1,5 +1,5 @@
 -- Texts of printable bytes take no memory: each of their graphemes is one byte.
-use Rattle.std.proofs.Common.{◌≡◌, ℕ, ◌+◌, ◌%◌, ◌<◌, ◌≤◌, ◌^◌, zero, suc, Bool, true, false, List, [], ◌∷◌, ◌++◌, All, length, nat_lt, if◌then◌else◌, refl, arith}
+use Rattle.std.proofs.Common.{◌≡◌, ℕ, ◌+◌, ◌%◌, ◌<◌, ◌≤◌, ◌^◌, zero, suc, Bool, true, false, List, [], ◌∷◌, ◌++◌, All, drop, length, nat_lt, if◌then◌else◌, refl, arith}
 use Rattle.std.specs.Prelude.{codes, decimal}
 use Rattle.std.specs.List.{list_all}
 use Rattle.std.specs.Str.{IsAscii}
@@ -10,9 +10,13 @@ use Rattle.std.proofs.lemmas.List.Elements.{All-cons}
 use Rattle.std.proofs.lemmas.List.Folds.{list_all-append}
 use Rattle.std.proofs.lemmas.Str.{IsUtf8-from_ascii}
 use Rattle.tui_cells.specs.Cell.{IsLight}
+use Rattle.tui_cells.specs.declared.style.Style.{Style}
+use Rattle.tui_layout.specs.declared.direction.Direction.{Direction}
+use Rattle.tui_layout.specs.declared.direction.Direction.TheVariants.{Horizontal, Vertical}
+use Rattle.tui_bars.specs.ChartLight.{IsLightText}
 use Rattle.tui_text.specs.Graphemes.{clusters}
 use Rattle.tui_text.specs.Part.{IsSeam, is_printable}
-use Rattle.tui_text.specs.Setting.{AreLight}
+use Rattle.tui_text.specs.Setting.{AreLight, styled_text}
 use Rattle.tui_text.specs.Span.{raw_span}
 use Rattle.tui_text.proofs.EmptyText.{clusters-nil}
 use Rattle.tui_text.proofs.PartClusters.{graphemes-part, shown-one}
@@ -50,6 +54,10 @@ clusters_light [] e = rw clusters-nil (none IsLight)
 clusters_light (b ∷ bs) e =
     rw (first_cluster b bs e) (All-cons IsLight (b ∷ []) (clusters bs) (omega arith) (clusters_light bs (and_parts (is_printable b) _ e).1))
 
+-- a text whose graphemes are light, as a span
+pub light_styled : (text : List ℕ) (style : Style) → All IsLight (clusters text) → AreLight (styled_text text style)
+light_styled text style light = All-cons (λ s. All IsLight (clusters s.content)) _ [] light (none _)
+
 pub printable_light : (text : List ℕ) → list_all is_printable text ≡ true → AreLight (raw_span text ∷ [])
 printable_light text e = All-cons (λ s. All IsLight (clusters s.content)) (raw_span text) [] (clusters_light text e) (none _)
 
@@ -63,8 +71,15 @@ decimal_printable : (n : ℕ) → n < 10 ^ 64 → list_all is_printable (decimal
 decimal_printable = decimal_by_steps_wide (λ m ds. list_all is_printable ds ≡ true) (λ m lt. digit_printable m lt)
     (λ m ds lt h. both_printable ds _ h (digit_printable (m % 10) (omega arith)))
 
-pub decimal_light : (n : ℕ) → n < 10 ^ 64 → AreLight (raw_span (decimal n) ∷ [])
-decimal_light n lt = printable_light (decimal n) (decimal_printable n lt)
+rest_printable : (k : ℕ) (text : List ℕ) → list_all is_printable text ≡ true → list_all is_printable (drop k text) ≡ true
+rest_printable zero text e = e
+rest_printable (suc k) [] e = refl
+rest_printable (suc k) (b ∷ bs) e = rest_printable k bs (and_parts (is_printable b) _ e).1
+
+-- the decimal of a bar's value
+pub decimal_light : (direction : Direction) (n : ℕ) → n < 10 ^ 64 → IsLightText direction (decimal n)
+decimal_light Vertical n lt = clusters_light (decimal n) (decimal_printable n lt)
+decimal_light Horizontal n lt = λ place. clusters_light (drop place (decimal n)) (rest_printable place (decimal n) (decimal_printable n lt))
 
 pub percent_light : (n : ℕ) → n < 10 ^ 64 → AreLight (raw_span (decimal n ++ codes "%") ∷ [])
 percent_light n lt = printable_light _ (both_printable (decimal n) (codes "%") (decimal_printable n lt) refl)

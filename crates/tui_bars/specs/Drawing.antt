@@ -1,4 +1,4 @@
--- What gauges and sparklines are to those who place them.
+-- What gauges, bar charts and sparklines are to those who place them.
 use Rattle.std.specs.Prelude.{List, Option}
 use Rattle.tui_cells.specs.declared.rect.Rect.{Rect}
 use Rattle.tui_cells.specs.declared.style.Style.{Style}
@@ -10,6 +10,10 @@ use Rattle.tui_frames.specs.Block.{BlockData}
 use Rattle.tui_frames.specs.Footprint.{footprint_if}
 use Rattle.tui_frames.specs.InBlock.{IsLightIfBlock, inner_of}
 use Rattle.tui_frames.proofs.InBlock.{nowhere_if}
+use Rattle.tui_bars.specs.BarChart.{BarChartData}
+use Rattle.tui_bars.specs.ChartLight.{IsLightChart}
+use Rattle.tui_bars.specs.ChartStays.{bar_chart_stays}
+use Rattle.tui_bars.specs.ChartStrokes.{bar_chart_layers}
 use Rattle.tui_bars.specs.Framed.{framed_layers, in_block_layers}
 use Rattle.tui_bars.specs.Gauge.{GaugeData, IsLightLabel, gauge_layers}
 use Rattle.tui_bars.specs.LineGauge.{IsLightLine, LineGaugeData, line_gauge_layers}
@@ -60,3 +64,6 @@ sparkline_drawing s = record {
   stays = λ clip. in_block_stays s.block (sparkline_layers s) clip (sparkline_stays s _);
   nowhere = nowhere_if s.block;
 }
+
+abbrev pub bar_chart_drawing : BarChartData → Drawing
+bar_chart_drawing c = framed_drawing c.block c.style (bar_chart_layers c) (IsLightChart c) (bar_chart_stays c)

@@ -6,5 +6,13 @@ pub mod LineGauge
 pub mod Levels
 pub mod RenderDirection
 pub mod Sparkline
+pub mod BarChart
+pub mod Shown
+pub mod Labels
+pub mod Upright
+pub mod Lying
+pub mod ChartStrokes
+pub mod ChartLight
 pub mod Stays
+pub mod ChartStays
 pub mod Drawing
