@@ -46,7 +46,10 @@ fn bars_stand_side_by_side(rt: HostRuntime) -> Result<(), Fail> {
         .bar_width(3)
         .max(100)
         .bar_set(bar::THREE_LEVELS);
-    assert_eq!(rt; drawn(alloc, &chart, 8, 2)?.as_str(), "    ███ \n10  100 \n");
+    assert_eq!(rt;
+        drawn(alloc, &chart, 8, 2)?.as_str(),
+        "    ███ \n10  100 \n"
+    );
     Ok(())
 }
 
@@ -58,11 +61,20 @@ fn groups_stand_apart(rt: HostRuntime) -> Result<(), Fail> {
     chart.data(pairs(alloc, "none", &[])?)?;
     chart.data(pairs(alloc, "H", &[("c", 2), ("d", 2)])?)?;
     // The gaps are 1 and 3 columns, and the last bar has no column.
-    assert_eq!(rt; drawn(alloc, &chart, 7, 4)?.as_str(), "█     █\n2 1   2\na b   c\nG1    H\n");
+    assert_eq!(rt;
+        drawn(alloc, &chart, 7, 4)?.as_str(),
+        "█     █\n2 1   2\na b   c\nG1    H\n"
+    );
     assert_eq!(rt; drawn(alloc, &chart, 7, 2)?.as_str(), "2 ▄   2\na b   c\n");
     assert_eq!(rt; drawn(alloc, &chart, 7, 1)?.as_str(), "2 ▄   2\n");
-    let chart = chart.direction(Direction::Horizontal).bar_gap(0).group_gap(1);
-    assert_eq!(rt; drawn(alloc, &chart, 6, 5)?.as_str(), "a 2███\nb 1█  \n  G1  \nc 2███\nd 2███\n");
+    let chart = chart
+        .direction(Direction::Horizontal)
+        .bar_gap(0)
+        .group_gap(1);
+    assert_eq!(rt;
+        drawn(alloc, &chart, 6, 5)?.as_str(),
+        "a 2███\nb 1█  \n  G1  \nc 2███\nd 2███\n"
+    );
     Ok(())
 }
 
@@ -73,10 +85,16 @@ fn bars_lie_below_each_other(rt: HostRuntime) -> Result<(), Fail> {
     bars.push(Bar::with_label(Line::raw(alloc, "ab")?, 5))?;
     bars.push(Bar::with_label(Line::raw(alloc, "c")?, 1).text_value("é1"))?;
     let chart = BarChart::horizontal(alloc, bars)?.bar_gap(0);
-    assert_eq!(rt; drawn(alloc, &chart, 8, 2)?.as_str(), "ab 5████\nc  é 1  \n");
+    assert_eq!(rt;
+        drawn(alloc, &chart, 8, 2)?.as_str(),
+        "ab 5████\nc  é 1  \n"
+    );
     assert_eq!(rt; drawn(alloc, &chart, 2, 2)?.as_str(), "ab\nc \n");
     let chart = BarChart::horizontal(alloc, values(alloc, &[0, 3])?)?.bar_width(3);
-    assert_eq!(rt; drawn(alloc, &chart, 3, 7)?.as_str(), "   \n0  \n   \n   \n███\n3██\n███\n");
+    assert_eq!(rt;
+        drawn(alloc, &chart, 3, 7)?.as_str(),
+        "   \n0  \n   \n   \n███\n3██\n███\n"
+    );
     Ok(())
 }
 
@@ -93,7 +111,10 @@ fn labels_are_placed(rt: HostRuntime) -> Result<(), Fail> {
     let chart = BarChart::grouped(groups).bar_width(3).label_style(red);
     let mut buffer = blank(alloc, 8, 3)?;
     chart.render(alloc, Rect::new(0, 0, 8, 3), &mut buffer)?;
-    assert_eq!(rt; shown(alloc, &buffer)?.as_str(), "█1█     \n x  lon \n      g \n");
+    assert_eq!(rt;
+        shown(alloc, &buffer)?.as_str(),
+        "█1█     \n x  lon \n      g \n"
+    );
     let colour = |x, y| buffer.cell(Position::new(x, y)).map(|cell| cell.fg());
     assert!(rt; colour(1, 1) == Some(Color::Red));
     assert!(rt; colour(6, 2) == Some(Color::Red));
@@ -121,7 +142,10 @@ fn great_numbers_are_drawn(rt: HostRuntime) -> Result<(), Fail> {
     assert_eq!(rt; shown(alloc, &buffer)?.as_str(), "  \n");
     let chart = chart.bar_width(1);
     assert_eq!(rt; drawn(alloc, &chart, 2, 1)?.as_str(), "█ \n");
-    let chart = chart.direction(Direction::Horizontal).bar_gap(65534).bar_width(2);
+    let chart = chart
+        .direction(Direction::Horizontal)
+        .bar_gap(65534)
+        .bar_width(2);
     assert_eq!(rt; drawn(alloc, &chart, 3, 2)?.as_str(), "███\n184\n");
     assert_eq!(rt; drawn(alloc, &chart.bar_width(0), 2, 1)?.as_str(), "  \n");
     Ok(())
@@ -130,7 +154,9 @@ fn great_numbers_are_drawn(rt: HostRuntime) -> Result<(), Fail> {
 #[test]
 fn charts_are_built_and_copied(rt: HostRuntime) -> Result<(), Fail> {
     let alloc = rt.alloc();
-    let bar = Bar::default().value(7).value_style(Style::new().bg(Color::Blue));
+    let bar = Bar::default()
+        .value(7)
+        .value_style(Style::new().bg(Color::Blue));
     assert!(rt; bar.clone()? == bar);
     let group = pairs(alloc, "g", &[("a", 2), ("b", 1)])?;
     assert!(rt; group.clone()? == group);
@@ -138,7 +164,10 @@ fn charts_are_built_and_copied(rt: HostRuntime) -> Result<(), Fail> {
     chart.data(group)?;
     assert!(rt; chart.clone()? == chart);
     assert!(rt; BarChart::new(alloc, Vec::new(alloc))? == BarChart::grouped(Vec::new(alloc)));
-    assert_eq!(rt; drawn(alloc, &chart, 5, 3)?.as_str(), "┌───┐\n│2 ▄│\n└───┘\n");
+    assert_eq!(rt;
+        drawn(alloc, &chart, 5, 3)?.as_str(),
+        "┌───┐\n│2 ▄│\n└───┘\n"
+    );
     Ok(())
 }
 
@@ -159,7 +188,10 @@ fn values_are_side_by_side(rt: HostRuntime) -> Result<(), Fail> {
     assert!(rt; line.clone()? == line);
     let line = line.direction(RenderDirection::RightToLeft);
     assert_eq!(rt; drawn(alloc, &line, 12, 1)?.as_str(), "   █▇▆▅▄▃▂▁ \n");
-    assert_eq!(rt; drawn(alloc, &line.max(0), 12, 1)?.as_str(), "            \n");
+    assert_eq!(rt;
+        drawn(alloc, &line.max(0), 12, 1)?.as_str(),
+        "            \n"
+    );
     let mut bars = Vec::new(alloc);
     bars.push(SparklineBar::from(&1))?;
     bars.push(SparklineBar::default().style(Some(Style::new())))?;
