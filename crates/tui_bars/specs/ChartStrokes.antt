@@ -35,14 +35,30 @@ abbrev pub upright_plan : BarChartData → Rect → Plan
 upright_plan c area =
     let bars = nat_le 2 area.height && list_any has_bar_label c.groups in
     let groups = nat_le 2 area.height && (list_any has_group_label c.groups && not ((area.height == 2) && bars)) in
-    record { area = area; greatest = greatest_of c; length = area.height - (count bars + count groups); bar_labels = bars; group_labels = groups; labels = 0; start = 0 }
+    record {
+      area = area;
+      greatest = greatest_of c;
+      length = area.height - (count bars + count groups);
+      bar_labels = bars;
+      group_labels = groups;
+      labels = 0;
+      start = 0;
+    }
 
 -- a horizontal chart: the bars begin behind the labels, and one column more
 abbrev pub lying_plan : BarChartData → Rect → Plan
 lying_plan c area =
     let labels = label_width_of c in
     let margin = labels + count (nat_lt 0 labels) in
-    record { area = area; greatest = greatest_of c; length = area.width - margin; bar_labels = false; group_labels = false; labels = labels; start = past area.x margin }
+    record {
+      area = area;
+      greatest = greatest_of c;
+      length = area.width - margin;
+      bar_labels = false;
+      group_labels = false;
+      labels = labels;
+      start = past area.x margin;
+    }
 
 -- the bars of all groups and then their labels and values; or group after group from the top, its label in the gap below it
 abbrev pub directed_layers : BarChartData → Rect → Direction → List Layer

@@ -68,7 +68,8 @@ levels_stay s clip area style left (suc n) = StayIn-append (put_stays clip _ _ s
 pub standing_stays : (s : BarSymbols) (clip area : Rect) (style : Style) (filled : ℕ) → StayIn (covers clip) (standing_layers s clip area style filled)
 standing_stays s clip area style filled = levels_stay s clip area style filled area.height
 
-value_stays : (s : SparklineData) (area column : Rect) (greatest : ℕ) (style : Option Style) (value : Option ℕ) → StayIn (covers area) (value_layers s area column greatest style value)
+value_stays : (s : SparklineData) (area column : Rect) (greatest : ℕ) (style : Option Style) (value : Option ℕ) →
+    StayIn (covers area) (value_layers s area column greatest style value)
 value_stays s area column greatest style None = put_stays area column _ _
 value_stays s area column greatest style (Some value) = standing_stays s.symbols area column _ _
 

@@ -174,7 +174,8 @@ impl<'a> Gauge<'a> {
     }
 
     fn paint_in(&self, alloc: Global, buf: &mut Buffer, clip: Rect) -> Mem<()>
-        ensures ok { OnOk result (Painted (framed_layers (gauge_data self.now).block self.now.style (gauge_layers (gauge_data self.now)) clip) buf.old buf.new) }
+        ensures ok { OnOk result
+            (Painted (framed_layers (gauge_data self.now).block self.now.style (gauge_layers (gauge_data self.now)) clip) buf.old buf.new) }
         ensures kept { KeptOutside (footprint_if (gauge_data self.now).block clip) buf.old buf.new }
         ensures empty { IsTrue (is_empty clip) → IsOk result }
         ensures light { IsLightGauge (gauge_data self.now) → IsOk result }
