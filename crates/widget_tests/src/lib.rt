@@ -2,11 +2,15 @@
 #![tactic(auto)]
 
 #[cfg(test)]
+mod bars;
+#[cfg(test)]
 mod blocks;
 #[cfg(test)]
 mod cells;
 #[cfg(test)]
 mod frames;
+#[cfg(test)]
+mod gauges;
 #[cfg(test)]
 mod joining;
 #[cfg(test)]

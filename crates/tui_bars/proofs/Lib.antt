@@ -1,0 +1,7 @@
+pub mod LightTexts
+pub mod GaugeStrokes
+pub mod StandingBars
+pub mod SparklineBars
+pub mod Ticks
+pub mod Walks
+pub mod CharStarts

@@ -1,0 +1,97 @@
+-- Texts of printable bytes take no memory: each of their graphemes is one byte.
+use Rattle.std.proofs.Common.{◌≡◌, ℕ, ◌+◌, ◌%◌, ◌<◌, ◌≤◌, ◌^◌, zero, suc, Bool, true, false, List, [], ◌∷◌, ◌++◌, All, drop, length, nat_lt, if◌then◌else◌, refl, arith}
+use Rattle.std.specs.Prelude.{codes, decimal}
+use Rattle.std.specs.List.{list_all}
+use Rattle.std.specs.Str.{IsAscii}
+use Rattle.std.proofs.lemmas.Bool.{and_parts}
+use Rattle.std.proofs.lemmas.Bool.Decides.{nat_tests}
+use Rattle.std.proofs.lemmas.Fmt.{decimal_by_steps_wide}
+use Rattle.std.proofs.lemmas.List.Elements.{All-cons}
+use Rattle.std.proofs.lemmas.List.Folds.{list_all-append}
+use Rattle.std.proofs.lemmas.Str.{IsUtf8-from_ascii}
+use Rattle.tui_cells.specs.Cell.{IsLight}
+use Rattle.tui_cells.specs.declared.style.Style.{Style}
+use Rattle.tui_layout.specs.declared.direction.Direction.{Direction}
+use Rattle.tui_layout.specs.declared.direction.Direction.TheVariants.{Horizontal, Vertical}
+use Rattle.tui_bars.specs.ChartLight.{IsLightText}
+use Rattle.tui_text.specs.Graphemes.{clusters}
+use Rattle.tui_text.specs.Part.{IsSeam, is_printable}
+use Rattle.tui_text.specs.Setting.{AreLight, styled_text}
+use Rattle.tui_text.specs.Span.{raw_span}
+use Rattle.tui_text.proofs.EmptyText.{clusters-nil}
+use Rattle.tui_text.proofs.PartClusters.{graphemes-part, shown-one}
+use Rattle.tui_bars.specs.Percent.{padded}
+
+below_128 : (b : ℕ) → is_printable b ≡ true → b < 128
+below_128 b e = grind (arith, nat_tests)
+
+printable_range : (b : ℕ) → is_printable b ≡ true → (32 ≤ b) × (b ≤ 126)
+printable_range b e = (grind (arith, nat_tests), grind (arith, nat_tests))
+
+printable_ascii : (text : List ℕ) → list_all is_printable text ≡ true → IsAscii text
+printable_ascii [] e i = omega arith
+printable_ascii (b ∷ bs) e zero = below_128 b (and_parts (is_printable b) _ e).0
+printable_ascii (b ∷ bs) e (suc i) = printable_ascii bs (and_parts (is_printable b) _ e).1 i
+
+first_seam : (b : ℕ) (bs : List ℕ) → list_all is_printable (b ∷ bs) ≡ true → 1 < length (b ∷ bs) → IsSeam (b ∷ bs) 1
+first_seam b [] e lt = absurd (omega arith)
+first_seam b (c ∷ cs) e lt =
+    let both = and_parts (is_printable b) _ e in
+    record { before = both.0; after = (and_parts (is_printable c) _ both.1).0 }
+
+-- its first byte is the first grapheme
+first_cluster : (b : ℕ) (bs : List ℕ) → list_all is_printable (b ∷ bs) ≡ true → clusters (b ∷ bs) ≡ (b ∷ []) ∷ clusters bs
+first_cluster b bs e =
+    let range = printable_range b (and_parts (is_printable b) _ e).0 in
+    shown-one [] [] (b ∷ bs) (b ∷ []) bs b refl refl
+    (graphemes-part (b ∷ bs) 1 (IsUtf8-from_ascii (b ∷ bs) (printable_ascii (b ∷ bs) e)) (omega arith) (omega arith) (first_seam b bs e)) refl range.0 range.1
+
+none : {X : Type 0} (P : X → Type 0) → All P []
+none P k d lt = absurd (omega arith)
+
+clusters_light : (text : List ℕ) → list_all is_printable text ≡ true → All IsLight (clusters text)
+clusters_light [] e = rw clusters-nil (none IsLight)
+clusters_light (b ∷ bs) e =
+    rw (first_cluster b bs e) (All-cons IsLight (b ∷ []) (clusters bs) (omega arith) (clusters_light bs (and_parts (is_printable b) _ e).1))
+
+-- a text whose graphemes are light, as a span
+pub light_styled : (text : List ℕ) (style : Style) → All IsLight (clusters text) → AreLight (styled_text text style)
+light_styled text style light = All-cons (λ s. All IsLight (clusters s.content)) _ [] light (none _)
+
+pub printable_light : (text : List ℕ) → list_all is_printable text ≡ true → AreLight (raw_span text ∷ [])
+printable_light text e = All-cons (λ s. All IsLight (clusters s.content)) (raw_span text) [] (clusters_light text e) (none _)
+
+both_printable : (s t : List ℕ) → list_all is_printable s ≡ true → list_all is_printable t ≡ true → list_all is_printable (s ++ t) ≡ true
+both_printable s t d e = rw (list_all-append is_printable s t, d, e) refl
+
+digit_printable : (n : ℕ) → n < 10 → list_all is_printable ((48 + n) ∷ []) ≡ true
+digit_printable n lt = grind (arith, nat_tests)
+
+decimal_printable : (n : ℕ) → n < 10 ^ 64 → list_all is_printable (decimal n) ≡ true
+decimal_printable = decimal_by_steps_wide (λ m ds. list_all is_printable ds ≡ true) (λ m lt. digit_printable m lt)
+    (λ m ds lt h. both_printable ds _ h (digit_printable (m % 10) (omega arith)))
+
+rest_printable : (k : ℕ) (text : List ℕ) → list_all is_printable text ≡ true → list_all is_printable (drop k text) ≡ true
+rest_printable zero text e = e
+rest_printable (suc k) [] e = refl
+rest_printable (suc k) (b ∷ bs) e = rest_printable k bs (and_parts (is_printable b) _ e).1
+
+-- the decimal of a bar's value
+pub decimal_light : (direction : Direction) (n : ℕ) → n < 10 ^ 64 → IsLightText direction (decimal n)
+decimal_light Vertical n lt = clusters_light (decimal n) (decimal_printable n lt)
+decimal_light Horizontal n lt = λ place. clusters_light (drop place (decimal n)) (rest_printable place (decimal n) (decimal_printable n lt))
+
+pub percent_light : (n : ℕ) → n < 10 ^ 64 → AreLight (raw_span (decimal n ++ codes "%") ∷ [])
+percent_light n lt = printable_light _ (both_printable (decimal n) (codes "%") (decimal_printable n lt) refl)
+
+blank_printable : (b : Bool) → list_all is_printable (if b then codes " " else []) ≡ true
+blank_printable true = refl
+blank_printable false = refl
+
+pub padded_light : (n : ℕ) → n < 10 ^ 64 → AreLight (raw_span (padded n) ∷ [])
+padded_light n lt =
+    let first = if nat_lt n 100 then codes " " else [] in
+    let second = if nat_lt n 10 then codes " " else [] in
+    let blanks = both_printable first second (blank_printable (nat_lt n 100)) (blank_printable (nat_lt n 10)) in
+    printable_light (first ++ second ++ decimal n ++ codes "%")
+    (both_printable (first ++ second ++ decimal n) (codes "%") (both_printable (first ++ second) (decimal n) blanks (decimal_printable n lt)) refl)

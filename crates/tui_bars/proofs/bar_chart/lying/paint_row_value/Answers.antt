@@ -1,0 +1,12 @@
+use Rattle.tui_bars.proofs.GaugeStrokes.{ok_then}
+use Rattle.tui_bars.specs.Lying.{row_value_layers}
+use Rattle.tui_bars.proofs.LightTexts.{light_styled}
+use Rattle.tui_bars.proofs.bar_chart.lying.paint_row_value.Goals as goal
+
+pub returns-clause-ok : goal.returns-clause-ok
+unfolding row_value_layers
+returns-clause-ok c = ok_then _ _ _ c.in_ok-set_stringn_in.ensures.ok c.paint_beyond.ensures.ok
+
+pub returns-in_err-set_stringn_in-clause-light : goal.returns-in_err-set_stringn_in-clause-light
+returns-in_err-set_stringn_in-clause-light c light =
+    let broken = c.in_err-set_stringn_in.ensures.light (light_styled c.args.text.now _ (light 0)) in cc

@@ -1,0 +1,6 @@
+use Rattle.std.proofs.lemmas.Bool.{and_parts}
+use Rattle.tui_bars.specs.contracts.gauge.GaugeEq.TheImpl.Laws.{laws-law}
+use Rattle.tui_bars.proofs.gauge.Gauge.clone.Goals as goal
+
+pub returns-clause-equal : goal.returns-clause-equal
+returns-clause-equal c = rw c.in_ok-clone_if_some.ensures.equal (and_parts _ _ (laws-law.refl c.args.self.now)).1

@@ -1,0 +1,83 @@
+-- The strokes of bars that lie below each other.
+use Rattle.std.specs.Prelude.{ℕ, zero, suc, ◌||◌, not, nat_le, slice_index, ◌+◌, ◌-◌, ◌*◌, ◌/◌, ◌&&◌, nat_lt, Bool, List, [], ◌++◌, length, drop, Option, None, Some, if◌then◌else◌}
+use Rattle.tui_cells.specs.declared.rect.Rect.{Rect}
+use Rattle.tui_cells.specs.declared.style.Style.{Style}
+use Rattle.tui_cells.specs.Layers.{Layer}
+use Rattle.tui_cells.specs.Style.{patched}
+use Rattle.tui_frames.specs.Space.{past}
+use Rattle.tui_text.specs.Line.{LineData}
+use Rattle.tui_text.specs.Painting.{cells_at}
+use Rattle.tui_text.specs.Setting.{line_spans, set_layers, styled_text}
+use Rattle.tui_bars.specs.Areas.{put_layers}
+use Rattle.tui_bars.specs.BarChart.{BarChartData, BarData, value_text}
+use Rattle.tui_bars.specs.Labels.{group_title_layers}
+use Rattle.tui_bars.specs.Levels.{ticks}
+use Rattle.tui_bars.specs.Shown.{Shown}
+use Rattle.tui_bars.specs.declared.plan.Plan.{Plan}
+
+-- the columns of a bar that are filled
+abbrev pub filled_of : Plan → BarData → ℕ
+filled_of plan bar = ticks plan.greatest bar.value plan.length / 8
+
+-- the filled cells, and the others
+unfoldable pub strip_layers : BarChartData → Plan → ℕ → ℕ → Style → List Layer
+strip_layers c plan at filled style =
+    put_layers plan.area (record { x = plan.start; y = at; width = filled; height = c.width }) c.symbols.full style
+    ++ put_layers plan.area (record { x = past plan.start filled; y = at; width = plan.length - filled; height = c.width }) c.symbols.empty style
+
+-- the row of a bar's label and value
+abbrev pub middle_of : BarChartData → ℕ → ℕ
+middle_of c at = past at (c.width / 2)
+
+-- the label at the left
+abbrev pub left_label : Plan → ℕ → Option LineData → List Layer
+left_label plan middle None = []
+left_label plan middle (Some label) = set_layers plan.area (record { x = plan.area.x; y = middle }) (line_spans label) plan.labels
+
+unfoldable pub left_layers : Plan → ℕ → BarData → List Layer
+left_layers plan middle bar = left_label plan middle bar.label
+
+-- whether a character of the text begins at a byte, or the text ends there
+abbrev pub is_start : List ℕ → ℕ → Bool
+is_start text i = nat_le (length text) i || not (nat_lt 127 (slice_index text i) && nat_lt (slice_index text i) 192)
+
+-- the first such place among n + 1 bytes
+abbrev pub next_start : List ℕ → ℕ → ℕ → ℕ
+next_start text i zero = i
+next_start text i (suc n) = if is_start text i then i else next_start text (i + 1) n
+
+unfoldable pub start_from : ℕ → List ℕ → ℕ
+start_from place text = next_start text place (length text - place)
+
+-- a text that has more bytes than the bar has filled columns: from the first character on that begins past as many bytes, as
+-- many columns after the bar's beginning as it has bytes before
+abbrev pub rest_layers : Plan → ℕ → ℕ → List ℕ → Style → List Layer
+rest_layers plan middle k text style = set_layers plan.area (record { x = past plan.start k; y = middle }) (styled_text (drop k text) style) (plan.length - k)
+
+unfoldable pub beyond_layers : Plan → ℕ → ℕ → List ℕ → Style → List Layer
+beyond_layers plan middle filled text style =
+    if nat_lt filled (length text) then rest_layers plan middle (start_from filled text) text style else []
+
+-- a value's text: its beginning over the filled cells, and what is past them
+unfoldable pub row_value_layers : Plan → ℕ → ℕ → List ℕ → Style → Style → List Layer
+row_value_layers plan middle filled text value_style style =
+    set_layers plan.area (record { x = plan.start; y = middle }) (styled_text text value_style) filled
+    ++ beyond_layers plan middle filled text style
+
+-- a bar with its label and value
+unfoldable pub lying_layers : BarChartData → Plan → ℕ → BarData → List Layer
+lying_layers c plan at bar =
+    strip_layers c plan at (filled_of plan bar) (patched c.bar_style bar.style)
+    ++ left_layers plan (middle_of c at) bar
+    ++ row_value_layers plan (middle_of c at) (filled_of plan bar) (value_text bar) (patched c.value_style bar.value_style) (patched c.bar_style bar.style)
+
+-- the row below n bars, a group's label in it if there is a gap for it; a row that is not inside has no cells
+abbrev pub gap_row : BarChartData → Plan → ℕ → ℕ → Rect
+gap_row c plan at n = cells_at plan.start (past at (n * (c.width + c.gap) - c.gap)) plan.length
+
+abbrev pub group_row : BarChartData → Plan → ℕ → ℕ → Option LineData → List Layer
+group_row c plan at n None = []
+group_row c plan at n (Some label) = group_title_layers c plan.area (gap_row c plan at n) label
+
+unfoldable pub group_row_layers : BarChartData → Plan → Shown → List Layer
+group_row_layers c plan s = if nat_lt 0 c.group_gap then group_row c plan s.at s.count s.group.label else []

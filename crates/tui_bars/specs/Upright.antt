@@ -1,0 +1,70 @@
+-- The strokes of bars that stand side by side.
+use Rattle.std.specs.Prelude.{ℕ, ◌-◌, ◌/◌, ◌==◌, ◌&&◌, ◌||◌, min, nat_le, nat_lt, Bool, false, List, [], ◌++◌, length, Option, None, Some, if◌then◌else◌}
+use Rattle.tui_cells.specs.declared.position.Position.{Position}
+use Rattle.tui_cells.specs.declared.rect.Rect.{Rect}
+use Rattle.tui_cells.specs.declared.style.Style.{Style}
+use Rattle.tui_cells.specs.Layers.{Layer}
+use Rattle.tui_cells.specs.Style.{patched}
+use Rattle.tui_frames.specs.Space.{past}
+use Rattle.tui_text.specs.Line.{LineData}
+use Rattle.tui_text.specs.Painting.{cells_at}
+use Rattle.tui_text.specs.Setting.{set_layers, styled_text}
+use Rattle.tui_text.specs.Span.{raw_span}
+use Rattle.tui_text.specs.Width.{line_width, span_width}
+use Rattle.tui_text.specs.declared.alignment.Alignment.TheVariants.{Center}
+use Rattle.tui_bars.specs.BarChart.{BarChartData, BarData, value_text}
+use Rattle.tui_bars.specs.Labels.{columns_of, group_title_layers, place_in, titled_layers}
+use Rattle.tui_bars.specs.Levels.{standing_layers, ticks}
+use Rattle.tui_bars.specs.Shown.{Shown}
+use Rattle.tui_bars.specs.declared.plan.Plan.{Plan}
+
+-- a bar's cells
+abbrev pub bar_area : BarChartData → Plan → ℕ → Rect
+bar_area c plan at = record { x = at; y = plan.area.y; width = c.width; height = plan.length }
+
+unfoldable pub column_layers : BarChartData → Plan → ℕ → BarData → List Layer
+column_layers c plan at bar =
+    standing_layers c.symbols plan.area (bar_area c plan at) (patched c.bar_style bar.style) (ticks plan.greatest bar.value plan.length)
+
+-- a group's label in the last row, below its n bars
+abbrev pub group_row : BarChartData → Plan → ℕ → ℕ → Rect
+group_row c plan at n = cells_at at (past plan.area.y (plan.area.height - 1)) (columns_of c n)
+
+abbrev pub group_label : BarChartData → Plan → ℕ → ℕ → Option LineData → List Layer
+group_label c plan at n None = []
+group_label c plan at n (Some label) = group_title_layers c plan.area (group_row c plan at n) label
+
+unfoldable pub group_label_layers : BarChartData → Plan → Shown → List Layer
+group_label_layers c plan s = if plan.group_labels then group_label c plan s.at s.count s.group.label else []
+
+-- a bar's label in the row below the bar, in the middle of its columns
+abbrev pub label_row : BarChartData → Plan → ℕ → Rect
+label_row c plan at = cells_at at (past plan.area.y plan.length) c.width
+
+abbrev pub bar_label : BarChartData → Plan → ℕ → Option LineData → List Layer
+bar_label c plan at None = []
+bar_label c plan at (Some label) = titled_layers c plan.area (place_in (label_row c plan at) Center (min (line_width false label) c.width)) label
+
+unfoldable pub label_layers : BarChartData → Plan → ℕ → BarData → List Layer
+label_layers c plan at bar = if plan.bar_labels then bar_label c plan at bar.label else []
+
+-- a value's text is shown where it is narrower than the bar, or as wide and the bar's last cell is full
+abbrev pub has_room : ℕ → ℕ → ℕ → Bool
+has_room room width filled = nat_lt width room || ((width == room) && nat_le 8 filled)
+
+-- where it begins, in the last row of the bar
+abbrev pub value_place : BarChartData → Plan → ℕ → List ℕ → Position
+value_place c plan at text = record { x = past at ((c.width - length text) / 2); y = past plan.area.y (plan.length - 1) }
+
+unfoldable pub value_text_layers : BarChartData → Plan → ℕ → ℕ → List ℕ → Style → List Layer
+value_text_layers c plan at filled text style =
+    if has_room c.width (span_width false (raw_span text)) filled
+    then set_layers plan.area (value_place c plan at text) (styled_text text style) 65535 else []
+
+-- a bar's value, if it is not 0
+unfoldable pub value_layers : BarChartData → Plan → ℕ → BarData → List Layer
+value_layers c plan at bar = if bar.value == 0 then []
+    else value_text_layers c plan at (ticks plan.greatest bar.value plan.length) (value_text bar) (patched c.value_style bar.value_style)
+
+unfoldable pub texts_layers : BarChartData → Plan → ℕ → BarData → List Layer
+texts_layers c plan at bar = label_layers c plan at bar ++ value_layers c plan at bar

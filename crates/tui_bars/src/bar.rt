@@ -1,0 +1,148 @@
+//! Bars of a chart.
+
+ghost use Rattle.std.specs.Prelude.{◌≡◌, IfOk, Some, true};
+ghost use Rattle.tui_bars.specs.BarChart.{bar_data, bar_of, label_width, value_text};
+ghost use Rattle.tui_bars.specs.ChartLight.{IsLightText, IsLightValue};
+ghost use Rattle.tui_layout.specs.declared.direction.Direction.{Direction};
+ghost use Rattle.tui_text.specs.Line.{line_data};
+
+use crate::label::clone_label;
+use itoa::Buffer as Digits;
+use tui_cells::{Mem, Style, Styled};
+use tui_text::Line;
+
+/// A value, with a label and styles of its own.
+#[derive(Debug, PartialEq, Eq, Hash, Drop)]
+pub struct Bar<'a> {
+    pub(crate) label: Option<Line<'a>>,
+    pub(crate) value: u64,
+    pub(crate) style: Style,
+    pub(crate) value_style: Style,
+    pub(crate) text_value: Option<&'a str>,
+}
+
+impl<'a> Bar<'a> {
+    /// A bar of a value, with nothing set.
+    pub fn new(value: u64) -> Bar<'a>
+        ensures { bar_data result ≡ bar_of value }
+    {
+        Bar {
+            label: None,
+            value,
+            style: Style::new(),
+            value_style: Style::new(),
+            text_value: None,
+        }
+    }
+
+    /// The same with a label.
+    pub fn with_label(label: Line<'a>, value: u64) -> Bar<'a>
+        ensures { bar_data result ≡ record (bar_of value) { label = Some (line_data label.entry) } }
+    {
+        Bar::new(value).label(label)
+    }
+
+    /// Sets the value.
+    pub fn value(self, value: u64) -> Bar<'a>
+        ensures { bar_data result ≡ record (bar_data self.entry) { value = value } }
+    {
+        Bar { value, ..self }
+    }
+
+    /// Sets the label, which stands below the bar, or before it in a horizontal chart.
+    pub fn label(self, label: Line<'a>) -> Bar<'a>
+        ensures { bar_data result ≡ record (bar_data self.entry) { label = Some (line_data label.entry) } }
+    {
+        Bar {
+            label: Some(label),
+            ..self
+        }
+    }
+
+    /// Sets the style that patches the chart's bar style.
+    pub fn style(self, style: Style) -> Bar<'a>
+        ensures { bar_data result ≡ record (bar_data self.entry) { style = style } }
+    {
+        Bar { style, ..self }
+    }
+
+    /// Sets the style that patches the chart's value style.
+    pub fn value_style(self, style: Style) -> Bar<'a>
+        ensures { bar_data result ≡ record (bar_data self.entry) { value_style = style } }
+    {
+        Bar {
+            value_style: style,
+            ..self
+        }
+    }
+
+    /// Sets the text that is shown in place of the value.
+    pub fn text_value(self, text: &'a str) -> Bar<'a>
+        ensures { bar_data result ≡ record (bar_data self.entry) { text = Some text.now } }
+    {
+        Bar {
+            text_value: Some(text),
+            ..self
+        }
+    }
+
+    /// An equal bar of its own. `NoMemory` where there is none for the label.
+    pub fn clone(&self) -> Mem<Bar<'a>>
+        ensures is { IfOk result (λ bar. bar_data bar ≡ bar_data self.now) }
+        ensures equal { IfOk result (λ bar. ⟦<Bar<'a> as PartialEq>⟧.eq bar self.now ≡ true) }
+    {
+        Ok(Bar {
+            label: clone_label(&self.label)?,
+            value: self.value,
+            style: self.style,
+            value_style: self.value_style,
+            text_value: self.text_value,
+        })
+    }
+
+    /// The columns of the label, cut at 65535.
+    pub(crate) fn label_width(&self) -> u16
+        ensures { result ≡ label_width (bar_data self.now) }
+    {
+        match &self.label {
+            None => 0,
+            Some(label) => label.width().min(65535) as u16,
+        }
+    }
+
+    /// The text of the value: its own, else the decimal, which is written into the digits.
+    pub(crate) fn value_text<'d>(&self, digits: &'d mut Digits) -> &'d str
+    where
+        'a: 'd,
+        ensures is { result.now ≡ value_text (bar_data self.now) }
+        ensures light { (direction : Direction) → IsLightValue direction (bar_data self.now).text → IsLightText direction result.now }
+    {
+        match self.text_value {
+            Some(text) => text,
+            None => digits.format(self.value),
+        }
+    }
+}
+
+impl<'a> Default for Bar<'a> {
+    /// A bar of the value 0, with nothing set.
+    fn default() -> Bar<'a>
+        ensures { bar_data result ≡ bar_of 0 }
+    {
+        Bar::new(0)
+    }
+}
+
+impl<'a> Styled for Bar<'a> {
+    ghost style_of = { λ bar. bar.style };
+
+    ghost with_style = { λ bar style. record bar { style = style } };
+
+    fn style(&self) -> Style {
+        self.style
+    }
+
+    fn set_style(self, style: Style) -> Bar<'a> {
+        Bar { style, ..self }
+    }
+}

@@ -1,0 +1,239 @@
+//! Charts of bars in groups.
+
+ghost use Rattle.std.specs.Prelude.{◌≡◌, [], ◌∷◌, ◌++◌, IfOk, OnErr, OnOk, Some, map, true};
+ghost use Rattle.tui_bars.specs.BarChart.{bar_chart_data, bar_data, chart_of, group_data, one_group, with_bars};
+ghost use Rattle.tui_cells.specs.Symbols.{bar_data as symbols_of};
+ghost use Rattle.tui_frames.specs.Block.{block_data};
+ghost use Rattle.tui_layout.specs.declared.direction.Direction.TheVariants.{Horizontal, Vertical};
+
+mod lying;
+mod planning;
+mod rendering;
+mod shown;
+mod upright;
+mod walking;
+
+use crate::bar::Bar;
+use crate::bar_group::BarGroup;
+use std::alloc::Global;
+use tui_cells::{Mem, Style, Styled, bar};
+use tui_frames::{Block, clone_if_some};
+use tui_layout::Direction;
+
+/// Groups of bars, which stand side by side or lie below each other. The greatest value fills the length that there is.
+#[derive(Debug, PartialEq, Eq, Hash, Drop)]
+pub struct BarChart<'a> {
+    block: Option<Block<'a>>,
+    groups: Vec<BarGroup<'a>>,
+    style: Style,
+    max: Option<u64>,
+    bar_width: u16,
+    bar_gap: u16,
+    group_gap: u16,
+    bar_set: bar::Set<'a>,
+    bar_style: Style,
+    value_style: Style,
+    label_style: Style,
+    direction: Direction,
+}
+
+impl<'a> BarChart<'a> {
+    /// A vertical chart of one group of these bars, without a group where there is no bar. `NoMemory` where there is none for
+    /// the group.
+    pub fn new(alloc: Global, bars: Vec<Bar<'a>>) -> Mem<BarChart<'a>>
+        ensures { IfOk result (λ chart. bar_chart_data chart ≡ chart_of Vertical (one_group (map bar_data bars.entry.items))) }
+    {
+        let mut groups = Vec::with_capacity(alloc, 1)?;
+        groups.push(BarGroup::new(bars))?;
+        Ok(BarChart::grouped(groups))
+    }
+
+    /// The same.
+    pub fn vertical(alloc: Global, bars: Vec<Bar<'a>>) -> Mem<BarChart<'a>>
+        ensures { IfOk result (λ chart. bar_chart_data chart ≡ chart_of Vertical (one_group (map bar_data bars.entry.items))) }
+    {
+        BarChart::new(alloc, bars)
+    }
+
+    /// A horizontal chart, otherwise the same.
+    pub fn horizontal(alloc: Global, bars: Vec<Bar<'a>>) -> Mem<BarChart<'a>>
+        ensures { IfOk result (λ chart. bar_chart_data chart ≡ chart_of Horizontal (one_group (map bar_data bars.entry.items))) }
+    {
+        Ok(BarChart::new(alloc, bars)?.direction(Direction::Horizontal))
+    }
+
+    /// A vertical chart of these groups. Groups without bars are left out.
+    pub fn grouped(groups: Vec<BarGroup<'a>>) -> BarChart<'a>
+        ensures { bar_chart_data result ≡ chart_of Vertical (with_bars (map group_data groups.entry.items)) }
+    {
+        BarChart {
+            block: None,
+            groups: without_empty(groups),
+            style: Style::new(),
+            max: None,
+            bar_width: 1,
+            bar_gap: 1,
+            group_gap: 0,
+            bar_set: bar::NINE_LEVELS,
+            bar_style: Style::new(),
+            value_style: Style::new(),
+            label_style: Style::new(),
+            direction: Direction::Vertical,
+        }
+    }
+
+    /// Puts a group at the end, or leaves it out where it has no bars. At `NoMemory` the chart is as before, and the group is gone.
+    pub fn data(&mut self, group: BarGroup<'a>) -> Mem<()>
+        ensures ok { OnOk result (bar_chart_data self.new ≡ record (bar_chart_data self.old) {
+          groups = (bar_chart_data self.old).groups ++ with_bars (group_data group.entry ∷ []);
+        }) }
+        ensures err { OnErr result (bar_chart_data self.new ≡ bar_chart_data self.old) }
+    {
+        if group.has_bars() {
+            self.groups.push(group)?;
+        }
+        Ok(())
+    }
+
+    /// Puts a block around the chart, which then has the area inside.
+    pub fn block(self, block: Block<'a>) -> BarChart<'a>
+        ensures { bar_chart_data result ≡ record (bar_chart_data self.entry) { block = Some (block_data block.entry) } }
+    {
+        BarChart {
+            block: Some(block),
+            ..self
+        }
+    }
+
+    /// Sets the value that fills a bar, in place of the greatest of the values. 0 counts as 1.
+    pub fn max(self, max: u64) -> BarChart<'a>
+        ensures { bar_chart_data result ≡ record (bar_chart_data self.entry) { max = Some max } }
+    {
+        BarChart {
+            max: Some(max),
+            ..self
+        }
+    }
+
+    /// Sets the style of the bars.
+    pub fn bar_style(self, style: Style) -> BarChart<'a>
+        ensures { bar_chart_data result ≡ record (bar_chart_data self.entry) { bar_style = style } }
+    {
+        BarChart {
+            bar_style: style,
+            ..self
+        }
+    }
+
+    /// Sets the columns of a bar, or its rows in a horizontal chart.
+    pub fn bar_width(self, width: u16) -> BarChart<'a>
+        ensures { bar_chart_data result ≡ record (bar_chart_data self.entry) { width = width } }
+    {
+        BarChart {
+            bar_width: width,
+            ..self
+        }
+    }
+
+    /// Sets the columns between two bars, or the rows.
+    pub fn bar_gap(self, gap: u16) -> BarChart<'a>
+        ensures { bar_chart_data result ≡ record (bar_chart_data self.entry) { gap = gap } }
+    {
+        BarChart {
+            bar_gap: gap,
+            ..self
+        }
+    }
+
+    /// Sets the symbols of cells that are filled in part. A horizontal chart uses the full and the empty one alone.
+    pub fn bar_set(self, set: bar::Set<'a>) -> BarChart<'a>
+        ensures { bar_chart_data result ≡ record (bar_chart_data self.entry) { symbols = symbols_of set.entry } }
+    {
+        BarChart {
+            bar_set: set,
+            ..self
+        }
+    }
+
+    /// Sets the style of the values.
+    pub fn value_style(self, style: Style) -> BarChart<'a>
+        ensures { bar_chart_data result ≡ record (bar_chart_data self.entry) { value_style = style } }
+    {
+        BarChart {
+            value_style: style,
+            ..self
+        }
+    }
+
+    /// Sets the style under the labels; a horizontal chart uses it for those of groups alone.
+    pub fn label_style(self, style: Style) -> BarChart<'a>
+        ensures { bar_chart_data result ≡ record (bar_chart_data self.entry) { label_style = style } }
+    {
+        BarChart {
+            label_style: style,
+            ..self
+        }
+    }
+
+    /// Sets the columns after a group, or the rows, besides the gap of its last bar.
+    pub fn group_gap(self, gap: u16) -> BarChart<'a>
+        ensures { bar_chart_data result ≡ record (bar_chart_data self.entry) { group_gap = gap } }
+    {
+        BarChart {
+            group_gap: gap,
+            ..self
+        }
+    }
+
+    /// Sets the style under all, the block's area included.
+    pub fn style(self, style: Style) -> BarChart<'a>
+        ensures { bar_chart_data result ≡ record (bar_chart_data self.entry) { style = style } }
+    {
+        BarChart { style, ..self }
+    }
+
+    /// Sets whether the bars stand side by side (`Vertical`) or lie below each other (`Horizontal`).
+    pub fn direction(self, direction: Direction) -> BarChart<'a>
+        ensures { bar_chart_data result ≡ record (bar_chart_data self.entry) { direction = direction } }
+    {
+        BarChart { direction, ..self }
+    }
+
+    /// An equal chart of its own. `NoMemory` where there is none for the block or the groups.
+    pub fn clone(&self) -> Mem<BarChart<'a>>
+        ensures is { IfOk result (λ chart. bar_chart_data chart ≡ bar_chart_data self.now) }
+        ensures equal { IfOk result (λ chart. ⟦<BarChart<'a> as PartialEq>⟧.eq chart self.now ≡ true) }
+    {
+        let mut groups = Vec::with_capacity(*self.groups.allocator(), self.groups.len())?;
+        for group in &self.groups {
+            groups.push(group.clone()?)?;
+        }
+        Ok(BarChart {
+            block: clone_if_some(&self.block)?,
+            groups,
+            ..*self
+        })
+    }
+}
+
+fn without_empty<'a>(groups: Vec<BarGroup<'a>>) -> Vec<BarGroup<'a>>
+    ensures { map group_data result.items ≡ with_bars (map group_data groups.entry.items) }
+{
+    let mut groups = groups;
+    groups.retain(|group| group.has_bars());
+    groups
+}
+
+impl<'a> Styled for BarChart<'a> {
+    ghost style_of = { λ chart. chart.style };
+
+    ghost with_style = { λ chart style. record chart { style = style } };
+
+    fn style(&self) -> Style {
+        self.style
+    }
+
+    fn set_style(self, style: Style) -> BarChart<'a> {
+        BarChart { style, ..self }
+    }
+}

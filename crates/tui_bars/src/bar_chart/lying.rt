@@ -1,0 +1,230 @@
+//! Bars that lie below each other, with their labels and values.
+
+ghost use Rattle.std.specs.Prelude.{◌≡◌, ◌≤◌, IsOk, OnOk, length};
+ghost use Rattle.std.specs.Str.{IsCharBoundary};
+ghost use Rattle.tui_bars.specs.BarChart.{bar_chart_data, bar_data, group_data};
+ghost use Rattle.tui_bars.specs.ChartLight.{IsLightBar, IsLightText};
+ghost use Rattle.tui_bars.specs.Levels.{AreLightLevels};
+ghost use Rattle.tui_bars.specs.LineGauge.{IsLightLine};
+ghost use Rattle.tui_bars.specs.Lying.{beyond_layers, filled_of, gap_row, group_row_layers, left_layers, middle_of, rest_layers, lying_layers, row_value_layers, start_from, strip_layers};
+ghost use Rattle.tui_cells.specs.Layers.{KeptOutside, Painted};
+ghost use Rattle.tui_cells.specs.Rect.{covers};
+ghost use Rattle.tui_layout.specs.declared.direction.Direction.TheVariants.{Horizontal};
+
+use crate::areas::put_in;
+use crate::bar::Bar;
+use crate::bar_chart::BarChart;
+use crate::bar_group::BarGroup;
+use crate::levels::ticks;
+use crate::plan::Plan;
+use itoa::Buffer as Digits;
+use std::alloc::Global;
+use tui_cells::{Buffer, Mem, Position, Rect, Style};
+use tui_text::{set_line_in, set_stringn_in};
+
+/// The columns of a bar that are filled.
+fn filled_of(plan: Plan, bar: &Bar<'_>) -> u16
+    ensures { result ≡ filled_of plan (bar_data bar.now) }
+{
+    (ticks(plan.greatest, bar.value, plan.length) / 8) as u16
+}
+
+/// The first byte from one on where a character of the text begins, or the text ends.
+fn start_from(text: &str, place: usize) -> usize
+    requires { place ≤ length text.now }
+    ensures is { result ≡ start_from place text.now }
+    ensures boundary { IsCharBoundary text.now result }
+{
+    text.ceil_char_boundary(place)
+}
+
+/// A text from a byte on, as many columns after the bar's beginning.
+#[tactic(auto, using(crate::proofs::LightTexts::light_styled))]
+fn paint_rest(
+    buf: &mut Buffer,
+    plan: Plan,
+    middle: u16,
+    from: usize,
+    text: &str,
+    style: Style,
+) -> Mem<()>
+    requires { IsCharBoundary text.now from }
+    ensures ok { OnOk result (Painted (rest_layers plan middle from text.now style) buf.old buf.new) }
+    ensures kept { KeptOutside (covers plan.area) buf.old buf.new }
+    ensures light { IsLightText Horizontal text.now → IsOk result }
+{
+    let place = Position {
+        x: (plan.start as usize).saturating_add(from).min(65535) as u16,
+        y: middle,
+    };
+    let room = (plan.length as usize).saturating_sub(from);
+    set_stringn_in(buf, plan.area, place, &text[from..], room, style)?;
+    Ok(())
+}
+
+/// The part of a text that is past the filled cells.
+#[tactic(auto, unfolding(crate::specs::Lying::beyond_layers))]
+fn paint_beyond(
+    buf: &mut Buffer,
+    plan: Plan,
+    middle: u16,
+    filled: u16,
+    text: &str,
+    style: Style,
+) -> Mem<()>
+    ensures ok { OnOk result (Painted (beyond_layers plan middle filled text.now style) buf.old buf.new) }
+    ensures kept { KeptOutside (covers plan.area) buf.old buf.new }
+    ensures light { IsLightText Horizontal text.now → IsOk result }
+{
+    if text.len() <= filled as usize {
+        return Ok(());
+    }
+    let from = start_from(text, filled as usize);
+    paint_rest(buf, plan, middle, from, text, style)
+}
+
+/// A value's text: its beginning over the filled cells, and what is past them.
+#[tactic(auto, using(crate::proofs::LightTexts::light_styled))]
+fn paint_row_value(
+    buf: &mut Buffer,
+    plan: Plan,
+    middle: u16,
+    filled: u16,
+    text: &str,
+    styles: (Style, Style),
+) -> Mem<()>
+    ensures ok { OnOk result (Painted (row_value_layers plan middle filled text.now styles.0 styles.1) buf.old buf.new) }
+    ensures kept { KeptOutside (covers plan.area) buf.old buf.new }
+    ensures light { IsLightText Horizontal text.now → IsOk result }
+{
+    let (value_style, style) = styles;
+    let place = Position {
+        x: plan.start,
+        y: middle,
+    };
+    set_stringn_in(buf, plan.area, place, text, filled as usize, value_style)?;
+    paint_beyond(buf, plan, middle, filled, text, style)
+}
+
+/// A bar's label at the left.
+#[tactic(auto, unfolding(crate::specs::Lying::left_layers))]
+fn paint_left(buf: &mut Buffer, plan: Plan, middle: u16, bar: &Bar<'_>) -> Mem<()>
+    ensures ok { OnOk result (Painted (left_layers plan middle (bar_data bar.now)) buf.old buf.new) }
+    ensures kept { KeptOutside (covers plan.area) buf.old buf.new }
+    ensures light { IsLightLine (bar_data bar.now).label → IsOk result }
+{
+    match &bar.label {
+        None => Ok(()),
+        Some(label) => {
+            let place = Position {
+                x: plan.area.x,
+                y: middle,
+            };
+            set_line_in(buf, plan.area, place, label, plan.labels as usize)?;
+            Ok(())
+        }
+    }
+}
+
+impl<'a> BarChart<'a> {
+    /// A bar's cells.
+    fn paint_strip(
+        &self,
+        alloc: Global,
+        buf: &mut Buffer,
+        plan: Plan,
+        at: u16,
+        filled: u16,
+        style: Style,
+    ) -> Mem<()>
+        ensures ok { OnOk result (Painted (strip_layers (bar_chart_data self.now) plan at filled style) buf.old buf.new) }
+        ensures kept { KeptOutside (covers plan.area) buf.old buf.new }
+        ensures light { AreLightLevels (bar_chart_data self.now).symbols → IsOk result }
+    {
+        let full = Rect {
+            x: plan.start,
+            y: at,
+            width: filled,
+            height: self.bar_width,
+        };
+        let empty = Rect {
+            x: plan.start.saturating_add(filled),
+            y: at,
+            width: plan.length.saturating_sub(filled),
+            height: self.bar_width,
+        };
+        put_in(alloc, buf, plan.area, full, self.bar_set.full, style)?;
+        put_in(alloc, buf, plan.area, empty, self.bar_set.empty, style)
+    }
+
+    fn middle_of(&self, at: u16) -> u16
+        ensures { result ≡ middle_of (bar_chart_data self.now) at }
+    {
+        at.saturating_add(self.bar_width / 2)
+    }
+
+    /// A bar with its label and value.
+    pub(super) fn paint_row(
+        &self,
+        alloc: Global,
+        buf: &mut Buffer,
+        plan: Plan,
+        at: u16,
+        bar: &Bar<'a>,
+    ) -> Mem<()>
+        ensures ok { OnOk result (Painted (lying_layers (bar_chart_data self.now) plan at (bar_data bar.now)) buf.old buf.new) }
+        ensures kept { KeptOutside (covers plan.area) buf.old buf.new }
+        ensures light { AreLightLevels (bar_chart_data self.now).symbols → IsLightBar Horizontal (bar_data bar.now) → IsOk result }
+    {
+        let filled = filled_of(plan, bar);
+        let style = self.bar_style.patch(bar.style);
+        let value_style = self.value_style.patch(bar.value_style);
+        let middle = self.middle_of(at);
+        self.paint_strip(alloc, buf, plan, at, filled, style)?;
+        paint_left(buf, plan, middle, bar)?;
+        let mut digits = Digits::new();
+        let text = bar.value_text(&mut digits);
+        paint_row_value(buf, plan, middle, filled, text, (value_style, style))
+    }
+
+    /// The row below so many bars.
+    fn gap_row(&self, plan: Plan, at: u16, count: usize) -> Rect
+        ensures { result ≡ gap_row (bar_chart_data self.now) plan at count }
+    {
+        let bars = count as u128 * (self.bar_width as u128 + self.bar_gap as u128);
+        let below = at as u128 + bars.saturating_sub(self.bar_gap as u128);
+        Rect {
+            x: plan.start,
+            y: below.min(65535) as u16,
+            width: plan.length,
+            height: 1,
+        }
+    }
+
+    /// A group's label in the gap below it.
+    #[tactic(auto, unfolding(crate::specs::Lying::group_row_layers))]
+    pub(super) fn paint_group_row(
+        &self,
+        buf: &mut Buffer,
+        plan: Plan,
+        at: u16,
+        count: usize,
+        group: &BarGroup<'a>,
+    ) -> Mem<()>
+        ensures ok { OnOk result (Painted (group_row_layers (bar_chart_data self.now) plan
+            (record { at = at; count = count; group = group_data group.now })) buf.old buf.new) }
+        ensures kept { KeptOutside (covers plan.area) buf.old buf.new }
+        ensures light { IsLightLine (group_data group.now).label → IsOk result }
+    {
+        if self.group_gap == 0 {
+            return Ok(());
+        }
+        match &group.label {
+            None => Ok(()),
+            Some(label) => {
+                let row = self.gap_row(plan, at, count);
+                self.paint_group_title(buf, plan.area, row, label)
+            }
+        }
+    }
+}

@@ -1,0 +1,112 @@
+//! What all bars of a drawing share.
+
+ghost use Rattle.std.specs.Prelude.{◌≡◌, ◌≤◌, ◌&&◌};
+ghost use Rattle.std.specs.List.{list_any};
+ghost use Rattle.tui_bars.specs.BarChart.{bar_chart_data, greatest_of, has_bar_label, has_group_label, label_width_of};
+ghost use Rattle.tui_bars.specs.ChartStrokes.{lying_plan, upright_plan};
+ghost use Rattle.tui_frames.specs.Space.{count};
+
+use crate::bar_chart::BarChart;
+use crate::plan::Plan;
+use tui_cells::Rect;
+
+impl<'a> BarChart<'a> {
+    /// The value that fills a bar.
+    fn greatest(&self) -> u64
+        ensures { result ≡ greatest_of (bar_chart_data self.now) }
+    {
+        if let Some(max) = self.max {
+            return max.max(1);
+        }
+        let mut most = 0;
+        for group in &self.groups {
+            most = most.max(group.greatest());
+        }
+        most.max(1)
+    }
+
+    fn has_bar_labels(&self) -> bool
+        ensures { result ≡ list_any has_bar_label (bar_chart_data self.now).groups }
+    {
+        for group in &self.groups {
+            if group.has_bar_label() {
+                return true;
+            }
+        }
+        false
+    }
+
+    fn has_group_labels(&self) -> bool
+        ensures { result ≡ list_any has_group_label (bar_chart_data self.now).groups }
+    {
+        for group in &self.groups {
+            if group.label.is_some() {
+                return true;
+            }
+        }
+        false
+    }
+
+    /// The columns of the widest label of a bar.
+    fn label_width(&self) -> u16
+        ensures { result ≡ label_width_of (bar_chart_data self.now) }
+    {
+        let mut most = 0;
+        for group in &self.groups {
+            most = most.max(group.label_width());
+        }
+        most
+    }
+
+    /// The plan of a vertical chart.
+    pub(super) fn upright_plan(&self, area: Rect) -> Plan
+        ensures { result ≡ upright_plan (bar_chart_data self.now) area }
+    {
+        let has_room = area.height >= 2;
+        let bar_labels = both(has_room, self.has_bar_labels());
+        let is_free = !both(area.height == 2, bar_labels);
+        let group_labels = both(has_room, both(self.has_group_labels(), is_free));
+        Plan {
+            area,
+            greatest: self.greatest(),
+            length: area
+                .height
+                .saturating_sub(count(bar_labels) + count(group_labels)),
+            bar_labels,
+            group_labels,
+            labels: 0,
+            start: 0,
+        }
+    }
+
+    /// The plan of a horizontal chart.
+    pub(super) fn lying_plan(&self, area: Rect) -> Plan
+        ensures { result ≡ lying_plan (bar_chart_data self.now) area }
+    {
+        let labels = self.label_width();
+        let margin = labels as u32 + count(labels > 0) as u32;
+        Plan {
+            area,
+            greatest: self.greatest(),
+            length: (area.width as u32).saturating_sub(margin) as u16,
+            bar_labels: false,
+            group_labels: false,
+            labels,
+            start: (area.x as u32 + margin).min(65535) as u16,
+        }
+    }
+}
+
+fn both(a: bool, b: bool) -> bool
+    ensures { result ≡ (a && b) }
+{
+    a && b
+}
+
+/// 1 for what is there, 0 for what is not.
+fn count(is_there: bool) -> u16
+    ensures is { result ≡ count is_there }
+    ensures few { result ≤ 1 }
+{
+    if is_there { 1 } else { 0 }
+}

@@ -1,0 +1,144 @@
+//! Areas that are filled by a share.
+
+ghost use Rattle.std.specs.Prelude.{◌≡◌, ◌<◌, ◌≤◌, Err, IfOk, IsOk, Some, true};
+ghost use Rattle.tui_bars.specs.Gauge.{empty_gauge, gauge_data};
+ghost use Rattle.tui_frames.specs.Block.{block_data};
+ghost use Rattle.tui_text.specs.Span.{span_data};
+
+mod rendering;
+
+use crate::error::GaugeError;
+use crate::percent::{share_of, share_of_percent};
+use crate::share::Share;
+use tui_cells::{Mem, Style, Styled};
+use tui_frames::{Block, clone_if_some};
+use tui_layout::Fraction;
+use tui_text::Span;
+
+/// An area whose first columns are filled by a share, with a label in the middle. The label is the percentage where none is
+/// given. Under it the colours of the filled cells are turned round.
+#[derive(Debug, PartialEq, Eq, Drop)]
+pub struct Gauge<'a> {
+    block: Option<Block<'a>>,
+    share: Share,
+    label: Option<Span<'a>>,
+    style: Style,
+    gauge_style: Style,
+    use_unicode: bool,
+}
+
+impl<'a> Default for Gauge<'a> {
+    /// A gauge of 0/1, with nothing set.
+    fn default() -> Gauge<'a>
+        ensures { gauge_data result ≡ empty_gauge }
+    {
+        Gauge {
+            block: None,
+            share: Share { num: 0, den: 1 },
+            label: None,
+            style: Style::new(),
+            gauge_style: Style::new(),
+            use_unicode: false,
+        }
+    }
+}
+
+impl<'a> Gauge<'a> {
+    /// Puts a block around the gauge, which then has the area inside.
+    pub fn block(self, block: Block<'a>) -> Gauge<'a>
+        ensures { gauge_data result ≡ record (gauge_data self.entry) { block = Some (block_data block.entry) } }
+    {
+        Gauge {
+            block: Some(block),
+            ..self
+        }
+    }
+
+    /// Sets the share in percent. Answers `PercentAbove100` exactly above 100; the gauge is gone then.
+    pub fn percent(self, percent: u16) -> Result<Gauge<'a>, GaugeError>
+        ensures ok { percent ≤ 100 → IsOk result }
+        ensures is { IfOk result (λ gauge. gauge_data gauge ≡ record (gauge_data self.entry) { num = percent; den = 100 }) }
+        ensures refused { 100 < percent → result ≡ Err GaugeError.PercentAbove100 }
+    {
+        let share = share_of_percent(percent)?;
+        Ok(Gauge { share, ..self })
+    }
+
+    /// Sets the share. Answers `RatioOutOfRange` exactly where the denominator is 0 or the numerator is above it; the gauge is
+    /// gone then.
+    pub fn ratio(self, ratio: Fraction) -> Result<Gauge<'a>, GaugeError>
+        ensures ok { 0 < ratio.den → ratio.num ≤ ratio.den → IsOk result }
+        ensures is { IfOk result (λ gauge. gauge_data gauge ≡ record (gauge_data self.entry) { num = ratio.num; den = ratio.den }) }
+        ensures zero { ratio.den ≡ 0 → result ≡ Err GaugeError.RatioOutOfRange }
+        ensures above { ratio.den < ratio.num → result ≡ Err GaugeError.RatioOutOfRange }
+    {
+        let share = share_of(ratio)?;
+        Ok(Gauge { share, ..self })
+    }
+
+    /// Sets the label in place of the percentage.
+    pub fn label(self, label: Span<'a>) -> Gauge<'a>
+        ensures { gauge_data result ≡ record (gauge_data self.entry) { label = Some (span_data label.entry) } }
+    {
+        Gauge {
+            label: Some(label),
+            ..self
+        }
+    }
+
+    /// Sets the style under all, the block's area included.
+    pub fn style(self, style: Style) -> Gauge<'a>
+        ensures { gauge_data result ≡ record (gauge_data self.entry) { style = style } }
+    {
+        Gauge { style, ..self }
+    }
+
+    /// Sets the style inside the block. Filled cells have its colours, Reset for one that it doesn't set.
+    pub fn gauge_style(self, style: Style) -> Gauge<'a>
+        ensures { gauge_data result ≡ record (gauge_data self.entry) { gauge_style = style } }
+    {
+        Gauge {
+            gauge_style: style,
+            ..self
+        }
+    }
+
+    /// Sets whether the column after the whole ones shows the eighths of it that are filled; else the columns are rounded.
+    pub fn use_unicode(self, use_unicode: bool) -> Gauge<'a>
+        ensures { gauge_data result ≡ record (gauge_data self.entry) { use_unicode = use_unicode } }
+    {
+        Gauge {
+            use_unicode,
+            ..self
+        }
+    }
+
+    /// An equal gauge of its own. `NoMemory` where there is none for the block.
+    pub fn clone(&self) -> Mem<Gauge<'a>>
+        ensures is { IfOk result (λ gauge. gauge_data gauge ≡ gauge_data self.now) }
+        ensures equal { IfOk result (λ gauge. ⟦<Gauge<'a> as PartialEq>⟧.eq gauge self.now ≡ true) }
+    {
+        Ok(Gauge {
+            block: clone_if_some(&self.block)?,
+            share: self.share,
+            label: self.label,
+            style: self.style,
+            gauge_style: self.gauge_style,
+            use_unicode: self.use_unicode,
+        })
+    }
+}
+
+impl<'a> Styled for Gauge<'a> {
+    ghost style_of = { λ gauge. gauge.style };
+
+    ghost with_style = { λ gauge style. record gauge { style = style } };
+
+    fn style(&self) -> Style {
+        self.style
+    }
+
+    fn set_style(self, style: Style) -> Gauge<'a> {
+        Gauge { style, ..self }
+    }
+}

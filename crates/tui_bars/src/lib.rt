@@ -1,0 +1,30 @@
+//! Bars by whole numbers: gauges that fill by a share, charts of bars, and values side by side.
+#![tactic(auto)]
+
+mod areas;
+pub mod bar;
+pub mod bar_chart;
+pub mod bar_group;
+pub mod error;
+pub mod gauge;
+mod label;
+pub mod laws;
+mod levels;
+pub mod line_gauge;
+mod percent;
+mod plan;
+pub mod render_direction;
+mod share;
+pub mod sparkline;
+pub mod sparkline_bar;
+
+pub use bar::Bar;
+pub use bar_chart::BarChart;
+pub use bar_group::BarGroup;
+pub use error::GaugeError;
+pub use gauge::Gauge;
+pub use laws::tick_laws;
+pub use line_gauge::LineGauge;
+pub use render_direction::RenderDirection;
+pub use sparkline::Sparkline;
+pub use sparkline_bar::SparklineBar;

@@ -1,0 +1,194 @@
+//! Lines that are filled by a share, after a label.
+
+ghost use Rattle.std.specs.Prelude.{◌≡◌, ◌<◌, ◌≤◌, Err, IfOk, IsOk, Some, true};
+ghost use Rattle.tui_bars.specs.LineGauge.{drawn_in, empty_line_gauge, line_gauge_data};
+ghost use Rattle.tui_frames.specs.Block.{block_data};
+ghost use Rattle.tui_text.specs.Line.{line_data};
+
+mod rendering;
+
+use crate::error::GaugeError;
+use crate::label::clone_label;
+use crate::percent::share_of;
+use crate::share::Share;
+use tui_cells::{Color, Mem, Style, Styled, line};
+use tui_frames::{Block, clone_if_some};
+use tui_layout::Fraction;
+use tui_text::Line;
+
+/// A label, and one column after it a line up to the end of the first row, whose first columns are filled by a share. The label
+/// is the percentage in three places where none is given.
+#[derive(Debug, PartialEq, Eq, Drop)]
+pub struct LineGauge<'a> {
+    block: Option<Block<'a>>,
+    label: Option<Line<'a>>,
+    share: Share,
+    style: Style,
+    filled_symbol: &'a str,
+    unfilled_symbol: &'a str,
+    filled_style: Style,
+    unfilled_style: Style,
+}
+
+/// A style of which one colour is the symbol's, Reset where it is not set, over the background Reset.
+fn drawn_in(style: Style, color: Option<Color>) -> Style
+    ensures { result ≡ drawn_in style color }
+{
+    style.fg(color.unwrap_or(Color::Reset)).bg(Color::Reset)
+}
+
+impl<'a> Default for LineGauge<'a> {
+    /// A line gauge of 0/1 with the symbol `─` for both parts, and nothing set.
+    fn default() -> LineGauge<'a>
+        ensures { line_gauge_data result ≡ empty_line_gauge }
+    {
+        LineGauge {
+            block: None,
+            share: Share { num: 0, den: 1 },
+            label: None,
+            style: Style::new(),
+            filled_symbol: line::HORIZONTAL,
+            unfilled_symbol: line::HORIZONTAL,
+            filled_style: Style::new(),
+            unfilled_style: Style::new(),
+        }
+    }
+}
+
+impl<'a> LineGauge<'a> {
+    /// Puts a block around the line gauge, which then has the area inside.
+    pub fn block(self, block: Block<'a>) -> LineGauge<'a>
+        ensures { line_gauge_data result ≡ record (line_gauge_data self.entry) { block = Some (block_data block.entry) } }
+    {
+        LineGauge {
+            block: Some(block),
+            ..self
+        }
+    }
+
+    /// Sets the share. Answers `RatioOutOfRange` exactly where the denominator is 0 or the numerator is above it; the line gauge
+    /// is gone then.
+    pub fn ratio(self, ratio: Fraction) -> Result<LineGauge<'a>, GaugeError>
+        ensures ok { 0 < ratio.den → ratio.num ≤ ratio.den → IsOk result }
+        ensures is { IfOk result (λ gauge. line_gauge_data gauge ≡ record (line_gauge_data self.entry) { num = ratio.num; den = ratio.den }) }
+        ensures zero { ratio.den ≡ 0 → result ≡ Err GaugeError.RatioOutOfRange }
+        ensures above { ratio.den < ratio.num → result ≡ Err GaugeError.RatioOutOfRange }
+    {
+        let share = share_of(ratio)?;
+        Ok(LineGauge { share, ..self })
+    }
+
+    /// Sets both symbols to the horizontal one of a set.
+    pub fn line_set(self, set: line::Set<'a>) -> LineGauge<'a>
+        ensures { line_gauge_data result ≡ record (line_gauge_data self.entry) { filled = set.entry.horizontal.now; unfilled = set.entry.horizontal.now } }
+    {
+        LineGauge {
+            filled_symbol: set.horizontal,
+            unfilled_symbol: set.horizontal,
+            ..self
+        }
+    }
+
+    /// Sets the symbol of the filled columns.
+    pub fn filled_symbol(self, symbol: &'a str) -> LineGauge<'a>
+        ensures { line_gauge_data result ≡ record (line_gauge_data self.entry) { filled = symbol.now } }
+    {
+        LineGauge {
+            filled_symbol: symbol,
+            ..self
+        }
+    }
+
+    /// Sets the symbol of the other columns.
+    pub fn unfilled_symbol(self, symbol: &'a str) -> LineGauge<'a>
+        ensures { line_gauge_data result ≡ record (line_gauge_data self.entry) { unfilled = symbol.now } }
+    {
+        LineGauge {
+            unfilled_symbol: symbol,
+            ..self
+        }
+    }
+
+    /// Sets the label in place of the percentage.
+    pub fn label(self, label: Line<'a>) -> LineGauge<'a>
+        ensures { line_gauge_data result ≡ record (line_gauge_data self.entry) { label = Some (line_data label.entry) } }
+    {
+        LineGauge {
+            label: Some(label),
+            ..self
+        }
+    }
+
+    /// Sets the style under all, the block's area included.
+    pub fn style(self, style: Style) -> LineGauge<'a>
+        ensures { line_gauge_data result ≡ record (line_gauge_data self.entry) { style = style } }
+    {
+        LineGauge { style, ..self }
+    }
+
+    /// Sets the style of the filled columns.
+    pub fn filled_style(self, style: Style) -> LineGauge<'a>
+        ensures { line_gauge_data result ≡ record (line_gauge_data self.entry) { filled_style = style } }
+    {
+        LineGauge {
+            filled_style: style,
+            ..self
+        }
+    }
+
+    /// Sets the style of the other columns.
+    pub fn unfilled_style(self, style: Style) -> LineGauge<'a>
+        ensures { line_gauge_data result ≡ record (line_gauge_data self.entry) { unfilled_style = style } }
+    {
+        LineGauge {
+            unfilled_style: style,
+            ..self
+        }
+    }
+
+    /// Sets both styles: this one with its own colour for the filled columns, with its background as colour for the others,
+    /// Reset where it sets none, and with the background Reset.
+    pub fn gauge_style(self, style: Style) -> LineGauge<'a>
+        ensures { line_gauge_data result ≡ record (line_gauge_data self.entry) {
+          filled_style = drawn_in style style.fg;
+          unfilled_style = drawn_in style style.bg;
+        } }
+    {
+        LineGauge {
+            filled_style: drawn_in(style, style.fg),
+            unfilled_style: drawn_in(style, style.bg),
+            ..self
+        }
+    }
+
+    /// An equal line gauge of its own. `NoMemory` where there is none for the block or the label.
+    pub fn clone(&self) -> Mem<LineGauge<'a>>
+        ensures is { IfOk result (λ gauge. line_gauge_data gauge ≡ line_gauge_data self.now) }
+        ensures equal { IfOk result (λ gauge. ⟦<LineGauge<'a> as PartialEq>⟧.eq gauge self.now ≡ true) }
+    {
+        Ok(LineGauge {
+            block: clone_if_some(&self.block)?,
+            share: self.share,
+            label: clone_label(&self.label)?,
+            style: self.style,
+            filled_symbol: self.filled_symbol,
+            unfilled_symbol: self.unfilled_symbol,
+            filled_style: self.filled_style,
+            unfilled_style: self.unfilled_style,
+        })
+    }
+}
+
+impl<'a> Styled for LineGauge<'a> {
+    ghost style_of = { λ gauge. gauge.style };
+
+    ghost with_style = { λ gauge style. record gauge { style = style } };
+
+    fn style(&self) -> Style {
+        self.style
+    }
+
+    fn set_style(self, style: Style) -> LineGauge<'a> {
+        LineGauge { style, ..self }
+    }
+}

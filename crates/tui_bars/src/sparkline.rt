@@ -1,0 +1,148 @@
+//! Values side by side, each in a column.
+
+ghost use Rattle.std.specs.Prelude.{◌≡◌, IfOk, Some, map, true};
+ghost use Rattle.tui_bars.specs.Sparkline.{empty_sparkline, sparkline_bar_data, sparkline_data};
+ghost use Rattle.tui_cells.specs.Symbols.{bar_data};
+ghost use Rattle.tui_frames.specs.Block.{block_data};
+
+mod rendering;
+
+use crate::render_direction::RenderDirection;
+use crate::sparkline_bar::SparklineBar;
+use std::alloc::Global;
+use tui_cells::{Mem, Style, Styled, bar};
+use tui_frames::{Block, clone_if_some};
+
+/// Values side by side, each as a bar in a column of its own. Values that have no column are left out.
+#[derive(Debug, PartialEq, Eq, Drop)]
+pub struct Sparkline<'a> {
+    block: Option<Block<'a>>,
+    bars: Vec<SparklineBar>,
+    style: Style,
+    absent_value_style: Style,
+    absent_value_symbol: &'a str,
+    max: Option<u64>,
+    bar_set: bar::Set<'a>,
+    direction: RenderDirection,
+}
+
+impl<'a> Sparkline<'a> {
+    /// A sparkline without values, with nine levels, a blank for an absent value, and nothing else set.
+    pub fn new(alloc: Global) -> Sparkline<'a>
+        ensures { sparkline_data result ≡ empty_sparkline }
+    {
+        Sparkline {
+            block: None,
+            bars: Vec::new(alloc),
+            style: Style::new(),
+            absent_value_style: Style::new(),
+            absent_value_symbol: " ",
+            max: None,
+            bar_set: bar::NINE_LEVELS,
+            direction: RenderDirection::LeftToRight,
+        }
+    }
+
+    /// Puts a block around the bars, which then have the area inside.
+    pub fn block(self, block: Block<'a>) -> Sparkline<'a>
+        ensures { sparkline_data result ≡ record (sparkline_data self.entry) { block = Some (block_data block.entry) } }
+    {
+        Sparkline {
+            block: Some(block),
+            ..self
+        }
+    }
+
+    /// Sets the style of the bars.
+    pub fn style(self, style: Style) -> Sparkline<'a>
+        ensures { sparkline_data result ≡ record (sparkline_data self.entry) { style = style } }
+    {
+        Sparkline { style, ..self }
+    }
+
+    /// Sets the style that patches it in the column of an absent value.
+    pub fn absent_value_style(self, style: Style) -> Sparkline<'a>
+        ensures { sparkline_data result ≡ record (sparkline_data self.entry) { absent_style = style } }
+    {
+        Sparkline {
+            absent_value_style: style,
+            ..self
+        }
+    }
+
+    /// Sets the symbol in each cell of the column of an absent value.
+    pub fn absent_value_symbol(self, symbol: &'a str) -> Sparkline<'a>
+        ensures { sparkline_data result ≡ record (sparkline_data self.entry) { absent_symbol = symbol.now } }
+    {
+        Sparkline {
+            absent_value_symbol: symbol,
+            ..self
+        }
+    }
+
+    /// Puts these bars in place of the old ones.
+    pub fn data(self, bars: Vec<SparklineBar>) -> Sparkline<'a>
+        ensures { sparkline_data result ≡ record (sparkline_data self.entry) { bars = map sparkline_bar_data bars.items } }
+    {
+        Sparkline { bars, ..self }
+    }
+
+    /// Sets the value that fills a column, in place of the greatest of the values.
+    pub fn max(self, max: u64) -> Sparkline<'a>
+        ensures { sparkline_data result ≡ record (sparkline_data self.entry) { max = Some max } }
+    {
+        Sparkline {
+            max: Some(max),
+            ..self
+        }
+    }
+
+    /// Sets the symbols of cells that are filled in part.
+    pub fn bar_set(self, set: bar::Set<'a>) -> Sparkline<'a>
+        ensures { sparkline_data result ≡ record (sparkline_data self.entry) { symbols = bar_data set.entry } }
+    {
+        Sparkline {
+            bar_set: set,
+            ..self
+        }
+    }
+
+    /// Sets the side where the first bar stands.
+    pub fn direction(self, direction: RenderDirection) -> Sparkline<'a>
+        ensures { sparkline_data result ≡ record (sparkline_data self.entry) { direction = direction } }
+    {
+        Sparkline { direction, ..self }
+    }
+
+    /// An equal sparkline of its own. `NoMemory` where there is none for the block or the bars.
+    pub fn clone(&self) -> Mem<Sparkline<'a>>
+        ensures is { IfOk result (λ line. sparkline_data line ≡ sparkline_data self.now) }
+        ensures equal { IfOk result (λ line. ⟦<Sparkline<'a> as PartialEq>⟧.eq line self.now ≡ true) }
+    {
+        let alloc = *self.bars.allocator();
+        Ok(Sparkline {
+            block: clone_if_some(&self.block)?,
+            bars: Vec::from_slice(alloc, &self.bars)?,
+            style: self.style,
+            absent_value_style: self.absent_value_style,
+            absent_value_symbol: self.absent_value_symbol,
+            max: self.max,
+            bar_set: self.bar_set,
+            direction: self.direction,
+        })
+    }
+}
+
+impl<'a> Styled for Sparkline<'a> {
+    ghost style_of = { λ line. line.style };
+
+    ghost with_style = { λ line style. record line { style = style } };
+
+    fn style(&self) -> Style {
+        self.style
+    }
+
+    fn set_style(self, style: Style) -> Sparkline<'a> {
+        Sparkline { style, ..self }
+    }
+}
