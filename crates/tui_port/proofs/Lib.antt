@@ -7,4 +7,5 @@ pub mod Outside
 pub mod RowLemmas
 pub mod RunLemmas
 pub mod StateLines
+pub mod TableWidths
 pub mod Unique

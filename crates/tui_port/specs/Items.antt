@@ -2,11 +2,13 @@
 pub mod Block
 pub mod Fill
 pub mod ListFields
+pub mod TableFields
+pub mod TabsFields
 pub mod Paragraph
 pub mod Names
 use Rattle.std.specs.Prelude.{ℕ, ◌+◌, List, [], ◌∷◌, Option, Some, None, Result, Ok, Err}
 use Rattle.serde_json.specs.Data.{Data, Items, no_items, item}
-use Rattle.tui_scene.specs.Item.{ItemData, PlacedData, block, clear, fill, list, paragraph, still}
+use Rattle.tui_scene.specs.Item.{ItemData, PlacedData, block, clear, fill, list, paragraph, still, table, tabs}
 use Rattle.tui_port.specs.declared.field.Field.TheVariants as fields
 use Rattle.tui_port.specs.declared.items.widget.Widget.{Widget}
 use Rattle.tui_port.specs.declared.items.widget.Widget.TheVariants as widgets
@@ -15,6 +17,8 @@ use Rattle.tui_port.specs.Items.Fill.{fill_of}
 use Rattle.tui_port.specs.Items.ListFields.{shown_list}
 use Rattle.tui_port.specs.Items.Paragraph.{paragraph_of}
 use Rattle.tui_port.specs.Items.Names.{widget_of}
+use Rattle.tui_port.specs.Items.TableFields.{shown_table}
+use Rattle.tui_port.specs.Items.TabsFields.{shown_tabs}
 use Rattle.tui_port.specs.Kinds.Area.{area_of}
 use Rattle.tui_port.specs.Refusals.{Refusal, ◌>>=◌, required}
 
@@ -33,6 +37,12 @@ shown_of widgets.Paragraph i d = do
 shown_of widgets.List i d = do
   x ← shown_list i d
   Ok (list x.0 x.1)
+shown_of widgets.Table i d = do
+  x ← shown_table i d
+  Ok (table x.0 x.1)
+shown_of widgets.Tabs i d = do
+  x ← shown_tabs i d
+  Ok (still (tabs x))
 
 -- the item of number i
 unfoldable pub item_of : ℕ → Data → Result PlacedData Refusal

@@ -8,6 +8,7 @@ pub mod Shadow
 pub mod Padding
 pub mod Title
 pub mod Color
+pub mod Constraint
 pub mod Line
 pub mod ListItem
 pub mod Members
@@ -16,6 +17,7 @@ pub mod Number
 pub mod Span
 pub mod Style
 pub mod Symbol
+pub mod Table
 pub mod Text
 pub mod Wrap
 use Rattle.std.specs.Prelude.{◌≡◌, Option, Some, None, Result, Ok, Err}

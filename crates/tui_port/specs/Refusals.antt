@@ -2,7 +2,7 @@
 use Rattle.std.specs.Prelude.{◌≡◌, ℕ, Option, Some, None, Result, Ok, Err}
 use Rattle.serde_json.specs.Data.{Data}
 use Rattle.tui_port.specs.Field.{field_name}
-use Rattle.tui_port.specs.Kinds.Members.{member, optional_member}
+use Rattle.tui_port.specs.Kinds.Members.{given_member, member, optional_member}
 use Rattle.tui_port.specs.declared.field.Field.{Field}
 use Rattle.tui_port.specs.declared.error.SceneError.{SceneError}
 use Rattle.tui_port.specs.declared.error.SceneError.TheVariants as errors
@@ -44,3 +44,7 @@ required kind i f d = or_refuse i f (member kind (field_name f) d)
 -- a field that may be absent or null
 abbrev pub optional : {A : Type 0} → (Data → Option A) → Option ℕ → Field → Data → Result (Option A) Refusal
 optional kind i f d = or_refuse i f (optional_member kind (field_name f) d)
+
+-- a field that may be absent, and for which null is a value
+abbrev pub given : {A : Type 0} → (Data → Option A) → Option ℕ → Field → Data → Result (Option A) Refusal
+given kind i f d = or_refuse i f (given_member kind (field_name f) d)

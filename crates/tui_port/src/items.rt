@@ -4,6 +4,8 @@ mod block;
 mod fill;
 mod list;
 mod paragraph;
+mod table;
+mod tabs;
 mod widget;
 
 ghost use Rattle.serde_json.specs.View.{view};
@@ -17,6 +19,8 @@ use crate::items::block::read_block;
 use crate::items::fill::read_fill;
 use crate::items::list::read_list;
 use crate::items::paragraph::read_paragraph;
+use crate::items::table::read_table;
+use crate::items::tabs::read_tabs;
 use crate::items::widget::Widget;
 use crate::table::required;
 use serde_json::Value;
@@ -41,6 +45,11 @@ fn read_shown<'v>(
             let (list, state) = read_list(alloc, item, value)?;
             Item::List(list, state)
         }
+        Widget::Table => {
+            let (table, state) = read_table(alloc, item, value)?;
+            Item::Table(table, state)
+        }
+        Widget::Tabs => Item::Tabs(read_tabs(alloc, item, value)?),
     })
 }
 

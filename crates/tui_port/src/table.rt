@@ -2,11 +2,11 @@
 
 ghost use Rattle.std.specs.Prelude.{option_map};
 ghost use Rattle.serde_json.specs.View.{view};
-ghost use Rattle.tui_port.specs.Refusals.{Gives, optional, required};
+ghost use Rattle.tui_port.specs.Refusals.{Gives, given, optional, required};
 
 use crate::error::SceneError;
 use crate::field::Field;
-use crate::kinds::{Kind, member, optional_member};
+use crate::kinds::{Kind, given_member, member, optional_member};
 use serde_json::Value;
 use std::alloc::Global;
 
@@ -35,6 +35,21 @@ pub(crate) fn optional<'v, T: Kind<'v>>(
     ensures { Gives (option_map T.seen) result (optional T.kind item field (view value.now)) }
 {
     match optional_member(alloc, value, field.name()) {
+        Ok(found) => Ok(found),
+        Err(error) => Err(error.at(item, field)),
+    }
+}
+
+/// A field that may be absent, and for which null is a value.
+pub(crate) fn given<'v, T: Kind<'v>>(
+    alloc: Global,
+    item: Option<usize>,
+    field: Field,
+    value: &'v Value,
+) -> Result<Option<T>, SceneError>
+    ensures { Gives (option_map T.seen) result (given T.kind item field (view value.now)) }
+{
+    match given_member(alloc, value, field.name()) {
         Ok(found) => Ok(found),
         Err(error) => Err(error.at(item, field)),
     }

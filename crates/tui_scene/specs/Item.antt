@@ -12,9 +12,14 @@ use Rattle.tui_frames.specs.Drawing.{block_drawing}
 use Rattle.tui_frames.specs.Fill.{FillData, fill_data, fill_drawing}
 use Rattle.tui_lists.specs.List.{ListData, list_data}
 use Rattle.tui_lists.specs.ListDrawing.{list_moving}
+use Rattle.tui_lists.specs.Tabs.{TabsData, tabs_data}
+use Rattle.tui_lists.specs.TabsDrawing.{tabs_drawing}
 use Rattle.tui_lists.specs.declared.list.state.ListState.{ListState}
 use Rattle.tui_para.specs.Drawing.{paragraph_drawing}
 use Rattle.tui_para.specs.Paragraph.{ParagraphData, paragraph_data}
+use Rattle.tui_table.specs.Drawing.{table_moving}
+use Rattle.tui_table.specs.Table.{TableData, table_data}
+use Rattle.tui_table.specs.declared.state.TableState.{TableState}
 use Rattle.tui_scene.specs.declared.item.Item.{Item}
 use Rattle.tui_scene.specs.declared.item.Item.TheVariants as items
 use Rattle.tui_scene.specs.declared.placed.Placed.{Placed}
@@ -25,11 +30,13 @@ pub data StillData : Type 0 where
   fill : FillData → StillData
   block : BlockData → StillData
   paragraph : ParagraphData → StillData
+  tabs : TabsData → StillData
 
 -- a widget, with its state where it has one
 pub data ItemData : Type 0 where
   still : StillData → ItemData
   list : ListData → ListState → ItemData
+  table : TableData → TableState → ItemData
 
 abbrev pub item_data : Item → ItemData
 item_data (items.Clear _) = still clear
@@ -37,17 +44,25 @@ item_data (items.Fill f) = still (fill (fill_data f))
 item_data (items.Block b) = still (block (block_data b))
 item_data (items.Paragraph p) = still (paragraph (paragraph_data p))
 item_data (items.List l s) = list (list_data l) s
+item_data (items.Table t s) = table (table_data t) s
+item_data (items.Tabs t) = still (tabs (tabs_data t))
 
 -- a list with this state
 abbrev pub with_list_state : ListState → ItemData → ItemData
 with_list_state after (list l s) = list l after
 with_list_state after item = item
 
+-- a table with this state
+abbrev pub with_table_state : TableState → ItemData → ItemData
+with_table_state after (table t s) = table t after
+with_table_state after item = item
+
 abbrev pub still_drawing : StillData → Drawing
 still_drawing clear = clear_drawing
 still_drawing (fill f) = fill_drawing f
 still_drawing (block b) = block_drawing b
 still_drawing (paragraph p) = paragraph_drawing p
+still_drawing (tabs t) = tabs_drawing t
 
 -- what a widget is to a scene, over the clip that it is given
 pub record ItemDrawing : Type 1 where
@@ -88,6 +103,7 @@ with_state {S = S} item m s = record {
 abbrev pub item_drawing : ItemData → ItemDrawing
 item_drawing (still w) = without_state (still w) (still_drawing w)
 item_drawing (list l s) = with_state (list l) (list_moving l) s
+item_drawing (table t s) = with_state (table t) (table_moving t) s
 
 -- over an empty clip a widget rests, and drawn again over the same clip it keeps the state that the first drawing left
 pub record Lasts (item : ItemData) (clip : Rect) : Type 0 where
@@ -99,6 +115,10 @@ item_lasts (still w) clip = record { rests = λ e. refl; settles = refl }
 item_lasts (list l s) clip = record {
   rests = λ e. ap (list l) ((list_moving l).rests s clip e);
   settles = ap (list l) ((list_moving l).settles s clip);
+}
+item_lasts (table t s) clip = record {
+  rests = λ e. ap (table t) ((table_moving t).rests s clip e);
+  settles = ap (table t) ((table_moving t).settles s clip);
 }
 
 -- a widget and its area

@@ -7,8 +7,9 @@ ghost use Rattle.tui_cells.specs.Rect.{intersection_of, is_empty};
 use std::alloc::Global;
 use tui_cells::{Buffer, Mem, Rect, StatefulWidget, Widget};
 use tui_frames::{Block, Clear, Fill};
-use tui_lists::{List, ListState};
+use tui_lists::{List, ListState, Tabs};
 use tui_para::Paragraph;
+use tui_table::{Table, TableState};
 
 /// A widget of any kind, with its state where it has one.
 #[derive(Drop)]
@@ -18,10 +19,12 @@ pub enum Item<'a> {
     Block(Block<'a>),
     Paragraph(Paragraph<'a>),
     List(List<'a>, ListState),
+    Table(Table<'a>, TableState),
+    Tabs(Tabs<'a>),
 }
 
 impl<'a> Item<'a> {
-    ghost use Rattle.tui_scene.specs.Item.{item_data, item_drawing, with_list_state};
+    ghost use Rattle.tui_scene.specs.Item.{item_data, item_drawing, with_list_state, with_table_state};
 
     /// Draws the widget in its area, and leaves its state moved. At NoMemory the item is as before.
     pub(crate) fn render(&mut self, alloc: Global, area: Rect, buf: &mut Buffer) -> Mem<()>
@@ -46,6 +49,13 @@ impl<'a> Item<'a> {
                 self.set_list_state(after);
                 Ok(())
             }
+            Item::Table(table, state) => {
+                let mut after = *state;
+                StatefulWidget::render(table, alloc, area, buf, &mut after)?;
+                self.set_table_state(after);
+                Ok(())
+            }
+            Item::Tabs(tabs) => tabs.render(alloc, area, buf),
         }
     }
 
@@ -54,6 +64,15 @@ impl<'a> Item<'a> {
         ensures { item_data self.new ≡ with_list_state after (item_data self.old) }
     {
         if let Item::List(_, state) = self {
+            *state = after;
+        }
+    }
+
+    /// Puts another state in place of a table's.
+    fn set_table_state(&mut self, after: TableState)
+        ensures { item_data self.new ≡ with_table_state after (item_data self.old) }
+    {
+        if let Item::Table(_, state) = self {
             *state = after;
         }
     }

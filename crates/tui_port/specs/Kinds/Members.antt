@@ -28,6 +28,14 @@ member kind name d = option_and_then kind (get name d)
 abbrev pub optional_member : {A : Type 0} → (Data → Option A) → List ℕ → Data → Option (Option A)
 optional_member kind name d = if_any kind (option_and_then unless_null (get name d))
 
+-- null, or a value of a kind
+abbrev pub or_null : {A : Type 0} → (Data → Option A) → Data → Option (Option A)
+or_null kind d = if_any kind (unless_null d)
+
+-- the member of this name, which may be absent; null is a value
+abbrev pub given_member : {A : Type 0} → (Data → Option A) → List ℕ → Data → Option (Option A)
+given_member kind name d = if_any kind (get name d)
+
 -- each value of an array
 unfoldable pub each_of : {A : Type 0} → (Data → Option A) → Items → Option (List A)
 each_of kind no_items = Some []

@@ -9,7 +9,10 @@ use Rattle.tui_frames.specs.declared.border_type.BorderType.{BorderType}
 use Rattle.tui_frames.specs.declared.border_type.BorderType.TheVariants as borders
 use Rattle.tui_frames.specs.declared.title_position.TitlePosition.{TitlePosition}
 use Rattle.tui_frames.specs.declared.title_position.TitlePosition.TheVariants.{Top, Bottom}
+use Rattle.tui_layout.specs.Flex as flex
 use Rattle.tui_layout.specs.HighlightSpacing as highlight_spacing
+use Rattle.tui_layout.specs.declared.flex.Flex.{Flex}
+use Rattle.tui_layout.specs.declared.flex.Flex.TheVariants as flexing
 use Rattle.tui_layout.specs.declared.highlight_spacing.HighlightSpacing.{HighlightSpacing}
 use Rattle.tui_layout.specs.declared.highlight_spacing.HighlightSpacing.TheVariants.{Always, WhenSelected, Never}
 use Rattle.tui_lists.specs.ListDirection as list_direction
@@ -75,4 +78,19 @@ list_directions = record {
   name = list_direction.name_of;
   values = TopToBottom ∷ BottomToTop ∷ [];
   found = elim [ TopToBottom ↦ refl | BottomToTop ↦ refl ];
+}
+
+abbrev pub flexes : Names Flex
+flexes = record {
+  name = flex.name_of;
+  values = flexing.Legacy ∷ flexing.Start ∷ flexing.End ∷ flexing.Center ∷ flexing.SpaceBetween ∷ flexing.SpaceEvenly ∷ flexing.SpaceAround ∷ [];
+  found = elim [
+    | flexing.Legacy ↦ refl
+    | flexing.Start ↦ refl
+    | flexing.End ↦ refl
+    | flexing.Center ↦ refl
+    | flexing.SpaceBetween ↦ refl
+    | flexing.SpaceEvenly ↦ refl
+    | flexing.SpaceAround ↦ refl
+  ];
 }

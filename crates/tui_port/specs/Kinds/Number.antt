@@ -15,6 +15,10 @@ below limit n = if nat_lt n limit then Some n else None
 unfoldable pub u16_of : Data → Option ℕ
 u16_of d = option_and_then (below 65536) (u64_of d)
 
+-- a whole number below 2^32
+unfoldable pub u32_of : Data → Option ℕ
+u32_of d = option_and_then (below (2 ^ 32)) (u64_of d)
+
 -- four numbers below 2^16
 abbrev pub four_in : {A : Type 0} → (ℕ → ℕ → ℕ → ℕ → A) → Items → Option A
 four_in make (item a (item b (item c (item d no_items)))) = do

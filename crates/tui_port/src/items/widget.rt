@@ -12,6 +12,8 @@ pub(crate) enum Widget {
     Block,
     Paragraph,
     List,
+    Table,
+    Tabs,
 }
 
 impl<'v> Kind<'v> for Widget {
@@ -32,6 +34,8 @@ impl<'v> Kind<'v> for Widget {
             Some("block") => Ok(Widget::Block),
             Some("paragraph") => Ok(Widget::Paragraph),
             Some("list") => Ok(Widget::List),
+            Some("table") => Ok(Widget::Table),
+            Some("tabs") => Ok(Widget::Tabs),
             _ => Err(KindError::WrongKind),
         }
     }

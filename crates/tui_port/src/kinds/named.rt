@@ -4,7 +4,15 @@ ghost use Rattle.std.specs.Prelude.{◌≡◌, ℕ, List, Result};
 ghost use Rattle.std.specs.Result.{result_ok};
 ghost use Rattle.tui_cells.specs.declared.error.ParseError.{ParseError};
 ghost use Rattle.tui_port.specs.Kinds.Named.{Names, named_of, reads_named, value_named};
-ghost use Rattle.tui_port.specs.Kinds.Names.{alignments, border_types, highlight_spacings, list_directions, merge_strategies, title_positions};
+ghost use Rattle.tui_port.specs.Kinds.Names.{
+  alignments,
+  border_types,
+  flexes,
+  highlight_spacings,
+  list_directions,
+  merge_strategies,
+  title_positions,
+};
 
 use crate::kinds::kind::{Kind, KindError};
 use serde_json::Value;
@@ -12,7 +20,7 @@ use std::alloc::Global;
 use std::str::FromStr;
 use tui_cells::{MergeStrategy, ParseError};
 use tui_frames::{BorderType, TitlePosition};
-use tui_layout::HighlightSpacing;
+use tui_layout::{Flex, HighlightSpacing};
 use tui_lists::ListDirection;
 use tui_text::Alignment;
 
@@ -73,4 +81,10 @@ impl Named for ListDirection {
     ghost names = { list_directions };
 
     ghost reads = { reads_named list_directions };
+}
+
+impl Named for Flex {
+    ghost names = { flexes };
+
+    ghost reads = { reads_named flexes };
 }

@@ -38,6 +38,25 @@ impl<'v> Kind<'v> for u16 {
     }
 }
 
+impl<'v> Kind<'v> for u32 {
+    ghost use Rattle.std.specs.Prelude.{ℕ};
+    ghost use Rattle.tui_port.specs.Kinds.Number.{u32_of};
+
+    ghost Seen = { ℕ };
+
+    ghost seen = { λ n. n };
+
+    ghost kind = { u32_of };
+
+    #[tactic(auto, unfolding(crate::specs::Kinds::Number::u32_of))]
+    fn read(_alloc: Global, value: &'v Value) -> Result<u32, KindError> {
+        match value.as_u64() {
+            Some(number) if number < 4294967296 => Ok(number as u32),
+            _ => Err(KindError::WrongKind),
+        }
+    }
+}
+
 impl<'v> Kind<'v> for i32 {
     ghost use Rattle.std.specs.Prelude.{ℤ};
     ghost use Rattle.tui_port.specs.Kinds.Number.{i32_of};

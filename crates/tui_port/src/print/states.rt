@@ -37,6 +37,11 @@ fn put_state<K: Sink>(gather: &mut Gather, number: usize, item: &Item<'_>, sink:
                 sink,
             );
         }
+        Item::Table(_, state) => {
+            let offset = state.offset();
+            let column = state.selected_column();
+            put_state_line(gather, number, b"table", offset, state.selected(), column, sink);
+        }
         _ => {}
     }
 }
