@@ -14,10 +14,16 @@ mod layout;
 #[cfg(test)]
 mod lines;
 #[cfg(test)]
+mod lists;
+#[cfg(test)]
 mod paragraph;
 #[cfg(test)]
 mod scene;
 #[cfg(test)]
+mod scrollbars;
+#[cfg(test)]
 mod shown;
+#[cfg(test)]
+mod tabs;
 #[cfg(test)]
 mod text;
