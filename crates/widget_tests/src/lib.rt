@@ -18,12 +18,18 @@ mod layout;
 #[cfg(test)]
 mod lines;
 #[cfg(test)]
+mod lists;
+#[cfg(test)]
 mod paragraph;
 #[cfg(test)]
 mod scene;
 #[cfg(test)]
+mod scrollbars;
+#[cfg(test)]
 mod shown;
 #[cfg(test)]
 mod table;
+#[cfg(test)]
+mod tabs;
 #[cfg(test)]
 mod text;
