@@ -1,22 +1,28 @@
 -- Items: their fields in order, the first whose test fails being the refusal.
 pub mod Block
+pub mod ChartFields
 pub mod Fill
+pub mod GaugeFields
 pub mod ListFields
+pub mod ScrollbarFields
 pub mod TableFields
 pub mod TabsFields
 pub mod Paragraph
 pub mod Names
 use Rattle.std.specs.Prelude.{ℕ, ◌+◌, List, [], ◌∷◌, Option, Some, None, Result, Ok, Err}
 use Rattle.serde_json.specs.Data.{Data, Items, no_items, item}
-use Rattle.tui_scene.specs.Item.{ItemData, PlacedData, block, clear, fill, list, paragraph, still, table, tabs}
+use Rattle.tui_scene.specs.Item.{ItemData, PlacedData, bar_chart, block, clear, fill, gauge, line_gauge, list, paragraph, scrollbar, sparkline, still, table, tabs}
 use Rattle.tui_port.specs.declared.field.Field.TheVariants as fields
 use Rattle.tui_port.specs.declared.items.widget.Widget.{Widget}
 use Rattle.tui_port.specs.declared.items.widget.Widget.TheVariants as widgets
 use Rattle.tui_port.specs.Items.Block.{block_in}
+use Rattle.tui_port.specs.Items.ChartFields.{shown_chart, shown_sparkline}
 use Rattle.tui_port.specs.Items.Fill.{fill_of}
+use Rattle.tui_port.specs.Items.GaugeFields.{shown_gauge, shown_line_gauge}
 use Rattle.tui_port.specs.Items.ListFields.{shown_list}
 use Rattle.tui_port.specs.Items.Paragraph.{paragraph_of}
 use Rattle.tui_port.specs.Items.Names.{widget_of}
+use Rattle.tui_port.specs.Items.ScrollbarFields.{shown_scrollbar}
 use Rattle.tui_port.specs.Items.TableFields.{shown_table}
 use Rattle.tui_port.specs.Items.TabsFields.{shown_tabs}
 use Rattle.tui_port.specs.Kinds.Area.{area_of}
@@ -43,6 +49,21 @@ shown_of widgets.Table i d = do
 shown_of widgets.Tabs i d = do
   x ← shown_tabs i d
   Ok (still (tabs x))
+shown_of widgets.Scrollbar i d = do
+  x ← shown_scrollbar i d
+  Ok (scrollbar x.0 x.1)
+shown_of widgets.Gauge i d = do
+  x ← shown_gauge i d
+  Ok (still (gauge x))
+shown_of widgets.LineGauge i d = do
+  x ← shown_line_gauge i d
+  Ok (still (line_gauge x))
+shown_of widgets.BarChart i d = do
+  x ← shown_chart i d
+  Ok (still (bar_chart x))
+shown_of widgets.Sparkline i d = do
+  x ← shown_sparkline i d
+  Ok (still (sparkline x))
 
 -- the item of number i
 unfoldable pub item_of : ℕ → Data → Result PlacedData Refusal

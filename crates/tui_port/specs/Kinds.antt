@@ -2,6 +2,7 @@
 pub mod Named
 pub mod Names
 pub mod Area
+pub mod Bars
 pub mod Borders
 pub mod Block
 pub mod Shadow
@@ -9,6 +10,7 @@ pub mod Padding
 pub mod Title
 pub mod Color
 pub mod Constraint
+pub mod Fraction
 pub mod Line
 pub mod ListItem
 pub mod Members

@@ -5,7 +5,7 @@ use Rattle.tui_cells.specs.declared.color.Color.TheVariants as colors
 use Rattle.tui_cells.specs.Cell.{Look}
 use Rattle.tui_cells.specs.Buffer.{Screen}
 use Rattle.tui_text.specs.Grapheme.{width_of}
-use Rattle.tui_scene.specs.Item.{ItemData, PlacedData, list, still, table}
+use Rattle.tui_scene.specs.Item.{ItemData, PlacedData, list, scrollbar, still, table}
 use Rattle.tui_port.specs.Runs.{StyleRun, AreStyleRuns}
 
 -- the end of a line
@@ -89,6 +89,7 @@ abbrev pub state_line : ℕ → ItemData → List ℕ
 state_line number (still w) = []
 state_line number (list l s) = state_text number (codes "list") s.offset s.selected None
 state_line number (table t s) = state_text number (codes "table") s.offset s.selected s.selected_column
+state_line number (scrollbar b s) = state_text number (codes "scrollbar") s.position None None
 
 -- the lines of widgets, which are numbered from the first one's number on
 unfoldable pub state_lines : ℕ → List PlacedData → List ℕ

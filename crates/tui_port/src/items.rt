@@ -1,9 +1,14 @@
 //! Items: a widget and its area, each widget read by the fields of its table in order.
 
+mod bar_chart;
 mod block;
 mod fill;
+mod gauge;
+mod line_gauge;
 mod list;
 mod paragraph;
+mod scrollbar;
+mod sparkline;
 mod table;
 mod tabs;
 mod widget;
@@ -15,10 +20,15 @@ ghost use Rattle.tui_port.specs.Refusals.{Gives};
 
 use crate::error::SceneError;
 use crate::field::Field;
+use crate::items::bar_chart::read_bar_chart;
 use crate::items::block::read_block;
 use crate::items::fill::read_fill;
+use crate::items::gauge::read_gauge;
+use crate::items::line_gauge::read_line_gauge;
 use crate::items::list::read_list;
 use crate::items::paragraph::read_paragraph;
+use crate::items::scrollbar::read_scrollbar;
+use crate::items::sparkline::read_sparkline;
 use crate::items::table::read_table;
 use crate::items::tabs::read_tabs;
 use crate::items::widget::Widget;
@@ -50,6 +60,14 @@ fn read_shown<'v>(
             Item::Table(table, state)
         }
         Widget::Tabs => Item::Tabs(read_tabs(alloc, item, value)?),
+        Widget::Scrollbar => {
+            let (scrollbar, state) = read_scrollbar(alloc, item, value)?;
+            Item::Scrollbar(scrollbar, state)
+        }
+        Widget::Gauge => Item::Gauge(read_gauge(alloc, item, value)?),
+        Widget::LineGauge => Item::LineGauge(read_line_gauge(alloc, item, value)?),
+        Widget::BarChart => Item::BarChart(read_bar_chart(alloc, item, value)?),
+        Widget::Sparkline => Item::Sparkline(read_sparkline(alloc, item, value)?),
     })
 }
 

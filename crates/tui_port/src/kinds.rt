@@ -2,10 +2,12 @@
 
 mod area;
 mod array;
+mod bars;
 mod block;
 mod borders;
 mod color;
 mod constraint;
+mod fraction;
 mod kind;
 mod line;
 mod list_item;
@@ -18,8 +20,8 @@ mod shadow;
 mod span;
 mod style;
 mod symbol;
-mod text;
 mod table;
+mod text;
 mod title;
 mod wrap;
 

@@ -6,15 +6,23 @@ use Rattle.tui_cells.specs.Rect.{intersection_of, is_empty}
 use Rattle.tui_cells.specs.Buffer.{Screen}
 use Rattle.tui_cells.specs.Drawing.{Drawing, Moving}
 use Rattle.tui_cells.specs.Layers.{Layer, StayIn}
+use Rattle.tui_bars.specs.BarChart.{BarChartData, bar_chart_data}
+use Rattle.tui_bars.specs.Drawing.{bar_chart_drawing, gauge_drawing, line_gauge_drawing, sparkline_drawing}
+use Rattle.tui_bars.specs.Gauge.{GaugeData, gauge_data}
+use Rattle.tui_bars.specs.LineGauge.{LineGaugeData, line_gauge_data}
+use Rattle.tui_bars.specs.Sparkline.{SparklineData, sparkline_data}
 use Rattle.tui_frames.specs.Block.{BlockData, block_data}
 use Rattle.tui_frames.specs.Clear.{clear_drawing}
 use Rattle.tui_frames.specs.Drawing.{block_drawing}
 use Rattle.tui_frames.specs.Fill.{FillData, fill_data, fill_drawing}
 use Rattle.tui_lists.specs.List.{ListData, list_data}
 use Rattle.tui_lists.specs.ListDrawing.{list_moving}
+use Rattle.tui_lists.specs.Scrollbar.{ScrollbarData, scrollbar_data}
+use Rattle.tui_lists.specs.ScrollbarStrokes.{scrollbar_moving}
 use Rattle.tui_lists.specs.Tabs.{TabsData, tabs_data}
 use Rattle.tui_lists.specs.TabsDrawing.{tabs_drawing}
 use Rattle.tui_lists.specs.declared.list.state.ListState.{ListState}
+use Rattle.tui_lists.specs.declared.scrollbar.state.ScrollbarState.{ScrollbarState}
 use Rattle.tui_para.specs.Drawing.{paragraph_drawing}
 use Rattle.tui_para.specs.Paragraph.{ParagraphData, paragraph_data}
 use Rattle.tui_table.specs.Drawing.{table_moving}
@@ -31,12 +39,17 @@ pub data StillData : Type 0 where
   block : BlockData → StillData
   paragraph : ParagraphData → StillData
   tabs : TabsData → StillData
+  gauge : GaugeData → StillData
+  line_gauge : LineGaugeData → StillData
+  bar_chart : BarChartData → StillData
+  sparkline : SparklineData → StillData
 
 -- a widget, with its state where it has one
 pub data ItemData : Type 0 where
   still : StillData → ItemData
   list : ListData → ListState → ItemData
   table : TableData → TableState → ItemData
+  scrollbar : ScrollbarData → ScrollbarState → ItemData
 
 abbrev pub item_data : Item → ItemData
 item_data (items.Clear _) = still clear
@@ -46,6 +59,11 @@ item_data (items.Paragraph p) = still (paragraph (paragraph_data p))
 item_data (items.List l s) = list (list_data l) s
 item_data (items.Table t s) = table (table_data t) s
 item_data (items.Tabs t) = still (tabs (tabs_data t))
+item_data (items.Scrollbar b s) = scrollbar (scrollbar_data b) s
+item_data (items.Gauge g) = still (gauge (gauge_data g))
+item_data (items.LineGauge g) = still (line_gauge (line_gauge_data g))
+item_data (items.BarChart c) = still (bar_chart (bar_chart_data c))
+item_data (items.Sparkline s) = still (sparkline (sparkline_data s))
 
 -- a list with this state
 abbrev pub with_list_state : ListState → ItemData → ItemData
@@ -57,12 +75,21 @@ abbrev pub with_table_state : TableState → ItemData → ItemData
 with_table_state after (table t s) = table t after
 with_table_state after item = item
 
+-- a scrollbar with this state
+abbrev pub with_scrollbar_state : ScrollbarState → ItemData → ItemData
+with_scrollbar_state after (scrollbar b s) = scrollbar b after
+with_scrollbar_state after item = item
+
 abbrev pub still_drawing : StillData → Drawing
 still_drawing clear = clear_drawing
 still_drawing (fill f) = fill_drawing f
 still_drawing (block b) = block_drawing b
 still_drawing (paragraph p) = paragraph_drawing p
 still_drawing (tabs t) = tabs_drawing t
+still_drawing (gauge g) = gauge_drawing g
+still_drawing (line_gauge g) = line_gauge_drawing g
+still_drawing (bar_chart c) = bar_chart_drawing c
+still_drawing (sparkline s) = sparkline_drawing s
 
 -- what a widget is to a scene, over the clip that it is given
 pub record ItemDrawing : Type 1 where
@@ -104,6 +131,7 @@ abbrev pub item_drawing : ItemData → ItemDrawing
 item_drawing (still w) = without_state (still w) (still_drawing w)
 item_drawing (list l s) = with_state (list l) (list_moving l) s
 item_drawing (table t s) = with_state (table t) (table_moving t) s
+item_drawing (scrollbar b s) = with_state (scrollbar b) (scrollbar_moving b) s
 
 -- over an empty clip a widget rests, and drawn again over the same clip it keeps the state that the first drawing left
 pub record Lasts (item : ItemData) (clip : Rect) : Type 0 where
@@ -120,6 +148,7 @@ item_lasts (table t s) clip = record {
   rests = λ e. ap (table t) ((table_moving t).rests s clip e);
   settles = ap (table t) ((table_moving t).settles s clip);
 }
+item_lasts (scrollbar b s) clip = record { rests = λ e. refl; settles = refl }
 
 -- a widget and its area
 pub record PlacedData : Type 0 where

@@ -5,9 +5,10 @@ ghost use Rattle.tui_cells.specs.Layers.{KeptOutside, Painted};
 ghost use Rattle.tui_cells.specs.Rect.{intersection_of, is_empty};
 
 use std::alloc::Global;
+use tui_bars::{BarChart, Gauge, LineGauge, Sparkline};
 use tui_cells::{Buffer, Mem, Rect, StatefulWidget, Widget};
 use tui_frames::{Block, Clear, Fill};
-use tui_lists::{List, ListState, Tabs};
+use tui_lists::{List, ListState, Scrollbar, ScrollbarState, Tabs};
 use tui_para::Paragraph;
 use tui_table::{Table, TableState};
 
@@ -21,10 +22,15 @@ pub enum Item<'a> {
     List(List<'a>, ListState),
     Table(Table<'a>, TableState),
     Tabs(Tabs<'a>),
+    Scrollbar(Scrollbar<'a>, ScrollbarState),
+    Gauge(Gauge<'a>),
+    LineGauge(LineGauge<'a>),
+    BarChart(BarChart<'a>),
+    Sparkline(Sparkline<'a>),
 }
 
 impl<'a> Item<'a> {
-    ghost use Rattle.tui_scene.specs.Item.{item_data, item_drawing, with_list_state, with_table_state};
+    ghost use Rattle.tui_scene.specs.Item.{item_data, item_drawing, with_list_state, with_scrollbar_state, with_table_state};
 
     /// Draws the widget in its area, and leaves its state moved. At NoMemory the item is as before.
     pub(crate) fn render(&mut self, alloc: Global, area: Rect, buf: &mut Buffer) -> Mem<()>
@@ -56,6 +62,16 @@ impl<'a> Item<'a> {
                 Ok(())
             }
             Item::Tabs(tabs) => tabs.render(alloc, area, buf),
+            Item::Scrollbar(scrollbar, state) => {
+                let mut after = *state;
+                scrollbar.render(alloc, area, buf, &mut after)?;
+                self.set_scrollbar_state(after);
+                Ok(())
+            }
+            Item::Gauge(gauge) => gauge.render(alloc, area, buf),
+            Item::LineGauge(gauge) => gauge.render(alloc, area, buf),
+            Item::BarChart(chart) => chart.render(alloc, area, buf),
+            Item::Sparkline(sparkline) => sparkline.render(alloc, area, buf),
         }
     }
 
@@ -73,6 +89,15 @@ impl<'a> Item<'a> {
         ensures { item_data self.new ≡ with_table_state after (item_data self.old) }
     {
         if let Item::Table(_, state) = self {
+            *state = after;
+        }
+    }
+
+    /// Puts another state in place of a scrollbar's.
+    fn set_scrollbar_state(&mut self, after: ScrollbarState)
+        ensures { item_data self.new ≡ with_scrollbar_state after (item_data self.old) }
+    {
+        if let Item::Scrollbar(_, state) = self {
             *state = after;
         }
     }

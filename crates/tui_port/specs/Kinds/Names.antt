@@ -1,5 +1,8 @@
 -- The names that enums are read by.
 use Rattle.std.specs.Prelude.{[], ◌∷◌, refl}
+use Rattle.tui_bars.specs.RenderDirection as render_direction
+use Rattle.tui_bars.specs.declared.render_direction.RenderDirection.{RenderDirection}
+use Rattle.tui_bars.specs.declared.render_direction.RenderDirection.TheVariants.{LeftToRight, RightToLeft}
 use Rattle.tui_cells.specs.Strategies as strategy
 use Rattle.tui_cells.specs.declared.merge_strategy.MergeStrategy.{MergeStrategy}
 use Rattle.tui_cells.specs.declared.merge_strategy.MergeStrategy.TheVariants.{Replace, Exact, Fuzzy}
@@ -9,15 +12,21 @@ use Rattle.tui_frames.specs.declared.border_type.BorderType.{BorderType}
 use Rattle.tui_frames.specs.declared.border_type.BorderType.TheVariants as borders
 use Rattle.tui_frames.specs.declared.title_position.TitlePosition.{TitlePosition}
 use Rattle.tui_frames.specs.declared.title_position.TitlePosition.TheVariants.{Top, Bottom}
+use Rattle.tui_layout.specs.Direction as direction
 use Rattle.tui_layout.specs.Flex as flex
 use Rattle.tui_layout.specs.HighlightSpacing as highlight_spacing
+use Rattle.tui_layout.specs.declared.direction.Direction.{Direction}
+use Rattle.tui_layout.specs.declared.direction.Direction.TheVariants.{Horizontal, Vertical}
 use Rattle.tui_layout.specs.declared.flex.Flex.{Flex}
 use Rattle.tui_layout.specs.declared.flex.Flex.TheVariants as flexing
 use Rattle.tui_layout.specs.declared.highlight_spacing.HighlightSpacing.{HighlightSpacing}
 use Rattle.tui_layout.specs.declared.highlight_spacing.HighlightSpacing.TheVariants.{Always, WhenSelected, Never}
 use Rattle.tui_lists.specs.ListDirection as list_direction
+use Rattle.tui_lists.specs.Orientation as orientation
 use Rattle.tui_lists.specs.declared.direction.ListDirection.{ListDirection}
 use Rattle.tui_lists.specs.declared.direction.ListDirection.TheVariants.{TopToBottom, BottomToTop}
+use Rattle.tui_lists.specs.declared.scrollbar.orientation.ScrollbarOrientation.{ScrollbarOrientation}
+use Rattle.tui_lists.specs.declared.scrollbar.orientation.ScrollbarOrientation.TheVariants.{VerticalRight, VerticalLeft, HorizontalBottom, HorizontalTop}
 use Rattle.tui_text.specs.Alignment as alignment
 use Rattle.tui_text.specs.declared.alignment.Alignment.{Alignment}
 use Rattle.tui_text.specs.declared.alignment.Alignment.TheVariants.{Left, Center, Right}
@@ -93,4 +102,25 @@ flexes = record {
     | flexing.SpaceEvenly ↦ refl
     | flexing.SpaceAround ↦ refl
   ];
+}
+
+abbrev pub directions : Names Direction
+directions = record {
+  name = direction.name_of;
+  values = Horizontal ∷ Vertical ∷ [];
+  found = elim [ Horizontal ↦ refl | Vertical ↦ refl ];
+}
+
+abbrev pub orientations : Names ScrollbarOrientation
+orientations = record {
+  name = orientation.name_of;
+  values = VerticalRight ∷ VerticalLeft ∷ HorizontalBottom ∷ HorizontalTop ∷ [];
+  found = elim [ VerticalRight ↦ refl | VerticalLeft ↦ refl | HorizontalBottom ↦ refl | HorizontalTop ↦ refl ];
+}
+
+abbrev pub render_directions : Names RenderDirection
+render_directions = record {
+  name = render_direction.name_of;
+  values = LeftToRight ∷ RightToLeft ∷ [];
+  found = elim [ LeftToRight ↦ refl | RightToLeft ↦ refl ];
 }

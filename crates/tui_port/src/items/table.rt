@@ -72,7 +72,7 @@ fn with_edges<'v>(
     widths: Vec<Constraint>,
 ) -> Result<Table<'v>, SceneError>
     ensures { Gives table_data result (with_edges item (map row_data rows.entry.items)
-      (option_map row_data header.entry) (option_map row_data footer.entry) widths.items) }
+        (option_map row_data header.entry) (option_map row_data footer.entry) widths.items) }
 {
     let table = in_widths(alloc, item, rows, widths)?;
     let table = match header {
@@ -85,11 +85,7 @@ fn with_edges<'v>(
     })
 }
 
-fn with_symbol<'v>(
-    alloc: Global,
-    table: Table<'v>,
-    symbol: Option<Symbol<'v>>,
-) -> Mem<Table<'v>>
+fn with_symbol<'v>(alloc: Global, table: Table<'v>, symbol: Option<Symbol<'v>>) -> Mem<Table<'v>>
     ensures { IfOk result (λ marked. table_data marked ≡ record (table_data table.entry) {
       symbol = unwrap_or (option_map (λ s. raw_text s.0.now) symbol.entry) (table_data table.entry).symbol;
     }) }
@@ -144,13 +140,7 @@ fn read_frame<'v>(
 }
 
 /// The table with a spacing of its columns, and with the styles of its selected row, column and cell.
-fn marked<'v>(
-    table: Table<'v>,
-    spacing: u16,
-    row: Style,
-    column: Style,
-    cell: Style,
-) -> Table<'v>
+fn marked<'v>(table: Table<'v>, spacing: u16, row: Style, column: Style, cell: Style) -> Table<'v>
     ensures { table_data result ≡ record (table_data table.entry) {
       spacing = spacing;
       row_style = row;

@@ -14,6 +14,11 @@ pub(crate) enum Widget {
     List,
     Table,
     Tabs,
+    Scrollbar,
+    Gauge,
+    LineGauge,
+    BarChart,
+    Sparkline,
 }
 
 impl<'v> Kind<'v> for Widget {
@@ -36,6 +41,11 @@ impl<'v> Kind<'v> for Widget {
             Some("list") => Ok(Widget::List),
             Some("table") => Ok(Widget::Table),
             Some("tabs") => Ok(Widget::Tabs),
+            Some("scrollbar") => Ok(Widget::Scrollbar),
+            Some("gauge") => Ok(Widget::Gauge),
+            Some("line_gauge") => Ok(Widget::LineGauge),
+            Some("bar_chart") => Ok(Widget::BarChart),
+            Some("sparkline") => Ok(Widget::Sparkline),
             _ => Err(KindError::WrongKind),
         }
     }

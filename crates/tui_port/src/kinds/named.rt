@@ -7,10 +7,13 @@ ghost use Rattle.tui_port.specs.Kinds.Named.{Names, named_of, reads_named, value
 ghost use Rattle.tui_port.specs.Kinds.Names.{
   alignments,
   border_types,
+  directions,
   flexes,
   highlight_spacings,
   list_directions,
   merge_strategies,
+  orientations,
+  render_directions,
   title_positions,
 };
 
@@ -18,10 +21,11 @@ use crate::kinds::kind::{Kind, KindError};
 use serde_json::Value;
 use std::alloc::Global;
 use std::str::FromStr;
+use tui_bars::RenderDirection;
 use tui_cells::{MergeStrategy, ParseError};
 use tui_frames::{BorderType, TitlePosition};
-use tui_layout::{Flex, HighlightSpacing};
-use tui_lists::ListDirection;
+use tui_layout::{Direction, Flex, HighlightSpacing};
+use tui_lists::{ListDirection, ScrollbarOrientation};
 use tui_text::Alignment;
 
 /// An enum that is read by its `FromStr`, from the name of a variant.
@@ -87,4 +91,22 @@ impl Named for Flex {
     ghost names = { flexes };
 
     ghost reads = { reads_named flexes };
+}
+
+impl Named for Direction {
+    ghost names = { directions };
+
+    ghost reads = { reads_named directions };
+}
+
+impl Named for ScrollbarOrientation {
+    ghost names = { orientations };
+
+    ghost reads = { reads_named orientations };
+}
+
+impl Named for RenderDirection {
+    ghost names = { render_directions };
+
+    ghost reads = { reads_named render_directions };
 }

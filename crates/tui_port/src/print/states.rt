@@ -40,7 +40,19 @@ fn put_state<K: Sink>(gather: &mut Gather, number: usize, item: &Item<'_>, sink:
         Item::Table(_, state) => {
             let offset = state.offset();
             let column = state.selected_column();
-            put_state_line(gather, number, b"table", offset, state.selected(), column, sink);
+            put_state_line(
+                gather,
+                number,
+                b"table",
+                offset,
+                state.selected(),
+                column,
+                sink,
+            );
+        }
+        Item::Scrollbar(_, state) => {
+            let position = state.get_position();
+            put_state_line(gather, number, b"scrollbar", position, None, None, sink);
         }
         _ => {}
     }
