@@ -57,6 +57,65 @@ def blocks():
     return scene(200, 60, [block(place, border_type="Rounded", titles=["Title"]) for place in places])
 
 
+def items(count):
+    """Texts of about 50 bytes, every third as an object with a style."""
+    source = random.Random(4713)
+    texts = ["".join(source.choice("abcdefghij ") for _ in range(source.randint(40, 60))) for _ in range(count)]
+    return [{"text": text, "style": {"fg": "red"}} if i % 3 == 0 else text for i, text in enumerate(texts)]
+
+
+def rolled(width, height):
+    """A bordered list of 10,000 items, the last one selected."""
+    frame = {"borders": ALL, "titles": ["List"]}
+    return scene(width, height, [{"widget": "list", "area": [0, 0, width, height], "block": frame, "items": items(10_000), "selected": 9_999}])
+
+
+def table(width, height):
+    """A table of 5,000 rows of six cells, with a header, the last row selected."""
+    source = random.Random(4714)
+    cell = lambda: "".join(source.choice("abcdefghij") for _ in range(source.randint(10, 18)))
+    rows = [[cell() for _ in range(6)] for _ in range(5_000)]
+    head = ["one", "two", "three", "four", "five", "six"]
+    return scene(width, height, [{"widget": "table", "area": [0, 0, width, height], "header": head, "rows": rows, "selected": 4_999}])
+
+
+def gauges():
+    """250 gauges over the whole screen, each a little fuller than the one before."""
+    style = {"fg": "cyan", "bg": "black"}
+    each = [{"widget": "gauge", "area": [0, 4 * k, 1000, 4], "ratio": [k, 250], "use_unicode": True, "gauge_style": style} for k in range(250)]
+    return scene(1000, 1000, each)
+
+
+def bars():
+    source = random.Random(4715)
+    values = [source.randint(0, 999) for _ in range(60_000)]
+    return scene(200, 50, [{"widget": "bar_chart", "area": [0, 0, 200, 50], "groups": [values]}])
+
+
+def spark():
+    source = random.Random(4716)
+    values = [source.randint(0, 999) for _ in range(100_000)]
+    return scene(200, 50, [{"widget": "sparkline", "area": [0, 0, 200, 50], "data": values}])
+
+
+def dashboard(x, y):
+    """Seven widgets in 40 by 12 cells."""
+    frame = lambda title: {"borders": ALL, "titles": [title]}
+    names = [letter + ".txt" for letter in "abcdefghi"]
+    text = "The quick brown fox jumps over the lazy dog and runs back home again."
+    return [
+        {"widget": "tabs", "area": [x, y, 40, 1], "titles": ["Files", "Search", "Log"], "selected": 1},
+        {"widget": "list", "area": [x, y + 1, 14, 9], "block": frame("Files"), "items": names, "highlight_symbol": ">",
+         "highlight_style": {"add": ["reversed"]}, "scroll_padding": 1, "selected": 7},
+        {"widget": "paragraph", "area": [x + 14, y + 1, 26, 9], "block": frame("Text"), "text": text, "wrap": {"trim": True}},
+        {"widget": "scrollbar", "area": [x + 39, y + 2, 1, 7], "begin_symbol": None, "end_symbol": None, "content_length": 9,
+         "position": 2, "viewport_content_length": 7},
+        {"widget": "gauge", "area": [x, y + 10, 40, 1], "ratio": [3, 4]},
+        {"widget": "paragraph", "area": [x, y + 11, 40, 1], "text": "q quits", "alignment": "Right"},
+        {"widget": "clear", "area": [x + 20, y + 5, 12, 3]},
+    ]
+
+
 SCENES = {
     "blank": lambda: scene(1000, 1000, []),
     "fill": lambda: scene(1000, 1000, [fill("x")]),
@@ -70,6 +129,15 @@ SCENES = {
     "blanks": lambda: scene(20, 10, [paragraph(" " * 1_000_000, (0, 0, 20, 10), wrap={"trim": True})]),
     "styled": styled,
     "blocks": blocks,
+    "list1000": lambda: rolled(200, 1000),
+    "list20": lambda: rolled(40, 20),
+    "table1000": lambda: table(200, 1000),
+    "table40": lambda: table(200, 40),
+    "gauges": gauges,
+    "bars": bars,
+    "spark": spark,
+    "dashboard": lambda: scene(40, 12, dashboard(0, 0)),
+    "dashboards": lambda: scene(240, 72, [item for i in range(36) for item in dashboard(40 * (i % 6), 12 * (i // 6))]),
     "exact": lambda: scene(1000, 1000, [block((0, 0, 1000, 1000), merge_borders="Exact")]),
 }
 
