@@ -15,17 +15,20 @@ use Rattle.tui_bars.specs.Month.{DateData, weeks_of}
 use Rattle.tui_bars.specs.Monthly.{MonthlyData, heading_text}
 use Rattle.tui_bars.specs.MonthlyStrokes.{month_layers, monthly_layers, place_layers, sheet_layers, under, week_layers, weekdays_layers, weeks_layers}
 
-place_stays : (style_of : DateData → Style) (m : MonthlyData) (inner : Rect) (x y row column : ℕ) → StayIn (covers inner) (place_layers style_of m inner x y row column)
+place_stays : (style_of : DateData → Style) (m : MonthlyData) (inner : Rect) (x y row column : ℕ) →
+    StayIn (covers inner) (place_layers style_of m inner x y row column)
 unfolding place_layers
 place_stays style_of m inner x y row column = StayIn-append (set_stays inner _ _ _) (set_stays inner _ _ _)
 
-week_stays : (style_of : DateData → Style) (m : MonthlyData) (inner : Rect) (x y row column n : ℕ) → StayIn (covers inner) (week_layers style_of m inner x y row column n)
+week_stays : (style_of : DateData → Style) (m : MonthlyData) (inner : Rect) (x y row column n : ℕ) →
+    StayIn (covers inner) (week_layers style_of m inner x y row column n)
 unfolding week_layers
 week_stays style_of m inner x y row column zero = StayIn-none
 week_stays style_of m inner x y row column (suc n) =
     StayIn-append (place_stays style_of m inner x y row column) (week_stays style_of m inner x y row (column + 1) n)
 
-weeks_stay : (style_of : DateData → Style) (m : MonthlyData) (inner : Rect) (x y row n : ℕ) → StayIn (covers inner) (weeks_layers style_of m inner x y row n)
+weeks_stay : (style_of : DateData → Style) (m : MonthlyData) (inner : Rect) (x y row n : ℕ) →
+    StayIn (covers inner) (weeks_layers style_of m inner x y row n)
 unfolding weeks_layers
 weeks_stay style_of m inner x y row zero = StayIn-none
 weeks_stay style_of m inner x y row (suc n) =
