@@ -5,3 +5,7 @@ pub mod SparklineBars
 pub mod Ticks
 pub mod Walks
 pub mod CharStarts
+pub mod MonthPlaces
+pub mod Events
+pub mod MonthWords
+pub mod MonthSheet

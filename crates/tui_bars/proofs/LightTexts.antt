@@ -61,13 +61,16 @@ light_styled text style light = All-cons (λ s. All IsLight (clusters s.content)
 pub printable_light : (text : List ℕ) → list_all is_printable text ≡ true → AreLight (raw_span text ∷ [])
 printable_light text e = All-cons (λ s. All IsLight (clusters s.content)) (raw_span text) [] (clusters_light text e) (none _)
 
-both_printable : (s t : List ℕ) → list_all is_printable s ≡ true → list_all is_printable t ≡ true → list_all is_printable (s ++ t) ≡ true
+pub printable_styled : (text : List ℕ) (style : Style) → list_all is_printable text ≡ true → AreLight (styled_text text style)
+printable_styled text style e = light_styled text style (clusters_light text e)
+
+pub both_printable : (s t : List ℕ) → list_all is_printable s ≡ true → list_all is_printable t ≡ true → list_all is_printable (s ++ t) ≡ true
 both_printable s t d e = rw (list_all-append is_printable s t, d, e) refl
 
 digit_printable : (n : ℕ) → n < 10 → list_all is_printable ((48 + n) ∷ []) ≡ true
 digit_printable n lt = grind (arith, nat_tests)
 
-decimal_printable : (n : ℕ) → n < 10 ^ 64 → list_all is_printable (decimal n) ≡ true
+pub decimal_printable : (n : ℕ) → n < 10 ^ 64 → list_all is_printable (decimal n) ≡ true
 decimal_printable = decimal_by_steps_wide (λ m ds. list_all is_printable ds ≡ true) (λ m lt. digit_printable m lt)
     (λ m ds lt h. both_printable ds _ h (digit_printable (m % 10) (omega arith)))
 

@@ -1,4 +1,4 @@
--- What gauges, bar charts and sparklines are to those who place them.
+-- What gauges, bar charts, sparklines and months are to those who place them.
 use Rattle.std.specs.Prelude.{List, Option}
 use Rattle.tui_cells.specs.declared.rect.Rect.{Rect}
 use Rattle.tui_cells.specs.declared.style.Style.{Style}
@@ -18,6 +18,10 @@ use Rattle.tui_bars.specs.Framed.{framed_layers, in_block_layers}
 use Rattle.tui_bars.specs.Gauge.{GaugeData, IsLightLabel, gauge_layers}
 use Rattle.tui_bars.specs.LineGauge.{IsLightLine, LineGaugeData, line_gauge_layers}
 use Rattle.tui_bars.specs.Levels.{AreLightLevels}
+use Rattle.tui_bars.specs.Month.{DateData}
+use Rattle.tui_bars.specs.Monthly.{MonthlyData}
+use Rattle.tui_bars.specs.MonthlyStays.{monthly_stays}
+use Rattle.tui_bars.specs.MonthlyStrokes.{monthly_layers}
 use Rattle.tui_bars.specs.Sparkline.{SparklineData, sparkline_layers}
 use Rattle.tui_bars.specs.Stays.{framed_stays, gauge_stays, in_block_stays, line_gauge_stays, sparkline_stays}
 
@@ -29,6 +33,17 @@ framed_drawing block style content light stays = record {
   shows = λ clip. Painted (framed_layers block style content clip);
   light = light;
   stays = λ clip. framed_stays block style content clip (stays (inner_of block clip));
+  nowhere = nowhere_if block;
+}
+
+-- the same without a style
+abbrev pub in_block_drawing : Option BlockData → (content : Rect → List Layer) → Type 0 → ((area : Rect) → StayIn (covers area) (content area)) → Drawing
+in_block_drawing block content light stays = record {
+  layers = in_block_layers block content;
+  footprint = footprint_if block;
+  shows = λ clip. Painted (in_block_layers block content clip);
+  light = light;
+  stays = λ clip. in_block_stays block content clip (stays (inner_of block clip));
   nowhere = nowhere_if block;
 }
 
@@ -56,14 +71,11 @@ pub record IsLightSparkline (s : SparklineData) : Type 0 where
   pub absent : IsLight s.absent_symbol
 
 abbrev pub sparkline_drawing : SparklineData → Drawing
-sparkline_drawing s = record {
-  layers = in_block_layers s.block (sparkline_layers s);
-  footprint = footprint_if s.block;
-  shows = λ clip. Painted (in_block_layers s.block (sparkline_layers s) clip);
-  light = IsLightSparkline s;
-  stays = λ clip. in_block_stays s.block (sparkline_layers s) clip (sparkline_stays s _);
-  nowhere = nowhere_if s.block;
-}
+sparkline_drawing s = in_block_drawing s.block (sparkline_layers s) (IsLightSparkline s) (sparkline_stays s)
 
 abbrev pub bar_chart_drawing : BarChartData → Drawing
 bar_chart_drawing c = framed_drawing c.block c.style (bar_chart_layers c) (IsLightChart c) (bar_chart_stays c)
+
+-- a month by the styles of the dates; its own words take no memory
+abbrev pub monthly_drawing : (DateData → Style) → MonthlyData → Drawing
+monthly_drawing style_of m = in_block_drawing m.block (monthly_layers style_of m) (IsLightIfBlock m.block) (monthly_stays style_of m)

@@ -23,3 +23,5 @@ mod PartsRead
 mod Beginning
 mod TextLends
 mod LeftOut
+pub mod LogoLight
+pub mod LogoStrokes

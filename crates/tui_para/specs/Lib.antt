@@ -18,3 +18,5 @@ pub mod Rendering
 pub mod TextLines
 pub mod Stays
 pub mod Drawing
+pub mod Size
+pub mod Logo

@@ -1,4 +1,4 @@
-//! Paragraphs.
+//! Paragraphs, and the logo.
 #![tactic(auto)]
 
 mod breaking;
@@ -8,12 +8,14 @@ mod counting;
 mod cut;
 mod ends;
 mod laws;
+pub mod logo;
 mod mark;
 mod marked;
 mod painting;
 pub mod paragraph;
 mod part;
 mod prefix;
+pub mod size;
 mod text_line;
 pub mod text_lines;
 mod truncating;
@@ -28,7 +30,9 @@ pub use laws::{
     truncator_lends_what_is_known, wrapper_lends_some, wrapper_lends_what_is_known,
     wrapping_leaves_out_blanks, wraps_exactly_once,
 };
+pub use logo::RatatuiLogo;
 pub use paragraph::Paragraph;
+pub use size::Size;
 pub use text_lines::TextLines;
 pub use truncator::LineTruncator;
 pub use wrap::Wrap;

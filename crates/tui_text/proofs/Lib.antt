@@ -9,3 +9,4 @@ pub mod SetStays
 pub mod Settings
 pub mod TextRows
 pub mod Elements
+pub mod Computing

@@ -17,7 +17,7 @@ pub use alignment::Alignment;
 pub use grapheme::StyledGrapheme;
 pub use graphemes::Graphemes;
 pub use line::Line;
-pub use painting::{paint_line, paint_row, paint_rows, paint_text};
+pub use painting::{below, paint_line, paint_row, paint_rows, paint_spans, paint_text};
 pub use setting::{set_line, set_line_in, set_span, set_span_in, set_stringn, set_stringn_in};
 pub use span::Span;
 pub use text::Text;

@@ -1,12 +1,12 @@
 //! Painting of lines in rows, and of texts in areas.
 
-ghost use Rattle.std.specs.Prelude.{◌≡◌, ◌+◌, ◌-◌, ◌^◌, ◌≤◌, ◌<◌, All, IsOk, OnOk, false, map};
+ghost use Rattle.std.specs.Prelude.{◌≡◌, ◌+◌, ◌-◌, ◌^◌, ◌≤◌, ◌<◌, All, IsOk, OnOk, false, map, sum_by};
 ghost use Rattle.tui_cells.specs.Cell.{IsLight};
 ghost use Rattle.tui_cells.specs.Layers.{KeptOutside, Painted};
 ghost use Rattle.tui_cells.specs.Rect.{covers, intersection_of};
 ghost use Rattle.tui_text.specs.Grapheme.{glyph_of, glyph_width};
 ghost use Rattle.tui_text.specs.Graphemes.{glyphs_left};
-ghost use Rattle.tui_text.specs.Line.{line_data};
+ghost use Rattle.tui_text.specs.Line.{line_data, spans_line};
 ghost use Rattle.tui_text.specs.Painting.{
   alignment_in,
   before_it,
@@ -21,15 +21,17 @@ ghost use Rattle.tui_text.specs.Painting.{
   text_layers,
 };
 ghost use Rattle.tui_text.specs.Setting.{AreLight};
+ghost use Rattle.tui_text.specs.Span.{span_data};
 ghost use Rattle.tui_text.specs.Text.{text_data};
-ghost use Rattle.tui_text.specs.Width.{line_width, saturated};
+ghost use Rattle.tui_text.specs.Width.{saturated, span_width};
 
 use crate::alignment::Alignment;
 use crate::grapheme::StyledGrapheme;
 use crate::graphemes::Graphemes;
 use crate::line::Line;
+use crate::span::Span;
 use crate::text::Text;
-use crate::width::{cell_width, has_columns};
+use crate::width::{cell_width, has_columns, spans_width};
 use tui_cells::{Buffer, Mem, Position, Rect, Style};
 
 /// Puts a grapheme of a width in its columns.
@@ -136,39 +138,39 @@ fn before_it(alignment: Alignment, room: usize, width: usize) -> usize
     }
 }
 
-/// Paints a line in the first row of an area, as `paint_line` does where the area lies in its clip and in the buffer.
+/// Paints spans in the first row of an area, as `paint_row` paints a line of them in a style. No line is made for it.
 ///
-/// A line that begins at the left is read once, and another once more for its width.
+/// Spans that begin at the left are read once, and others once more for their width.
 #[tactic(auto, using(crate::proofs::TextRows::light_glyphs), unfolding(crate::specs::Painting::row_layers))]
-pub fn paint_row(buf: &mut Buffer, row: Rect, line: &Line<'_>, alignment: Alignment) -> Mem<()>
-    ensures ok { OnOk result (Painted (row_layers row alignment (line_data line.now)) buf.old buf.new) }
+pub fn paint_spans(
+    buf: &mut Buffer,
+    row: Rect,
+    spans: &[Span<'_>],
+    style: Style,
+    alignment: Alignment,
+) -> Mem<()>
+    ensures ok { OnOk result (Painted (row_layers row alignment (spans_line (map span_data spans.now) style)) buf.old buf.new) }
     ensures kept { KeptOutside (covers row) buf.old buf.new }
-    ensures light { AreLight (line_data line.now).spans → IsOk result }
+    ensures light { AreLight (map span_data spans.now) → IsOk result }
 {
-    if row.is_empty() || !has_columns(line.spans()) {
+    if row.is_empty() || !has_columns(spans) {
         return Ok(());
     }
-    let (skip, start) = beginning(line, alignment, row.width);
-    buf.set_style(Rect { height: 1, ..row }, line.line_style());
-    paint_glyphs(
-        buf,
-        row,
-        skip,
-        start,
-        Graphemes::new(line.spans(), Style::new()),
-    )
+    let (skip, start) = beginning(spans, alignment, row.width);
+    buf.set_style(Rect { height: 1, ..row }, style);
+    paint_glyphs(buf, row, skip, start, Graphemes::new(spans, Style::new()))
 }
 
-/// The columns of a line that are cut at its left, and the columns of a row before a line that fits.
-fn beginning(line: &Line<'_>, alignment: Alignment, room: u16) -> (usize, usize)
-    ensures skip { result.0 ≡ before_it alignment (saturated (line_width false (line_data line.now))) room }
-    ensures start { result.1 ≡ before_it alignment room (saturated (line_width false (line_data line.now))) }
+/// The columns of spans that are cut at their left, and the columns of a row before spans that fit.
+fn beginning(spans: &[Span<'_>], alignment: Alignment, room: u16) -> (usize, usize)
+    ensures skip { result.0 ≡ before_it alignment (saturated (sum_by (span_width false) (map span_data spans.now))) room }
+    ensures start { result.1 ≡ before_it alignment room (saturated (sum_by (span_width false) (map span_data spans.now))) }
     ensures within { result.0 + room < 2 ^ 64 }
 {
     match alignment {
         Alignment::Left => (0, 0),
         Alignment::Center | Alignment::Right => {
-            let width = line.width();
+            let width = spans_width(spans, false);
             let room = room as usize;
             (
                 before_it(alignment, width, room),
@@ -176,6 +178,16 @@ fn beginning(line: &Line<'_>, alignment: Alignment, room: u16) -> (usize, usize)
             )
         }
     }
+}
+
+/// Paints a line in the first row of an area, as `paint_line` does where the area lies in its clip and in the buffer.
+#[tactic(auto, unfolding(crate::specs::Painting::row_layers))]
+pub fn paint_row(buf: &mut Buffer, row: Rect, line: &Line<'_>, alignment: Alignment) -> Mem<()>
+    ensures ok { OnOk result (Painted (row_layers row alignment (line_data line.now)) buf.old buf.new) }
+    ensures kept { KeptOutside (covers row) buf.old buf.new }
+    ensures light { AreLight (line_data line.now).spans → IsOk result }
+{
+    paint_spans(buf, row, line.spans(), line.line_style(), alignment)
 }
 
 /// Paints a line in the first row of its area within the clip and the buffer: its style on the row, then each grapheme that
@@ -199,8 +211,8 @@ pub fn paint_line(
     paint_row(buf, area.intersection(part), line, alignment)
 }
 
-/// What is left of an area below its first row.
-fn below(area: Rect) -> Rect
+/// What is left of an area below its first row. The row itself is cut at 65535, which no area reaches.
+pub fn below(area: Rect) -> Rect
     ensures { result ≡ below area }
 {
     Rect {

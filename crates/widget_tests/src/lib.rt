@@ -6,6 +6,8 @@ mod bars;
 #[cfg(test)]
 mod blocks;
 #[cfg(test)]
+mod calendar;
+#[cfg(test)]
 mod cells;
 #[cfg(test)]
 mod frames;

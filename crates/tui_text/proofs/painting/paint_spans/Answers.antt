@@ -1,7 +1,7 @@
 use Rattle.std.proofs.Common.{rules}
 use Rattle.tui_cells.proofs.Painting.{KeptOutside-then}
 use Rattle.tui_text.proofs.RowStays.{dressed_kept}
-use Rattle.tui_text.proofs.painting.paint_row.Goals as goal
+use Rattle.tui_text.proofs.painting.paint_spans.Goals as goal
 
 pub returns-clause-kept : goal.returns-clause-kept
 returns-clause-kept c =

@@ -1,0 +1,45 @@
+-- A store with one date more.
+use Rattle.std.proofs.Common.{◌≡◌, Bool, true, false, List, [], ◌∷◌, Option, None, Some, ℤ, refl, sym, ap, ◌∙◌, rules, tests}
+use Rattle.std.specs.Prelude.{cond}
+use Rattle.std.specs.BTreeMap.{insert_entry, is_at}
+use Rattle.std.specs.Map.{lookup}
+use Rattle.std.specs.Ordering.{int_cmp, int_eq, is_eq, match_ordering}
+use Rattle.std.specs.declared.cmp.Ordering.{Ordering}
+use Rattle.std.specs.declared.cmp.Ordering.TheVariants.{Less, Equal, Greater}
+
+one_day : (x y : ℤ) → int_cmp x y ≡ Equal → x ≡ y
+one_day x y e = search (rules, tests)
+
+apart : (n x y : ℤ) → int_cmp x y ≡ Greater → int_eq n x ≡ true → int_eq n y ≡ false
+apart n x y e f = search (rules, tests)
+
+swapped : {T : Type 0} (a b : Bool) (x v rest found : T) → (a ≡ true → b ≡ false) → found ≡ cond a v rest →
+    cond b x found ≡ cond a v (cond b x rest)
+swapped true true x v rest found f e = absurd (search (rules, tests))
+swapped true false x v rest found f e = e
+swapped false true x v rest found f e = refl
+swapped false false x v rest found f e = e
+
+replaced : {T : Type 0} (a : Bool) (v x rest : T) → cond a v rest ≡ cond a v (cond a x rest)
+replaced true v x rest = refl
+replaced false v x rest = refl
+
+-- what a query by a number finds
+abbrev found_at : {K X : Type 0} → (K → ℤ) → ℤ → List (K × X) → Option X
+found_at number n es = lookup (is_at (λ key. int_cmp n (number key))) es
+
+placed : {K X : Type 0} (number : K → ℤ) (n : ℤ) (e : K × X) (es with_it : List (K × X)) (k : K) (v : X) (o : Ordering) → int_cmp (number k) (number e.0) ≡ o →
+    found_at number n with_it ≡ cond (int_eq n (number k)) (Some v) (found_at number n es) →
+    found_at number n (match_ordering o ((k, v) ∷ e ∷ es) ((e.0, v) ∷ es) (e ∷ with_it)) ≡ cond (int_eq n (number k)) (Some v) (found_at number n (e ∷ es))
+placed number n e es with_it k v Less f h = refl
+placed number n e es with_it k v Equal f h =
+    let same = one_day (number k) (number e.0) f in
+    rw same (replaced (int_eq n (number e.0)) (Some v) (Some e.1) (found_at number n es))
+placed number n e es with_it k v Greater f h =
+    swapped (int_eq n (number k)) (int_eq n (number e.0)) (Some e.1) (Some v) (found_at number n es) (found_at number n with_it) (apart n (number k) (number e.0) f) h
+
+-- of entries that are ordered by numbers, with one more
+pub inserted : {K X : Type 0} (number : K → ℤ) (n : ℤ) (es : List (K × X)) (k : K) (v : X) →
+    found_at number n (insert_entry (λ a b. int_cmp (number a) (number b)) es k v) ≡ cond (int_eq n (number k)) (Some v) (found_at number n es)
+inserted number n [] k v = refl
+inserted number n (e ∷ es) k v = placed number n e es _ k v (int_cmp (number k) (number e.0)) refl (inserted number n es k v)
