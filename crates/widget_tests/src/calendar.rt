@@ -56,8 +56,14 @@ fn weeks_begin_on_sunday(rt: HostRuntime) -> Result<(), Fail> {
         "     April 2023      \n Su Mo Tu We Th Fr Sa\n                    1\n  2  3  4  5  6  7  8\n  9 10 11 12 13 14 15\n 16 17 18 19 20 21 22\n 23 24 25 26 27 28 29\n 30                  \n"
     );
     // The headers come first where rows are few, and a day is cut where its columns end.
-    assert_eq!(rt; drawn(alloc, &april, 8, 2)?.as_str(), "pril 202\n Su Mo T\n");
-    assert_eq!(rt; drawn(alloc, &month(2015, 2, 28), 5, 3)?.as_str(), "  1  \n  8  \n 15 1\n");
+    assert_eq!(rt;
+        drawn(alloc, &april, 8, 2)?.as_str(),
+        "pril 202\n Su Mo T\n"
+    );
+    assert_eq!(rt;
+        drawn(alloc, &month(2015, 2, 28), 5, 3)?.as_str(),
+        "  1  \n  8  \n 15 1\n"
+    );
     assert_eq!(rt; drawn(alloc, &month(2015, 2, 28), 0, 3)?.as_str(), "\n\n\n");
     Ok(())
 }
@@ -92,7 +98,10 @@ fn days_around_are_shown_where_they_exist(rt: HostRuntime) -> Result<(), Fail> {
         drawn(alloc, &first, 21, 2)?.as_str(),
         "    January -9999    \n     1  2  3  4  5  6\n"
     );
-    assert_eq!(rt; drawn(alloc, &month(-9999, 1, 1), 21, 1)?.as_str(), "     1  2  3  4  5  6\n");
+    assert_eq!(rt;
+        drawn(alloc, &month(-9999, 1, 1), 21, 1)?.as_str(),
+        "     1  2  3  4  5  6\n"
+    );
     Ok(())
 }
 
