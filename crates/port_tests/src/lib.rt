@@ -1,7 +1,9 @@
-//! The tests of tui_port that need calls, apart from the crate, so that it is proved but once. Whole runs stand in scene_rows.
+//! The tests of tui_scene and tui_port that need calls, apart from the crates, so that each is proved but once. Whole runs stand in scene_rows.
 #![tactic(auto)]
 
 #[cfg(test)]
 mod outside;
+#[cfg(test)]
+mod scene;
 #[cfg(test)]
 mod texts;

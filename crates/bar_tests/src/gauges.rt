@@ -1,6 +1,5 @@
 //! Gauges and line gauges by their calls.
 
-use crate::shown::shown;
 use std::alloc::Global;
 use std::test::Fail;
 use tui_bars::{Gauge, GaugeError, LineGauge};
@@ -8,6 +7,7 @@ use tui_cells::{Buffer, Color, Mem, Position, Rect, Style, Styled, Widget, line}
 use tui_frames::Block;
 use tui_layout::Fraction;
 use tui_text::{Line, Span};
+use widget_tests::shown;
 
 fn blank(alloc: Global, width: u16, height: u16) -> Mem<Buffer> {
     Buffer::empty(alloc, Rect::new(0, 0, width, height))

@@ -1,6 +1,5 @@
 //! Lists by their calls: worked rows, hard cases, and their states.
 
-use crate::shown::shown;
 use std::alloc::Global;
 use std::str::FromStr;
 use std::test::Fail;
@@ -11,6 +10,7 @@ use tui_frames::Block;
 use tui_layout::HighlightSpacing;
 use tui_lists::{List, ListDirection, ListItem, ListState};
 use tui_text::{Line, Text};
+use widget_tests::shown;
 
 const MOST: usize = usize::MAX;
 

@@ -1,11 +1,11 @@
 //! Scrollbars by their calls: worked rows, and their states.
 
-use crate::shown::shown;
 use std::alloc::Global;
 use std::str::FromStr;
 use std::test::Fail;
 use tui_cells::{Buffer, Color, Mem, ParseError, Position, Rect, StatefulWidget, Style, scrollbar};
 use tui_lists::{ScrollDirection, Scrollbar, ScrollbarOrientation, ScrollbarState};
+use widget_tests::shown;
 
 const MOST: usize = usize::MAX;
 

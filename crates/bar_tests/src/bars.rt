@@ -1,6 +1,5 @@
 //! Bar charts and sparklines by their calls.
 
-use crate::shown::shown;
 use std::alloc::Global;
 use std::str::FromStr;
 use std::test::Fail;
@@ -9,6 +8,7 @@ use tui_cells::{Buffer, Color, Mem, ParseError, Position, Rect, Style, Widget, b
 use tui_frames::Block;
 use tui_layout::Direction;
 use tui_text::{Alignment, Line};
+use widget_tests::shown;
 
 fn blank(alloc: Global, width: u16, height: u16) -> Mem<Buffer> {
     Buffer::empty(alloc, Rect::new(0, 0, width, height))

@@ -3,7 +3,6 @@
 ghost use Rattle.std.specs.Prelude.{◌≡◌};
 ghost use Rattle.tui_bars.specs.Month.{date_data};
 
-use crate::shown::shown;
 use jiff::civil::Date;
 use std::alloc::Global;
 use std::str::FromStr;
@@ -12,6 +11,7 @@ use tui_bars::{CalendarEventStore, DateStyler, Monthly};
 use tui_cells::{Buffer, Color, Mem, ParseError, Position, Rect, Style, Widget};
 use tui_frames::{Block, Padding};
 use tui_para::{RatatuiLogo, Size};
+use widget_tests::shown;
 
 /// One style for all dates.
 #[derive(Clone, Copy, Debug, PartialEq, Eq, Hash)]

@@ -1,6 +1,5 @@
 //! Tables by their calls; what they draw in a scene stands in scene_rows.
 
-use crate::shown::shown;
 use std::alloc::Global;
 use std::test::Fail;
 use tui_cells::{
@@ -10,6 +9,7 @@ use tui_frames::Block;
 use tui_layout::{Constraint, Flex, HighlightSpacing};
 use tui_table::{Cell, Row, Table, TableState, WidthsError};
 use tui_text::Text;
+use widget_tests::shown;
 
 fn row_of<'a>(alloc: Global, texts: &[&'a str]) -> Mem<Row<'a>> {
     let mut cells = Vec::with_capacity(alloc, texts.len())?;

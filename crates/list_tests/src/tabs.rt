@@ -1,12 +1,12 @@
 //! Tabs by their calls: worked rows, their width, and which title is selected.
 
-use crate::shown::shown;
 use std::alloc::Global;
 use std::test::Fail;
 use tui_cells::{Buffer, Color, Mem, Modifier, Position, Rect, Style, Styled, Widget};
 use tui_frames::Block;
 use tui_lists::Tabs;
 use tui_text::{Line, Span};
+use widget_tests::shown;
 
 fn lines(alloc: Global, texts: &[&'static str]) -> Mem<Vec<Line<'static>>> {
     let mut lines = Vec::new(alloc);
