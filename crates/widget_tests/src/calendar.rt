@@ -1,8 +1,5 @@
 //! Months and the logo by their calls.
 
-ghost use Rattle.std.specs.Prelude.{◌≡◌};
-ghost use Rattle.tui_bars.specs.Month.{date_data};
-
 use crate::shown::shown;
 use jiff::civil::Date;
 use std::alloc::Global;
@@ -34,8 +31,9 @@ fn drawn<W: Widget>(alloc: Global, widget: &W, width: u16, height: u16) -> Mem<S
     shown(alloc, &buffer)
 }
 
+/// A date; 1 January of the year 0 where the calendar has none.
 fn date(year: i16, month: i8, day: i8) -> Date {
-    Date::new(year, month, day).unwrap()
+    Date::new(year, month, day).unwrap_or(Date::ZERO)
 }
 
 fn month<'a>(year: i16, month: i8, day: i8) -> Monthly<'a, Everywhere> {
@@ -56,8 +54,14 @@ fn weeks_begin_on_sunday(rt: HostRuntime) -> Result<(), Fail> {
         "     April 2023      \n Su Mo Tu We Th Fr Sa\n                    1\n  2  3  4  5  6  7  8\n  9 10 11 12 13 14 15\n 16 17 18 19 20 21 22\n 23 24 25 26 27 28 29\n 30                  \n"
     );
     // The headers come first where rows are few, and a day is cut where its columns end.
-    assert_eq!(rt; drawn(alloc, &april, 8, 2)?.as_str(), "pril 202\n Su Mo T\n");
-    assert_eq!(rt; drawn(alloc, &month(2015, 2, 28), 5, 3)?.as_str(), "  1  \n  8  \n 15 1\n");
+    assert_eq!(rt;
+        drawn(alloc, &april, 8, 2)?.as_str(),
+        "pril 202\n Su Mo T\n"
+    );
+    assert_eq!(rt;
+        drawn(alloc, &month(2015, 2, 28), 5, 3)?.as_str(),
+        "  1  \n  8  \n 15 1\n"
+    );
     assert_eq!(rt; drawn(alloc, &month(2015, 2, 28), 0, 3)?.as_str(), "\n\n\n");
     Ok(())
 }
@@ -92,7 +96,10 @@ fn days_around_are_shown_where_they_exist(rt: HostRuntime) -> Result<(), Fail> {
         drawn(alloc, &first, 21, 2)?.as_str(),
         "    January -9999    \n     1  2  3  4  5  6\n"
     );
-    assert_eq!(rt; drawn(alloc, &month(-9999, 1, 1), 21, 1)?.as_str(), "     1  2  3  4  5  6\n");
+    assert_eq!(rt;
+        drawn(alloc, &month(-9999, 1, 1), 21, 1)?.as_str(),
+        "     1  2  3  4  5  6\n"
+    );
     Ok(())
 }
 
