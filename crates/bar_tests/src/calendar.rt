@@ -1,8 +1,5 @@
 //! Months and the logo by their calls.
 
-ghost use Rattle.std.specs.Prelude.{◌≡◌};
-ghost use Rattle.tui_bars.specs.Month.{date_data};
-
 use jiff::civil::Date;
 use std::alloc::Global;
 use std::str::FromStr;
@@ -34,8 +31,9 @@ fn drawn<W: Widget>(alloc: Global, widget: &W, width: u16, height: u16) -> Mem<S
     shown(alloc, &buffer)
 }
 
+/// A date; 1 January of the year 0 where the calendar has none.
 fn date(year: i16, month: i8, day: i8) -> Date {
-    Date::new(year, month, day).unwrap()
+    Date::new(year, month, day).unwrap_or(Date::ZERO)
 }
 
 fn month<'a>(year: i16, month: i8, day: i8) -> Monthly<'a, Everywhere> {
