@@ -15,8 +15,8 @@ mod layout;
 mod lines;
 #[cfg(test)]
 mod paragraph;
-mod shown;
+mod symbols;
 #[cfg(test)]
 mod text;
 
-pub use shown::shown;
+pub use symbols::shown;
