@@ -4,7 +4,7 @@ ghost use Rattle.std.specs.Prelude.{⊤};
 ghost use Rattle.tui_cells.specs.Layers.{KeptOutside};
 ghost use Rattle.tui_frames.specs.Shadow.{in_shadow};
 
-use crate::shown::shown;
+use crate::shown;
 use std::alloc::Global;
 use std::str::FromStr;
 use std::test::Fail;

@@ -1,6 +1,6 @@
 //! Values worked by hand, and each call once with ample memory.
 
-use crate::shown::shown;
+use crate::shown;
 use bitflags::Flags;
 use std::alloc::Global;
 use std::test::Fail;

@@ -1,6 +1,6 @@
 //! Fill and Clear by their calls; what they draw in a scene stands in scene_rows.
 
-use crate::shown::shown;
+use crate::shown;
 use std::alloc::Global;
 use std::test::Fail;
 use tui_cells::{Buffer, Color, Mem, Modifier, Rect, Style, Styled, Widget};

@@ -15,8 +15,8 @@ mod layout;
 mod lines;
 #[cfg(test)]
 mod paragraph;
-mod shown;
+mod rows;
 #[cfg(test)]
 mod text;
 
-pub use shown::shown;
+pub use rows::shown;
