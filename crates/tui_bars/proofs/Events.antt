@@ -1,11 +1,16 @@
 -- A store with one date more.
-use Rattle.std.proofs.Common.{◌≡◌, Bool, true, false, List, [], ◌∷◌, Option, None, Some, ℤ, refl, sym, ap, ◌∙◌, rules, tests}
+use Rattle.std.proofs.Common.{◌≡◌, Bool, true, false, List, [], ◌∷◌, map, Option, None, Some, ℤ, refl, sym, ap, ◌∙◌, rules, tests}
 use Rattle.std.specs.Prelude.{cond}
-use Rattle.std.specs.BTreeMap.{insert_entry, is_at}
+use Rattle.std.specs.BTreeMap.{BTreeMap, get_by, insert_entry, is_at}
 use Rattle.std.specs.Map.{lookup}
 use Rattle.std.specs.Ordering.{int_cmp, int_eq, is_eq, match_ordering}
 use Rattle.std.specs.declared.cmp.Ordering.{Ordering}
 use Rattle.std.specs.declared.cmp.Ordering.TheVariants.{Less, Equal, Greater}
+use Rattle.jiff_core.specs.Date.{epoch_day}
+use Rattle.jiff_core.specs.declared.civil.date.Date.{Date}
+use Rattle.tui_bars.specs.CalendarEventStore.{day_number, style_among}
+use Rattle.tui_bars.specs.Month.{DateData, date_data}
+use Rattle.tui_cells.specs.declared.style.Style.{Style}
 
 one_day : (x y : ℤ) → int_cmp x y ≡ Equal → x ≡ y
 one_day x y e = search (rules, tests)
@@ -43,3 +48,33 @@ pub inserted : {K X : Type 0} (number : K → ℤ) (n : ℤ) (es : List (K × X)
     found_at number n (insert_entry (λ a b. int_cmp (number a) (number b)) es k v) ≡ cond (int_eq n (number k)) (Some v) (found_at number n es)
 inserted number n [] k v = refl
 inserted number n (e ∷ es) k v = placed number n e es _ k v (int_cmp (number k) (number e.0)) refl (inserted number n es k v)
+
+-- entries whose keys are seen as others
+abbrev pub seen_as : {K L X : Type 0} → (K → L) → List (K × X) → List (L × X)
+seen_as f = map (λ e. (f e.0, e.1))
+
+placed_as : {K L X : Type 0} (f : K → L) (o : Ordering) (k : K) (v : X) (e : K × X) (es with_it : List (K × X)) (seen : List (L × X)) → seen_as f with_it ≡ seen →
+    seen_as f (match_ordering o ((k, v) ∷ e ∷ es) ((e.0, v) ∷ es) (e ∷ with_it))
+    ≡ match_ordering o ((f k, v) ∷ (f e.0, e.1) ∷ seen_as f es) ((f e.0, v) ∷ seen_as f es) ((f e.0, e.1) ∷ seen)
+placed_as f Less k v e es with_it seen h = refl
+placed_as f Equal k v e es with_it seen h = refl
+placed_as f Greater k v e es with_it seen h = ap (λ l. (f e.0, e.1) ∷ l) h
+
+-- one entry more, by an order of what the keys are seen as
+pub inserted_as : {K L X : Type 0} (f : K → L) (order : L → L → Ordering) (es : List (K × X)) (k : K) (v : X) →
+    seen_as f (insert_entry (λ a b. order (f a) (f b)) es k v) ≡ insert_entry order (seen_as f es) (f k) v
+inserted_as f order [] k v = refl
+inserted_as f order (e ∷ es) k v = placed_as f (order (f k) (f e.0)) k v e es _ _ (inserted_as f order es k v)
+
+found_as : {K L X : Type 0} (f : K → L) (b : Bool) (e : K × X) (rest : Option X) (seen : Option X) → rest ≡ seen → cond b (Some e.1) rest ≡ cond b (Some e.1) seen
+found_as f true e rest seen h = refl
+found_as f false e rest seen h = h
+
+looked_up_as : {K L X : Type 0} (f : K → L) (test : L → Bool) (es : List (K × X)) → lookup (λ k. test (f k)) es ≡ lookup test (seen_as f es)
+looked_up_as f test [] = refl
+looked_up_as f test (e ∷ es) = found_as f (test (f e.0)) e _ _ (looked_up_as f test es)
+
+-- the entry of a date
+pub among : (styles : BTreeMap Date Style) (d : DateData) →
+    get_by (λ key. int_cmp (day_number d) (epoch_day key)) styles ≡ style_among (map (λ e. (date_data e.0, e.1)) styles.entries) d
+among styles d = looked_up_as date_data (is_at (λ key. int_cmp (day_number d) (day_number key))) styles.entries

@@ -1,8 +1,8 @@
 //! Dates with a style each.
 
-ghost use Rattle.std.specs.Prelude.{◌≡◌, IfOk, None, OnErr, OnOk, true};
-ghost use Rattle.tui_bars.specs.CalendarEventStore.{HasAdded, HasOne, event_style, kept_style};
-ghost use Rattle.tui_bars.specs.Month.{DateData};
+ghost use Rattle.std.specs.Prelude.{◌≡◌, [], IfOk, None, OnErr, OnOk, true};
+ghost use Rattle.tui_bars.specs.CalendarEventStore.{HasAdded, HasOne, dated_styles, event_style, kept_style, with_date};
+ghost use Rattle.tui_bars.specs.Month.{DateData, date_data};
 
 use crate::date_styler::DateStyler;
 use jiff::civil::Date;
@@ -19,7 +19,8 @@ pub struct CalendarEventStore {
 impl CalendarEventStore {
     /// A store without dates.
     pub fn new(alloc: Global) -> CalendarEventStore
-        ensures { (d : DateData) → kept_style result d ≡ None }
+        ensures none { (d : DateData) → kept_style result d ≡ None }
+        ensures dates { dated_styles result ≡ [] }
     {
         CalendarEventStore {
             styles: BTreeMap::new(alloc),
@@ -29,6 +30,7 @@ impl CalendarEventStore {
     /// Gives a date a style, in place of the one that it may have had. At `NoMemory` the store is as before.
     pub fn add(&mut self, date: Date, style: Style) -> Mem<()>
         ensures ok { OnOk result (HasAdded self.old self.new date style) }
+        ensures dates { OnOk result (dated_styles self.new ≡ with_date (dated_styles self.old) (date_data date) style) }
         ensures err { OnErr result (self.new.styles.entries ≡ self.old.styles.entries) }
     {
         self.styles.insert(date, style)?;

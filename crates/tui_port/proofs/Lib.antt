@@ -1,4 +1,5 @@
 pub mod Arrays
+pub mod Dates
 pub mod Dressing
 pub mod Equality
 pub mod Gathering
@@ -7,5 +8,6 @@ pub mod Outside
 pub mod RowLemmas
 pub mod RunLemmas
 pub mod StateLines
+pub mod Stored
 pub mod TableWidths
 pub mod Unique

@@ -4,6 +4,8 @@ pub mod ChartFields
 pub mod Fill
 pub mod GaugeFields
 pub mod ListFields
+pub mod Logo
+pub mod MonthlyFields
 pub mod ScrollbarFields
 pub mod TableFields
 pub mod TabsFields
@@ -11,7 +13,7 @@ pub mod Paragraph
 pub mod Names
 use Rattle.std.specs.Prelude.{ℕ, ◌+◌, List, [], ◌∷◌, Option, Some, None, Result, Ok, Err}
 use Rattle.serde_json.specs.Data.{Data, Items, no_items, item}
-use Rattle.tui_scene.specs.Item.{ItemData, PlacedData, bar_chart, block, clear, fill, gauge, line_gauge, list, paragraph, scrollbar, sparkline, still, table, tabs}
+use Rattle.tui_scene.specs.Item.{ItemData, PlacedData, bar_chart, block, clear, fill, gauge, line_gauge, list, logo, monthly, paragraph, scrollbar, sparkline, still, table, tabs}
 use Rattle.tui_port.specs.declared.field.Field.TheVariants as fields
 use Rattle.tui_port.specs.declared.items.widget.Widget.{Widget}
 use Rattle.tui_port.specs.declared.items.widget.Widget.TheVariants as widgets
@@ -20,6 +22,8 @@ use Rattle.tui_port.specs.Items.ChartFields.{shown_chart, shown_sparkline}
 use Rattle.tui_port.specs.Items.Fill.{fill_of}
 use Rattle.tui_port.specs.Items.GaugeFields.{shown_gauge, shown_line_gauge}
 use Rattle.tui_port.specs.Items.ListFields.{shown_list}
+use Rattle.tui_port.specs.Items.Logo.{logo_of}
+use Rattle.tui_port.specs.Items.MonthlyFields.{shown_monthly}
 use Rattle.tui_port.specs.Items.Paragraph.{paragraph_of}
 use Rattle.tui_port.specs.Items.Names.{widget_of}
 use Rattle.tui_port.specs.Items.ScrollbarFields.{shown_scrollbar}
@@ -64,6 +68,12 @@ shown_of widgets.BarChart i d = do
 shown_of widgets.Sparkline i d = do
   x ← shown_sparkline i d
   Ok (still (sparkline x))
+shown_of widgets.Monthly i d = do
+  x ← shown_monthly i d
+  Ok (still (monthly x.0 x.1))
+shown_of widgets.Logo i d = do
+  size ← logo_of i d
+  Ok (still (logo size))
 
 -- the item of number i
 unfoldable pub item_of : ℕ → Data → Result PlacedData Refusal

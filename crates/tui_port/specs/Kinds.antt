@@ -10,6 +10,8 @@ pub mod Padding
 pub mod Title
 pub mod Color
 pub mod Constraint
+pub mod Date
+pub mod Event
 pub mod Fraction
 pub mod Line
 pub mod ListItem

@@ -6,6 +6,8 @@ mod fill;
 mod gauge;
 mod line_gauge;
 mod list;
+mod logo;
+mod monthly;
 mod paragraph;
 mod scrollbar;
 mod sparkline;
@@ -26,6 +28,8 @@ use crate::items::fill::read_fill;
 use crate::items::gauge::read_gauge;
 use crate::items::line_gauge::read_line_gauge;
 use crate::items::list::read_list;
+use crate::items::logo::read_logo;
+use crate::items::monthly::read_monthly;
 use crate::items::paragraph::read_paragraph;
 use crate::items::scrollbar::read_scrollbar;
 use crate::items::sparkline::read_sparkline;
@@ -68,6 +72,8 @@ fn read_shown<'v>(
         Widget::LineGauge => Item::LineGauge(read_line_gauge(alloc, item, value)?),
         Widget::BarChart => Item::BarChart(read_bar_chart(alloc, item, value)?),
         Widget::Sparkline => Item::Sparkline(read_sparkline(alloc, item, value)?),
+        Widget::Monthly => Item::Monthly(read_monthly(alloc, item, value)?),
+        Widget::Logo => Item::Logo(read_logo(alloc, item, value)?),
     })
 }
 

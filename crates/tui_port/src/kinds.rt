@@ -7,6 +7,8 @@ mod block;
 mod borders;
 mod color;
 mod constraint;
+mod date;
+mod event;
 mod fraction;
 mod kind;
 mod line;
@@ -26,6 +28,7 @@ mod title;
 mod wrap;
 
 pub(crate) use array::elements;
+pub(crate) use event::Event;
 pub(crate) use kind::{Kind, KindError};
 pub(crate) use member::{given_member, member, optional_member};
 pub(crate) use symbol::Symbol;

@@ -7,9 +7,11 @@ use Rattle.tui_cells.specs.Buffer.{Screen}
 use Rattle.tui_cells.specs.Drawing.{Drawing, Moving}
 use Rattle.tui_cells.specs.Layers.{Layer, StayIn}
 use Rattle.tui_bars.specs.BarChart.{BarChartData, bar_chart_data}
-use Rattle.tui_bars.specs.Drawing.{bar_chart_drawing, gauge_drawing, line_gauge_drawing, sparkline_drawing}
+use Rattle.tui_bars.specs.CalendarEventStore.{DatedStyles, dated_styles, style_or_none}
+use Rattle.tui_bars.specs.Drawing.{bar_chart_drawing, gauge_drawing, line_gauge_drawing, monthly_drawing, sparkline_drawing}
 use Rattle.tui_bars.specs.Gauge.{GaugeData, gauge_data}
 use Rattle.tui_bars.specs.LineGauge.{LineGaugeData, line_gauge_data}
+use Rattle.tui_bars.specs.Monthly.{MonthlyData, monthly_data}
 use Rattle.tui_bars.specs.Sparkline.{SparklineData, sparkline_data}
 use Rattle.tui_frames.specs.Block.{BlockData, block_data}
 use Rattle.tui_frames.specs.Clear.{clear_drawing}
@@ -24,7 +26,9 @@ use Rattle.tui_lists.specs.TabsDrawing.{tabs_drawing}
 use Rattle.tui_lists.specs.declared.list.state.ListState.{ListState}
 use Rattle.tui_lists.specs.declared.scrollbar.state.ScrollbarState.{ScrollbarState}
 use Rattle.tui_para.specs.Drawing.{paragraph_drawing}
+use Rattle.tui_para.specs.Logo.{logo_drawing}
 use Rattle.tui_para.specs.Paragraph.{ParagraphData, paragraph_data}
+use Rattle.tui_para.specs.declared.size.Size.{Size}
 use Rattle.tui_table.specs.Drawing.{table_moving}
 use Rattle.tui_table.specs.Table.{TableData, table_data}
 use Rattle.tui_table.specs.declared.state.TableState.{TableState}
@@ -43,6 +47,9 @@ pub data StillData : Type 0 where
   line_gauge : LineGaugeData → StillData
   bar_chart : BarChartData → StillData
   sparkline : SparklineData → StillData
+  -- a month, with the dates that have a style of their own
+  monthly : DatedStyles → MonthlyData → StillData
+  logo : Size → StillData
 
 -- a widget, with its state where it has one
 pub data ItemData : Type 0 where
@@ -64,6 +71,8 @@ item_data (items.Gauge g) = still (gauge (gauge_data g))
 item_data (items.LineGauge g) = still (line_gauge (line_gauge_data g))
 item_data (items.BarChart c) = still (bar_chart (bar_chart_data c))
 item_data (items.Sparkline s) = still (sparkline (sparkline_data s))
+item_data (items.Monthly m) = still (monthly (dated_styles m.events) (monthly_data m))
+item_data (items.Logo l) = still (logo l.size)
 
 -- a list with this state
 abbrev pub with_list_state : ListState → ItemData → ItemData
@@ -90,6 +99,8 @@ still_drawing (gauge g) = gauge_drawing g
 still_drawing (line_gauge g) = line_gauge_drawing g
 still_drawing (bar_chart c) = bar_chart_drawing c
 still_drawing (sparkline s) = sparkline_drawing s
+still_drawing (monthly dates m) = monthly_drawing (style_or_none dates) m
+still_drawing (logo size) = logo_drawing size
 
 -- what a widget is to a scene, over the clip that it is given
 pub record ItemDrawing : Type 1 where

@@ -5,11 +5,11 @@ ghost use Rattle.tui_cells.specs.Layers.{KeptOutside, Painted};
 ghost use Rattle.tui_cells.specs.Rect.{intersection_of, is_empty};
 
 use std::alloc::Global;
-use tui_bars::{BarChart, Gauge, LineGauge, Sparkline};
+use tui_bars::{BarChart, CalendarEventStore, Gauge, LineGauge, Monthly, Sparkline};
 use tui_cells::{Buffer, Mem, Rect, StatefulWidget, Widget};
 use tui_frames::{Block, Clear, Fill};
 use tui_lists::{List, ListState, Scrollbar, ScrollbarState, Tabs};
-use tui_para::Paragraph;
+use tui_para::{Paragraph, RatatuiLogo};
 use tui_table::{Table, TableState};
 
 /// A widget of any kind, with its state where it has one.
@@ -27,6 +27,8 @@ pub enum Item<'a> {
     LineGauge(LineGauge<'a>),
     BarChart(BarChart<'a>),
     Sparkline(Sparkline<'a>),
+    Monthly(Monthly<'a, CalendarEventStore>),
+    Logo(RatatuiLogo),
 }
 
 impl<'a> Item<'a> {
@@ -72,6 +74,8 @@ impl<'a> Item<'a> {
             Item::LineGauge(gauge) => gauge.render(alloc, area, buf),
             Item::BarChart(chart) => chart.render(alloc, area, buf),
             Item::Sparkline(sparkline) => sparkline.render(alloc, area, buf),
+            Item::Monthly(month) => month.render(alloc, area, buf),
+            Item::Logo(logo) => logo.render(alloc, area, buf),
         }
     }
 

@@ -27,6 +27,9 @@ use Rattle.tui_lists.specs.declared.direction.ListDirection.{ListDirection}
 use Rattle.tui_lists.specs.declared.direction.ListDirection.TheVariants.{TopToBottom, BottomToTop}
 use Rattle.tui_lists.specs.declared.scrollbar.orientation.ScrollbarOrientation.{ScrollbarOrientation}
 use Rattle.tui_lists.specs.declared.scrollbar.orientation.ScrollbarOrientation.TheVariants.{VerticalRight, VerticalLeft, HorizontalBottom, HorizontalTop}
+use Rattle.tui_para.specs.Size as size
+use Rattle.tui_para.specs.declared.size.Size.{Size}
+use Rattle.tui_para.specs.declared.size.Size.TheVariants.{Tiny, Small}
 use Rattle.tui_text.specs.Alignment as alignment
 use Rattle.tui_text.specs.declared.alignment.Alignment.{Alignment}
 use Rattle.tui_text.specs.declared.alignment.Alignment.TheVariants.{Left, Center, Right}
@@ -123,4 +126,11 @@ render_directions = record {
   name = render_direction.name_of;
   values = LeftToRight ∷ RightToLeft ∷ [];
   found = elim [ LeftToRight ↦ refl | RightToLeft ↦ refl ];
+}
+
+abbrev pub sizes : Names Size
+sizes = record {
+  name = size.name_of;
+  values = Tiny ∷ Small ∷ [];
+  found = elim [ Tiny ↦ refl | Small ↦ refl ];
 }

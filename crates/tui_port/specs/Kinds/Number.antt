@@ -29,10 +29,20 @@ four_in make (item a (item b (item c (item d no_items)))) = do
   Some (make first second third fourth)
 four_in make _ = None
 
-abbrev pub in_i32 : ℤ → Option ℤ
-in_i32 (pos n) = if nat_lt n (2 ^ 31) then Some (pos n) else None
-in_i32 (negsuc n) = if nat_lt n (2 ^ 31) then Some (negsuc n) else None
+-- a number from -limit up to limit - 1
+abbrev pub in_signed : ℕ → ℤ → Option ℤ
+in_signed limit (pos n) = if nat_lt n limit then Some (pos n) else None
+in_signed limit (negsuc n) = if nat_lt n limit then Some (negsuc n) else None
 
--- a whole number from -2^31 up to 2^31 - 1
+abbrev pub signed_of : ℕ → Data → Option ℤ
+signed_of limit d = option_and_then (in_signed limit) (option_and_then as_i64 (as_number d))
+
+-- whole numbers of 8, 16 and 32 bits, one of them for the sign
+unfoldable pub i8_of : Data → Option ℤ
+i8_of = signed_of 128
+
+unfoldable pub i16_of : Data → Option ℤ
+i16_of = signed_of (2 ^ 15)
+
 unfoldable pub i32_of : Data → Option ℤ
-i32_of d = option_and_then in_i32 (option_and_then as_i64 (as_number d))
+i32_of = signed_of (2 ^ 31)

@@ -4,7 +4,7 @@ use crate::kinds::{Kind, KindError};
 use serde_json::Value;
 use std::alloc::Global;
 
-/// The widgets that are built.
+/// The widgets.
 #[derive(Clone, Copy, Debug, PartialEq, Eq)]
 pub(crate) enum Widget {
     Clear,
@@ -19,6 +19,8 @@ pub(crate) enum Widget {
     LineGauge,
     BarChart,
     Sparkline,
+    Monthly,
+    Logo,
 }
 
 impl<'v> Kind<'v> for Widget {
@@ -46,6 +48,8 @@ impl<'v> Kind<'v> for Widget {
             Some("line_gauge") => Ok(Widget::LineGauge),
             Some("bar_chart") => Ok(Widget::BarChart),
             Some("sparkline") => Ok(Widget::Sparkline),
+            Some("monthly") => Ok(Widget::Monthly),
+            Some("logo") => Ok(Widget::Logo),
             _ => Err(KindError::WrongKind),
         }
     }

@@ -14,6 +14,7 @@ ghost use Rattle.tui_port.specs.Kinds.Names.{
   merge_strategies,
   orientations,
   render_directions,
+  sizes,
   title_positions,
 };
 
@@ -26,6 +27,7 @@ use tui_cells::{MergeStrategy, ParseError};
 use tui_frames::{BorderType, TitlePosition};
 use tui_layout::{Direction, Flex, HighlightSpacing};
 use tui_lists::{ListDirection, ScrollbarOrientation};
+use tui_para::Size;
 use tui_text::Alignment;
 
 /// An enum that is read by its `FromStr`, from the name of a variant.
@@ -109,4 +111,10 @@ impl Named for RenderDirection {
     ghost names = { render_directions };
 
     ghost reads = { reads_named render_directions };
+}
+
+impl Named for Size {
+    ghost names = { sizes };
+
+    ghost reads = { reads_named sizes };
 }

@@ -57,6 +57,44 @@ impl<'v> Kind<'v> for u32 {
     }
 }
 
+impl<'v> Kind<'v> for i8 {
+    ghost use Rattle.std.specs.Prelude.{ℤ};
+    ghost use Rattle.tui_port.specs.Kinds.Number.{i8_of};
+
+    ghost Seen = { ℤ };
+
+    ghost seen = { λ n. n };
+
+    ghost kind = { i8_of };
+
+    #[tactic(auto, unfolding(crate::specs::Kinds::Number::i8_of))]
+    fn read(_alloc: Global, value: &'v Value) -> Result<i8, KindError> {
+        match value.as_i64() {
+            Some(number) => i8::try_from(number).map_err(|_| KindError::WrongKind),
+            None => Err(KindError::WrongKind),
+        }
+    }
+}
+
+impl<'v> Kind<'v> for i16 {
+    ghost use Rattle.std.specs.Prelude.{ℤ};
+    ghost use Rattle.tui_port.specs.Kinds.Number.{i16_of};
+
+    ghost Seen = { ℤ };
+
+    ghost seen = { λ n. n };
+
+    ghost kind = { i16_of };
+
+    #[tactic(auto, unfolding(crate::specs::Kinds::Number::i16_of))]
+    fn read(_alloc: Global, value: &'v Value) -> Result<i16, KindError> {
+        match value.as_i64() {
+            Some(number) => i16::try_from(number).map_err(|_| KindError::WrongKind),
+            None => Err(KindError::WrongKind),
+        }
+    }
+}
+
 impl<'v> Kind<'v> for i32 {
     ghost use Rattle.std.specs.Prelude.{ℤ};
     ghost use Rattle.tui_port.specs.Kinds.Number.{i32_of};
