@@ -1,9 +1,9 @@
 -- A store with one date more.
-use Rattle.std.proofs.Common.{◌≡◌, Bool, true, false, List, [], ◌∷◌, map, Option, None, Some, ℤ, refl, sym, ap, ◌∙◌, rules, tests}
+use Rattle.std.proofs.Common.{◌≡◌, Bool, true, false, List, [], ◌∷◌, map, Option, Some, ℤ, refl, ap, rules, tests}
 use Rattle.std.specs.Prelude.{cond}
 use Rattle.std.specs.BTreeMap.{BTreeMap, get_by, insert_entry, is_at}
 use Rattle.std.specs.Map.{lookup}
-use Rattle.std.specs.Ordering.{int_cmp, int_eq, is_eq, match_ordering}
+use Rattle.std.specs.Ordering.{int_cmp, int_eq, match_ordering}
 use Rattle.std.specs.declared.cmp.Ordering.{Ordering}
 use Rattle.std.specs.declared.cmp.Ordering.TheVariants.{Less, Equal, Greater}
 use Rattle.jiff_core.specs.Date.{epoch_day}

@@ -1,5 +1,5 @@
 -- The strokes of a month stay inside its block.
-use Rattle.std.specs.Prelude.{ℕ, zero, suc, ◌+◌, min, Option, None, Some, codes, [], ◌∷◌}
+use Rattle.std.specs.Prelude.{ℕ, zero, suc, ◌+◌, min, Option, None, Some, [], ◌∷◌}
 use Rattle.tui_cells.specs.declared.rect.Rect.{Rect}
 use Rattle.tui_cells.specs.declared.style.Style.{Style}
 use Rattle.tui_cells.specs.Layers.{StayIn}

@@ -1,5 +1,5 @@
 -- Dates of the calendar.
-use Rattle.std.proofs.Common.{◌≡◌, Bool, true, false, ◌&&◌, List, [], ◌∷◌, length, ℤ, pos, negsuc, ◌≤ℤ◌, Option, None, Some, option_map, Result, Ok, Err, refl, sym, ap, ◌∙◌, arith, tests, rules}
+use Rattle.std.proofs.Common.{◌≡◌, Bool, true, false, ◌&&◌, List, [], ◌∷◌, length, ℤ, pos, negsuc, ◌≤ℤ◌, None, Some, option_map, Result, Ok, Err, refl, ap, arith}
 use Rattle.std.specs.Prelude.{int_le, unsigned_abs, IsOk, IfOk, ◌↔◌, if◌then◌else◌}
 use Rattle.std.specs.Bool.{Decides}
 use Rattle.std.specs.Result.{result_ok}

@@ -1,5 +1,5 @@
 -- The dates of a store, by the events that were added and those that are still to be.
-use Rattle.std.proofs.Common.{◌≡◌, ℕ, ◌+◌, ◌<◌, ◌≤◌, List, [], ◌∷◌, map, length, get_or, drop, refl, sym, ap, ◌∙◌, add-one}
+use Rattle.std.proofs.Common.{◌≡◌, ℕ, ◌+◌, ◌<◌, ◌≤◌, List, [], ◌∷◌, map, length, get_or, drop, refl, ap, ◌∙◌, add-one}
 use Rattle.std.proofs.lemmas.List.{drop_all}
 use Rattle.std.proofs.Math.Seq.{drop-cons}
 use Rattle.tui_bars.specs.CalendarEventStore.{DatedStyles, with_date}
@@ -26,4 +26,4 @@ one_more dates now events i e lt at added stored = record {
 
 pub all_stored : (dates : DatedStyles) (events : List Event) (i : ℕ) → length events ≤ i → AreStored dates events i →
     dates ≡ with_events [] (map event_data events)
-all_stored dates events i le stored = rw (drop_all events i le) at stored.rest
+all_stored dates events i le stored = rw (drop_all i events le) at stored.rest

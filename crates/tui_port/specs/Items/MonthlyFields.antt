@@ -1,5 +1,5 @@
 -- The fields of `monthly`.
-use Rattle.std.specs.Prelude.{ℕ, List, [], Option, Result, Ok, unwrap_or}
+use Rattle.std.specs.Prelude.{ℕ, [], Option, Result, Ok, unwrap_or}
 use Rattle.std.specs.Option.{option_or}
 use Rattle.serde_json.specs.Data.{Data}
 use Rattle.tui_bars.specs.CalendarEventStore.{DatedStyles, dated_styles}

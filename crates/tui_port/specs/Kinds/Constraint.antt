@@ -1,5 +1,5 @@
 -- Widths of columns: a number, or an object with one of some members.
-use Rattle.std.specs.Prelude.{ℕ, List, [], ◌∷◌, Option, Some, None, option_map, codes}
+use Rattle.std.specs.Prelude.{ℕ, List, Option, Some, None, option_map, codes}
 use Rattle.serde_json.specs.Data.{Data}
 use Rattle.serde_json.specs.Find.{get}
 use Rattle.tui_layout.specs.declared.constraint.Constraint.{Constraint}

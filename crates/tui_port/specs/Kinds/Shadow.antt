@@ -1,8 +1,8 @@
 -- Shadows: an object with `effect` and perhaps `symbol`, `style` and `offset`.
-use Rattle.std.specs.Prelude.{ℕ, ℤ, pos, List, [], ◌∷◌, if◌then◌else◌, Option, Some, None, unwrap_or, codes}
+use Rattle.std.specs.Prelude.{ℕ, pos, List, [], ◌∷◌, if◌then◌else◌, Option, Some, unwrap_or, codes}
 use Rattle.std.specs.Str.{bytes_eq}
 use Rattle.serde_json.specs.Data.{Data}
-use Rattle.serde_json.specs.Find.{as_object, as_str}
+use Rattle.serde_json.specs.Find.{as_str}
 use Rattle.tui_cells.specs.Style.{no_style}
 use Rattle.tui_cells.specs.Symbols.{utf8}
 use Rattle.tui_frames.specs.Shadow.{KindData, ShadowData, dimmed, overlay, symbol}

@@ -1,5 +1,3 @@
-use Rattle.jiff_core.specs.Date.{epoch_day}
-use Rattle.std.proofs.Common.{◌∙◌}
 use Rattle.std.specs.Ordering.{int_cmp}
 use Rattle.tui_bars.proofs.Events.{inserted, inserted_as}
 use Rattle.tui_bars.specs.CalendarEventStore.{day_number, dated_styles}
