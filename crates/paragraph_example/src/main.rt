@@ -1,9 +1,10 @@
 //! Wraps a text to 16 columns, centred, and prints the rows.
 #![tactic(auto)]
 
-use tui_cells::{Buffer, Rect, Widget};
-use tui_para::{Paragraph, Wrap};
-use tui_text::Text;
+use tui::buffer::Buffer;
+use tui::layout::Rect;
+use tui::text::Text;
+use tui::widgets::{Paragraph, Widget, Wrap};
 
 fn main(rt: HostRuntime) -> anyhow::Result<()> {
     let alloc = rt.alloc();

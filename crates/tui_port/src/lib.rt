@@ -23,7 +23,7 @@ pub use field::Field;
 pub use laws::print_laws;
 pub use memory_sink::MemSink;
 pub use memory_source::MemSource;
-pub use print::write_screen;
+pub use print::{write_rows, write_screen};
 pub use put::{put_all, put_if};
 pub use read::{CHUNK, LIMIT, ReadEnd, read_all};
 pub use reading::{Reading, scene_of};

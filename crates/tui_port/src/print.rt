@@ -1,8 +1,8 @@
 //! The print of a screen: the rows, the styles and the states.
 
-ghost use Rattle.std.specs.Prelude.{List, ℕ, true};
+ghost use Rattle.std.specs.Prelude.{List, ◌++◌, ℕ, flat_map, true};
 ghost use Rattle.tui_port.specs.Causes.{Puts, Writes};
-ghost use Rattle.tui_port.specs.Print.{IsPrint};
+ghost use Rattle.tui_port.specs.Print.{IsPrint, row_line};
 
 mod rows;
 mod runs;
@@ -42,5 +42,28 @@ fn put_screen<K: Sink>(buf: &Buffer, scene: &Scene<'_>, sink: &mut K) -> bool
     rows::put_rows(&mut gather, buf, sink);
     runs::put_runs(&mut gather, buf, sink);
     states::put_states(&mut gather, scene, sink);
+    gather.end(sink)
+}
+
+/// Writes some text, and then the rows of a buffer, a line `r` and the symbols for each. `WriteFault`: the sink has taken the
+/// first bytes, but not all of them. Takes no memory.
+pub fn write_rows<K: Sink>(before: &str, buf: &Buffer, sink: &mut K) -> Result<(), WriteFault>
+    ensures { Writes (K.held sink.old) (K.held sink.new) (K.faults sink.old) (K.faults sink.new) result
+        (before.now ++ flat_map row_line buf.now.rows) }
+{
+    if put_text_and_rows(before, buf, sink) {
+        Ok(())
+    } else {
+        Err(WriteFault)
+    }
+}
+
+fn put_text_and_rows<K: Sink>(before: &str, buf: &Buffer, sink: &mut K) -> bool
+    ensures { Puts (K.held sink.old) (K.held sink.new) (K.faults sink.old) (K.faults sink.new) true result
+        (before.now ++ flat_map row_line buf.now.rows) }
+{
+    let mut gather = Gather::new();
+    gather.extend(sink, before.as_bytes());
+    rows::put_rows(&mut gather, buf, sink);
     gather.end(sink)
 }

@@ -1,5 +1,5 @@
--- A run without faults over a scene.
-use Rattle.std.proofs.Common.{◌≡◌, ◌≢◌, ℕ, ◌≤◌, List, length, Option, Some, None, String, Global, refl, sym, ap, subst, ◌∙◌, arith, inl, inr}
+-- A run without faults.
+use Rattle.std.proofs.Common.{◌≡◌, ◌≢◌, ℕ, ◌≤◌, List, length, Option, Some, None, String, Global, refl, sym, ap, subst, ◌∙◌, arith, ⊎_elim, inl, inr}
 use Rattle.std.specs.Prelude.{IsUtf8, ◌⊎◌}
 use Rattle.std.proofs.lemmas.List.{append-nil, length-append}
 use Rattle.std.specs.Io.KnownBytes.{Consumes, IsAtEnd}
@@ -7,8 +7,10 @@ use Rattle.serde_json.specs.Data.{Data}
 use Rattle.tui_port.specs.Causes.{Rose}
 use Rattle.tui_shell.specs.declared.ended.Ended.{Ended}
 use Rattle.tui_shell.specs.declared.ended.Ended.TheVariants as ended
-use Rattle.tui_shell.specs.Endings.{AreScene, Call, Ends, ReadJson, ReadWhole}
-use Rattle.tui_shell.specs.Complete.{AreJson, CallFor, IsComplete}
+use Rattle.tui_shell.specs.Commands.{AreScene, AreWrong}
+use Rattle.tui_shell.specs.Complete.{AreJson, CallFor, IsComplete, IsCompleteDemo}
+use Rattle.tui_shell.specs.Endings.{Call, Ends, ReadJson, ReadWhole}
+use Rattle.tui_shell.proofs.Word.{not_both}
 
 is_all : (bytes xs : List ℕ) (left : Option (List ℕ)) → Consumes (Some bytes) left xs → IsAtEnd left → xs ≡ bytes
 is_all bytes xs None c e = absurd c
@@ -30,13 +32,14 @@ json_of call bytes xs d e json =
 called : (words : List (String Global)) (call : Call) (e : Ended) → Ends words call e →
     AreScene words → (Rose call.reads call.reads_then → ⊥) → (Rose call.writes call.writes_then → ⊥) → e ≢ ended.NoMemory
     → (bytes : List ℕ) → call.left ≡ Some bytes → CallFor bytes e
-called words call ended.Ok h are reads writes some bytes left =
-    let w = h.1.1 in
-    (w.1, json_of call bytes w.0 w.1 left w.2, (w.3.0, w.3.1))
+called words call ended.Ok h are reads writes some bytes left = ⊎_elim
+    (λ scene. (let w = scene.1 in (w.1, json_of call bytes w.0 w.1 left w.2, (w.3.0, w.3.1))))
+    (λ demo. absurd (not_both words demo.0 are demo.1))
+    h.1
 called words call ended.NoMemory h are reads writes some bytes left = absurd (some refl)
 called words call ended.ReadFault h are reads writes some bytes left = absurd (reads h.3)
 called words call ended.WriteFault h are reads writes some bytes left = absurd (writes h.3.cause)
-called words call ended.Usage h are reads writes some bytes left = absurd (h.1.0 are)
+called words call ended.Usage h are reads writes some bytes left = absurd (h.1.0.0 are)
 called words call ended.TooLong h are reads writes some bytes left =
     let gave = h.1.1.gave in
     omega (arith, no_longer bytes gave.bytes call.left_then (rw left at gave.taken), gave.enough)
@@ -57,13 +60,24 @@ complete words call e h are reads writes some bytes left due =
     let call_for = called words call e h are reads writes some bytes left in
     (λ same. subst (CallFor bytes) same call_for, λ other. one_call bytes e due call_for other)
 
+-- a demonstration without a fault of the sink that had its memory ends Ok
+pub complete_demo : (words : List (String Global)) (call : Call) (e : Ended) → Ends words call e → IsCompleteDemo words call e
+complete_demo words call ended.Ok h n are writes some = refl
+complete_demo words call ended.NoMemory h n are writes some = absurd (some refl)
+complete_demo words call ended.WriteFault h n are writes some = absurd (writes h.3.cause)
+complete_demo words call ended.Usage h n are writes some = absurd (h.1.0.1 n are)
+complete_demo words call ended.ReadFault h n are writes some = absurd (not_both words n h.0 are)
+complete_demo words call ended.TooLong h n are writes some = absurd (not_both words n h.1.0 are)
+complete_demo words call ended.NotJson h n are writes some = absurd (not_both words n h.1.0 are)
+complete_demo words call (ended.BadField i f) h n are writes some = absurd (not_both words n h.1.0 are)
+
 -- where the words are wrong, no other ending is possible
-pub only_usage : (words : List (String Global)) (call : Call) (e : Ended) → Ends words call e → (AreScene words → ⊥) → (e ≡ ended.Usage) ⊎ (e ≡ ended.WriteFault)
+pub only_usage : (words : List (String Global)) (call : Call) (e : Ended) → Ends words call e → AreWrong words → (e ≡ ended.Usage) ⊎ (e ≡ ended.WriteFault)
 only_usage words call ended.Usage h wrong = inl refl
 only_usage words call ended.WriteFault h wrong = inr refl
-only_usage words call ended.Ok h wrong = absurd (wrong h.1.0)
-only_usage words call ended.NoMemory h wrong = absurd (wrong h.0)
-only_usage words call ended.ReadFault h wrong = absurd (wrong h.0)
-only_usage words call ended.TooLong h wrong = absurd (wrong h.1.0)
-only_usage words call ended.NotJson h wrong = absurd (wrong h.1.0)
-only_usage words call (ended.BadField i f) h wrong = absurd (wrong h.1.0)
+only_usage words call ended.Ok h wrong = ⊎_elim (λ scene. absurd (wrong.0 scene.0)) (λ demo. absurd (wrong.1 demo.0 demo.1)) h.1
+only_usage words call ended.NoMemory h wrong = ⊎_elim (λ scene. absurd (wrong.0 scene.0)) (λ demo. absurd (wrong.1 demo.0 demo.1)) h
+only_usage words call ended.ReadFault h wrong = absurd (wrong.0 h.0)
+only_usage words call ended.TooLong h wrong = absurd (wrong.0 h.1.0)
+only_usage words call ended.NotJson h wrong = absurd (wrong.0 h.1.0)
+only_usage words call (ended.BadField i f) h wrong = absurd (wrong.0 h.1.0)

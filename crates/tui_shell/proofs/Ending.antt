@@ -1,11 +1,12 @@
 -- An ending with what was written for it.
-use Rattle.std.proofs.Common.{◌≡◌, ℕ, List, Option, Result, Ok, Err, Bool, true, false, cond, String, Global, arith}
+use Rattle.std.proofs.Common.{◌≡◌, ℕ, List, Option, Result, Ok, Err, Bool, true, false, cond, String, Global, inl, inr, arith}
 use Rattle.serde_json.specs.Data.{Data}
 use Rattle.std.specs.Result.{is_ok}
 use Rattle.tui_port.specs.Causes.{Puts, Writes}
 use Rattle.tui_shell.specs.declared.ended.Ended.{Ended}
 use Rattle.tui_shell.specs.declared.ended.Ended.TheVariants as ended
-use Rattle.tui_shell.specs.Endings.{AreScene, Call, Ends, EndsWith, IsDue, IsDueFor, ReadJson, ReadWhole, ReadWithin}
+use Rattle.tui_shell.specs.Commands.{AreDemo, AreScene}
+use Rattle.tui_shell.specs.Endings.{Call, Ends, EndsWith, IsDue, IsDueDemo, IsDueFor, ReadJson, ReadWhole, ReadWithin, Unread}
 
 -- whether an ending is one that writes something whole
 abbrev pub is_told : Ended → Bool
@@ -64,7 +65,7 @@ ends_line words call all e text told due puts =
 
 due_of : (words : List (String Global)) (call : Call) (bytes : List ℕ) (d : Data) → AreScene words → ReadJson call bytes d →
     (text : List ℕ) (e : Ended) → IsDueFor d text e → IsDue words call text e
-due_of words call bytes d are json text ended.Ok due = (are, (bytes, d, json, due))
+due_of words call bytes d are json text ended.Ok due = inl (are, (bytes, d, json, due))
 due_of words call bytes d are json text (ended.BadField i f) due = (are, (bytes, d, json, due))
 due_of words call bytes d are json text ended.Usage due = absurd due
 due_of words call bytes d are json text ended.TooLong due = absurd due
@@ -80,7 +81,7 @@ gave_whole call bytes whole = record { bytes = bytes; taken = whole.taken; enoug
 -- what a value that was read ends with is how the run ends
 pub ends_for : (words : List (String Global)) (call : Call) (bytes : List ℕ) (d : Data) (e : Ended) → AreScene words → ReadJson call bytes d →
     EndsWith (IsDueFor d) call.held call.held_then call.writes call.writes_then e → Ends words call e
-ends_for words call bytes d ended.NoMemory are json h = (are, gave_whole call bytes json.whole, record { held = h.0; quiet = h.1 }, json.whole.quiet)
+ends_for words call bytes d ended.NoMemory are json h = inl (are, gave_whole call bytes json.whole, record { held = h.0; quiet = h.1 }, json.whole.quiet)
 ends_for words call bytes d ended.ReadFault are json h = absurd h.1
 ends_for words call bytes d ended.Ok are json h = ends_weaker _ (IsDue words call) (due_of words call bytes d are json) _ _ _ _ ended.Ok h
 ends_for words call bytes d ended.Usage are json h = absurd h.1
@@ -88,6 +89,31 @@ ends_for words call bytes d ended.TooLong are json h = absurd h.1
 ends_for words call bytes d ended.NotJson are json h = absurd h.1
 ends_for words call bytes d ended.WriteFault are json h = ends_weaker _ (IsDue words call) (due_of words call bytes d are json) _ _ _ _ ended.WriteFault h
 ends_for words call bytes d (ended.BadField i f) are json h = ends_weaker _ (IsDue words call) (due_of words call bytes d are json) _ _ _ _ (ended.BadField i f) h
+
+due_of_demo : (words : List (String Global)) (call : Call) (n : ℕ) → AreDemo n words → Unread call →
+    (text : List ℕ) (e : Ended) → IsDueDemo n text e → IsDue words call text e
+due_of_demo words call n are unread text ended.Ok due = inr (n, are, unread, due)
+due_of_demo words call n are unread text (ended.BadField i f) due = absurd due
+due_of_demo words call n are unread text ended.Usage due = absurd due
+due_of_demo words call n are unread text ended.TooLong due = absurd due
+due_of_demo words call n are unread text ended.NotJson due = absurd due
+due_of_demo words call n are unread text ended.ReadFault due = absurd due
+due_of_demo words call n are unread text ended.WriteFault due = absurd due
+due_of_demo words call n are unread text ended.NoMemory due = absurd due
+
+-- what a demonstration ends with is how the run ends
+pub ends_for_demo : (words : List (String Global)) (call : Call) (n : ℕ) (e : Ended) → AreDemo n words → Unread call →
+    EndsWith (IsDueDemo n) call.held call.held_then call.writes call.writes_then e → Ends words call e
+ends_for_demo words call n ended.NoMemory are unread h = inr (n, are, unread, record { held = h.0; quiet = h.1 })
+ends_for_demo words call n ended.Ok are unread h =
+    ends_weaker _ (IsDue words call) (due_of_demo words call n are unread) _ _ _ _ ended.Ok h
+ends_for_demo words call n ended.WriteFault are unread h =
+    ends_weaker _ (IsDue words call) (due_of_demo words call n are unread) _ _ _ _ ended.WriteFault h
+ends_for_demo words call n ended.ReadFault are unread h = absurd h.1
+ends_for_demo words call n ended.Usage are unread h = absurd h.1
+ends_for_demo words call n ended.TooLong are unread h = absurd h.1
+ends_for_demo words call n ended.NotJson are unread h = absurd h.1
+ends_for_demo words call n (ended.BadField i f) are unread h = absurd h.1
 
 -- a whole output, or a fault of the sink
 pub puts_of : {T E : Type 0} (held after : Option (List ℕ)) (before now : ℕ) (result : Result T E) (bytes : List ℕ) →

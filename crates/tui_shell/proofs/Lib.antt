@@ -2,3 +2,4 @@ pub mod Ending
 pub mod Completeness
 pub mod Word
 pub mod Drawn
+pub mod Showing

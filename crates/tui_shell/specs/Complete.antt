@@ -5,7 +5,8 @@ use Rattle.serde_json.specs.Data.{Data}
 use Rattle.serde_json.specs.Read.{read}
 use Rattle.tui_port.specs.Causes.{Rose}
 use Rattle.tui_port.specs.Scene.{SceneData, scene_of}
-use Rattle.tui_shell.specs.Endings.{AreScene, Call}
+use Rattle.tui_shell.specs.Commands.{AreDemo, AreScene}
+use Rattle.tui_shell.specs.Endings.{Call}
 use Rattle.tui_shell.specs.declared.ended.Ended.{Ended}
 use Rattle.tui_shell.specs.declared.ended.Ended.TheVariants as ended
 
@@ -29,3 +30,7 @@ abbrev pub IsComplete : List (String Global) → Call → Ended → Type 0
 IsComplete words call e =
     AreScene words → (Rose call.reads call.reads_then → ⊥) → (Rose call.writes call.writes_then → ⊥) → e ≢ ended.NoMemory
     → (bytes : List ℕ) → call.left ≡ Some bytes → (due : Ended) → (e ≡ due) ↔ CallFor bytes due
+
+-- with the words `demo` and a number it ends Ok, whatever its source is
+abbrev pub IsCompleteDemo : List (String Global) → Call → Ended → Type 0
+IsCompleteDemo words call e = (n : ℕ) → AreDemo n words → (Rose call.writes call.writes_then → ⊥) → e ≢ ended.NoMemory → e ≡ ended.Ok

@@ -1,25 +1,20 @@
 -- How a run ends, and why.
-use Rattle.std.specs.Prelude.{◌≡◌, ℕ, ◌≤◌, List, [], ◌∷◌, length, map, Option, Some, None, Ok, Err, true, false, codes, IsUtf8, String, string_bytes}
+use Rattle.std.specs.Prelude.{◌≡◌, ℕ, ◌≤◌, ◌⊎◌, List, length, Option, Some, None, Ok, Err, true, false, codes, IsUtf8, String}
 use Rattle.std.specs.declared.alloc.Global.{Global}
 use Rattle.std.specs.Io.KnownBytes.{Consumes, IsAtEnd, Keeps}
 use Rattle.serde_json.specs.Data.{Data}
 use Rattle.serde_json.specs.Read.{read}
-use Rattle.tui_cells.specs.Buffer.{IsFilled, IsScreen, Screen}
-use Rattle.tui_cells.specs.Cell.{blank}
-use Rattle.tui_cells.specs.Layers.{Painted}
-use Rattle.tui_cells.specs.Rect.{area_of}
-use Rattle.tui_scene.specs.Item.{PlacedData, placed_after}
-use Rattle.tui_scene.specs.Scene.{Run, scene_layers}
+use Rattle.tui_cells.specs.Buffer.{Screen}
+use Rattle.tui_scene.specs.Item.{PlacedData}
 use Rattle.tui_port.specs.Causes.{Gave, Puts, Rose}
 use Rattle.tui_port.specs.Print.{IsPrint}
 use Rattle.tui_port.specs.Scene.{SceneData, scene_of}
+use Rattle.tui_shell.specs.Commands.{AreDemo, AreScene, AreWrong}
+use Rattle.tui_shell.specs.Demo.{IsDemo}
+use Rattle.tui_shell.specs.Drawn.{IsDrawn}
 use Rattle.tui_shell.specs.Refusal.{field_line}
 use Rattle.tui_shell.specs.declared.ended.Ended.{Ended}
 use Rattle.tui_shell.specs.declared.ended.Ended.TheVariants as ended
-
--- the words `scene` alone
-abbrev pub AreScene : List (String Global) → Type 0
-AreScene words = map string_bytes words ≡ codes "scene" ∷ []
 
 -- a run's source and sink: the bytes left and held, where they are told, and the counts of faults, before and after
 pub record Call : Type 0 where
@@ -76,17 +71,6 @@ pub record Unwritten (call : Call) : Type 0 where
   pub held : Keeps call.held call.held_then
   pub quiet : call.writes_then ≡ call.writes
 
--- A run over the widgets leads from the blank buffer of a size and the old states to this screen and the new states. Besides,
--- each cell is the blank one under the strokes of the widgets in turn, and each state is the one that its widget leaves, so
--- there is no other such screen and there are no other such states.
-pub record IsDrawn (width height : ℕ) (old new : List PlacedData) (last : Screen) : Type 0 where
-  pub first : Screen
-  pub blank_first : IsFilled (area_of 0 0 width height) blank first
-  pub run : Run old new first last
-  pub strokes : Painted (scene_layers first.area old) first last
-  pub states : new ≡ map (placed_after first.area) old
-  pub shape : IsScreen last
-
 -- what is to be written for a scene, and how the run then ends
 abbrev pub IsDueOf : SceneData → List ℕ → Ended → Type 0
 IsDueOf s text ended.Ok = (new : List PlacedData) × (last : Screen) × IsDrawn s.width s.height s.items new last × IsPrint last new text
@@ -98,12 +82,19 @@ IsDueFor d text ended.Ok = (s : SceneData) × (scene_of d ≡ Ok s) × IsDueOf s
 IsDueFor d text (ended.BadField i f) = (scene_of d ≡ Err (record { item = i; field = f })) × (text ≡ field_line i f)
 IsDueFor d text e = ⊥
 
+-- the same for a number of items
+abbrev pub IsDueDemo : ℕ → List ℕ → Ended → Type 0
+IsDueDemo n text ended.Ok = IsDemo n text
+IsDueDemo n text e = ⊥
+
 -- the same for the words and what was read
 abbrev pub IsDue : List (String Global) → Call → List ℕ → Ended → Type 0
-IsDue words call text ended.Usage = (AreScene words → ⊥) × Unread call × (text ≡ codes "refused: usage\n")
+IsDue words call text ended.Usage = AreWrong words × Unread call × (text ≡ codes "refused: usage\n")
 IsDue words call text ended.TooLong = AreScene words × ReadPast call × (text ≡ codes "refused: too long\n")
 IsDue words call text ended.NotJson = AreScene words × ((bytes : List ℕ) × ReadWhole call bytes × (IsUtf8 bytes → read bytes ≡ None)) × (text ≡ codes "refused: not JSON\n")
-IsDue words call text ended.Ok = AreScene words × ((bytes : List ℕ) × (d : Data) × ReadJson call bytes d × IsDueFor d text ended.Ok)
+IsDue words call text ended.Ok =
+    (AreScene words × ((bytes : List ℕ) × (d : Data) × ReadJson call bytes d × IsDueFor d text ended.Ok))
+    ⊎ ((n : ℕ) × AreDemo n words × Unread call × IsDueDemo n text ended.Ok)
 IsDue words call text (ended.BadField i f) = AreScene words × ((bytes : List ℕ) × (d : Data) × ReadJson call bytes d × IsDueFor d text (ended.BadField i f))
 IsDue words call text e = ⊥
 
@@ -116,5 +107,6 @@ EndsWith due held held_then writes writes_then e = (text : List ℕ) × due text
 -- a run ends so
 abbrev pub Ends : List (String Global) → Call → Ended → Type 0
 Ends words call ended.ReadFault = AreScene words × ReadWithin call × Unwritten call × Rose call.reads call.reads_then
-Ends words call ended.NoMemory = AreScene words × ReadWithin call × Unwritten call × (call.reads_then ≡ call.reads)
+Ends words call ended.NoMemory = (AreScene words × ReadWithin call × Unwritten call × (call.reads_then ≡ call.reads))
+    ⊎ ((n : ℕ) × AreDemo n words × Unread call × Unwritten call)
 Ends words call e = EndsWith (IsDue words call) call.held call.held_then call.writes call.writes_then e

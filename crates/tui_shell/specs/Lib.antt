@@ -1,4 +1,7 @@
 pub mod Refusal
+pub mod Commands
+pub mod Drawn
+pub mod Demo
 pub mod Endings
 pub mod Complete
 pub mod Status

@@ -1,28 +1,33 @@
 //! The whole of a run, from the bytes read to the bytes written.
 
-ghost use Rattle.std.specs.Prelude.{◌≡◌, ◌↔◌, ◌⊎◌, IfOk, IsTrue};
+ghost use Rattle.std.specs.Prelude.{◌≡◌, ◌⊎◌};
 ghost use Rattle.serde_json.specs.View.{view};
 ghost use Rattle.tui_port.specs.Scene.{reading_data};
-ghost use Rattle.tui_shell.specs.Endings.{AreScene, Ends, EndsWith, IsDrawn, IsDueFor, IsDueOf, call_of};
-ghost use Rattle.tui_shell.specs.Complete.{IsComplete};
+ghost use Rattle.tui_shell.specs.Commands.{AreScene, AreWrong};
+ghost use Rattle.tui_shell.specs.Complete.{IsComplete, IsCompleteDemo};
+ghost use Rattle.tui_shell.specs.Endings.{Ends, EndsWith, IsDueFor, IsDueOf, call_of};
 
+use crate::demo::show_demo;
+use crate::drawing::drawn;
 use crate::ended::Ended;
 use crate::json::{JsonError, json_of};
 use crate::refusal::put_field;
+use crate::words::{demo_number, is_scene};
 use serde_json::Value;
 use std::alloc::Global;
-use tui_cells::{Buffer, Mem, NoMemory, Rect};
+use tui_cells::NoMemory;
 use tui_port::{
     ReadEnd, Reading, SceneError, Sink, Source, put_if, read_all, scene_of, write_screen,
 };
-use tui_scene::{DrawError, Scene, draw};
 
 /// Runs the command that the words name: `scene` alone reads a scene in JSON (docs/SCENE.md) from the source, draws it and
-/// writes the screen to the sink.
+/// writes the screen to the sink; `demo` and a number from 1 to 100000, in one to six digits, reads nothing, draws a list of so
+/// many items beside so many words, and writes a line on them and the rows of the screen.
 ///
-/// It ends Ok only where the source was read to its end within 1,048,576 bytes, these bytes are JSON that the schema accepts,
-/// no read and no put failed, and the sink holds what it held and then the print of the buffer that a run over the scene's
-/// widgets reaches from a blank buffer. Every other ending has its cause; see `Ended`.
+/// With `scene` it ends Ok only where the source was read to its end within 1,048,576 bytes, these bytes are JSON that the
+/// schema accepts, no read and no put failed, and the sink holds what it held and then the print of the buffer that a run over
+/// the scene's widgets reaches from a blank buffer. With `demo` it ends Ok only where no put failed and the sink holds what it
+/// held and then that line and these rows. Every other ending has its cause; see `Ended`.
 #[tactic(auto, using(crate::proofs::Completeness::complete, crate::proofs::Completeness::only_usage))]
 pub fn show<S: Source, K: Sink>(
     alloc: Global,
@@ -34,7 +39,9 @@ pub fn show<S: Source, K: Sink>(
         (K.held sink.old) (K.held sink.new) (K.faults sink.old) (K.faults sink.new)) result }
     ensures complete { IsComplete words.now (call_of (S.left source.old) (S.left source.new) (S.faults source.old) (S.faults source.new)
         (K.held sink.old) (K.held sink.new) (K.faults sink.old) (K.faults sink.new)) result }
-    ensures usage { (AreScene words.now → ⊥) → (result ≡ Ended.Usage) ⊎ (result ≡ Ended.WriteFault) }
+    ensures demo { IsCompleteDemo words.now (call_of (S.left source.old) (S.left source.new) (S.faults source.old) (S.faults source.new)
+        (K.held sink.old) (K.held sink.new) (K.faults sink.old) (K.faults sink.new)) result }
+    ensures usage { AreWrong words.now → (result ≡ Ended.Usage) ⊎ (result ≡ Ended.WriteFault) }
 {
     run(alloc, words, source, sink)
 }
@@ -43,9 +50,25 @@ fn run<S: Source, K: Sink>(alloc: Global, words: &[String], source: &mut S, sink
     ensures { Ends words.now (call_of (S.left source.old) (S.left source.new) (S.faults source.old) (S.faults source.new)
         (K.held sink.old) (K.held sink.new) (K.faults sink.old) (K.faults sink.new)) result }
 {
-    if !is_scene(words) {
-        return Ended::Usage.if_put(put_if(true, sink, b"refused: usage\n"));
+    if is_scene(words) {
+        return run_scene(alloc, words, source, sink);
     }
+    match demo_number(words) {
+        Some(n) => show_demo(alloc, n, sink),
+        None => Ended::Usage.if_put(put_if(true, sink, b"refused: usage\n")),
+    }
+}
+
+fn run_scene<S: Source, K: Sink>(
+    alloc: Global,
+    words: &[String],
+    source: &mut S,
+    sink: &mut K,
+) -> Ended
+    requires { AreScene words.now }
+    ensures { Ends words.now (call_of (S.left source.old) (S.left source.new) (S.faults source.old) (S.faults source.new)
+        (K.held sink.old) (K.held sink.new) (K.faults sink.old) (K.faults sink.new)) result }
+{
     let bytes = match read_all(alloc, source) {
         Ok(bytes) => bytes,
         Err(ReadEnd::ReadFault) => return Ended::ReadFault,
@@ -63,12 +86,6 @@ fn run<S: Source, K: Sink>(alloc: Global, words: &[String], source: &mut S, sink
         )),
         Err(JsonError::NoMemory) => Ended::NoMemory,
     }
-}
-
-fn is_scene(words: &[String]) -> bool
-    ensures { IsTrue result ↔ AreScene words.now }
-{
-    words.len() == 1 && words[0].as_str() == "scene"
 }
 
 fn show_value<K: Sink>(alloc: Global, value: &Value, sink: &mut K) -> Ended
@@ -89,20 +106,5 @@ fn show_scene<K: Sink>(alloc: Global, reading: &mut Reading<'_>, sink: &mut K) -
     match drawn(alloc, reading.width, reading.height, &mut reading.scene) {
         Ok(buffer) => Ended::Ok.if_put(write_screen(&buffer, &reading.scene, sink).is_ok()),
         Err(NoMemory) => Ended::NoMemory,
-    }
-}
-
-/// The buffer of this size that a run over the widgets reaches from a blank one; the scene has the new states.
-fn drawn(alloc: Global, width: u16, height: u16, scene: &mut Scene<'_>) -> Mem<Buffer>
-    ensures { IfOk result (IsDrawn width height scene.old scene.new) }
-{
-    let mut buffer = Buffer::empty(alloc, Rect::new(0, 0, width, height))?;
-    match draw(alloc, scene, &mut buffer) {
-        Ok(()) => {
-            // The print goes by rows, so their shape is part of what is drawn: `height` tells it.
-            let _height = buffer.height();
-            Ok(buffer)
-        }
-        Err(DrawError::NoMemory { .. }) => Err(NoMemory),
     }
 }

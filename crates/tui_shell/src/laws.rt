@@ -1,13 +1,16 @@
 //! What holds of all drawn scenes.
 
-ghost use Rattle.tui_shell.specs.Laws.{DrawingIsUnique, OutputIsUnique};
+ghost use Rattle.tui_shell.specs.Laws.{DemoIsUnique, DrawingIsUnique, OutputIsUnique};
 
+use tui_para::text_wraps_exactly_once;
 use tui_port::print_laws;
 
-/// The widgets of a scene leave one screen and one list of states, and a scene has one output.
+/// The widgets of a scene leave one screen and one list of states, a scene has one output, and so has a demonstration.
 pub fn scene_laws()
     ensures drawing { DrawingIsUnique }
     ensures output { OutputIsUnique }
+    ensures demo { DemoIsUnique }
 {
+    text_wraps_exactly_once();
     print_laws();
 }

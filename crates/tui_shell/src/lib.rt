@@ -1,7 +1,9 @@
-//! The command `scene`, from the bytes that are read to the bytes that are written.
+//! The commands `scene` and `demo`, from the words and the bytes that are read to the bytes that are written.
 #![tactic(auto)]
 
 pub mod command;
+mod demo;
+mod drawing;
 pub mod ended;
 mod json;
 mod laws;

@@ -1,34 +1,15 @@
-use Rattle.std.proofs.Common.{Err, ap, codes, refl, rules, sym, true≢false, ◌∙◌}
-use Rattle.serde_json.specs.View.{view}
+use Rattle.std.proofs.Common.{codes, refl, sym, true≢false, ◌∙◌}
+use Rattle.tui_shell.specs.Commands.{AreWrong}
 use Rattle.tui_shell.specs.declared.ended.Ended.TheVariants as ended
-use Rattle.tui_shell.specs.Endings.{AreScene}
-use Rattle.tui_shell.proofs.Ending.{ends_for, ends_line}
+use Rattle.tui_shell.proofs.Ending.{ends_for_demo, ends_line}
 use Rattle.tui_shell.proofs.command.run.Goals as goal
 
-pub returns-then-not-is_scene : goal.returns-then-not-is_scene
-returns-then-not-is_scene g c =
+pub returns-in-Some : goal.returns-in-Some
+returns-in-Some g c =
+    ends_for_demo _ _ c.in-Some.n c.show_demo.result c.in-Some.ensures.some (record { left = refl; quiet = refl }) c.show_demo.ensures
+
+pub returns-in-None : goal.returns-in-None
+returns-in-None g c =
+    let wrong : AreWrong c.args.words.now = (λ are. true≢false (sym (c.is_scene.ensures.1 are) ∙ c.if-is_scene.false), c.in-None.ensures.none refl) in
     rw c.if_put.ensures (ends_line _ _ c.put_if.result ended.Usage (codes "refused: usage\n") refl
-    (λ are. true≢false (sym (c.is_scene.ensures.1 are) ∙ c.if-not-is_scene.true), record { left = refl; quiet = refl }, refl) c.put_if.ensures)
-
-pub returns-in-Err-TooLong : goal.returns-in-Err-TooLong
-returns-in-Err-TooLong g c =
-    let are : AreScene c.args.words.now = search rules in
-    let gave = c.in-Err-TooLong.ensures.too_long (ap (λ x. Err x) c.in-Err-TooLong.field-0-is) in
-    rw c.if_put-in-Err-TooLong.ensures (ends_line _ _ c.put_if-in-Err-TooLong.result ended.TooLong (codes "refused: too long\n") refl
-    (are, record { gave = gave; quiet = search rules }, refl) c.put_if-in-Err-TooLong.ensures)
-
-pub returns-in-Err-NotJson : goal.returns-in-Err-NotJson
-returns-in-Err-NotJson g c =
-    let are : AreScene c.args.words.now = search rules in
-    let ok = c.in-Ok.ensures.ok in
-    let no_reading = c.in-Err-NotJson.ensures.not_json (ap (λ x. Err x) c.in-Err-NotJson.field-0-is) in
-    rw c.if_put-in-Err-NotJson.ensures (ends_line _ _ c.put_if-in-Err-NotJson.result ended.NotJson (codes "refused: not JSON\n") refl
-    (are, (c.in-Ok.bytes.items, record { taken = ok.0; end = ok.1; within = ok.2; quiet = search rules }, no_reading), refl) c.put_if-in-Err-NotJson.ensures)
-
-pub returns-in-Ok-json_of : goal.returns-in-Ok-json_of
-returns-in-Ok-json_of g c =
-    let are : AreScene c.args.words.now = search rules in
-    let ok = c.in-Ok.ensures.ok in
-    let json = c.in-Ok-json_of.ensures.ok in
-    ends_for _ _ c.in-Ok.bytes.items (view c.in-Ok-json_of.value) c.show_value.result are
-    (record { whole = record { taken = ok.0; end = ok.1; within = ok.2; quiet = search rules }; utf8 = json.0; json = json.1 }) c.show_value.ensures
+    (wrong, record { left = refl; quiet = refl }, refl) c.put_if.ensures)

@@ -1,6 +1,6 @@
 use Rattle.std.proofs.Common.{arith, codes}
 use Rattle.tui_shell.proofs.Word.{is_word}
-use Rattle.tui_shell.proofs.command.is_scene.Goals as goal
+use Rattle.tui_shell.proofs.words.is_scene.Goals as goal
 
 pub returns-then-words-eq1 : goal.returns-then-words-eq1
 returns-then-words-eq1 c =

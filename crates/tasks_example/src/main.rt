@@ -1,0 +1,170 @@
+//! Draws one task.
+#![tactic(auto)]
+
+use std::alloc::Global;
+use tui::buffer::{Buffer, Mem};
+use tui::layout::{Alignment, Constraint, Fraction, Position, Rect};
+use tui::style::{Color, Modifier, Style};
+use tui::symbols::MergeStrategy;
+use tui::text::{Line, Text};
+use tui::widgets::{
+    Block, CalendarEventStore, Cell, Clear, Date, Fill, LineGauge, List, ListItem, ListState,
+    Monthly, Paragraph, Row, Scrollbar, ScrollbarState, Shadow, StatefulWidget, Table, Widget,
+    Wrap,
+};
+
+fn main(rt: HostRuntime) -> anyhow::Result<()> {
+    let alloc = rt.alloc();
+    let area = Rect::new(0, 0, 30, 7);
+    let mut buffer = Buffer::empty(alloc, area)?;
+    draw_dialog(alloc, area, &mut buffer)?;
+    for row in 0..buffer.height() {
+        for cell in buffer.row_at(row) {
+            print!(rt; "{}", cell.symbol())?;
+        }
+        println!(rt; "")?;
+    }
+    Ok(())
+}
+
+fn came(place: usize, state: &mut ListState) {
+    let shift = usize::from(place <= state.offset());
+    *state.offset_mut() = state.offset().saturating_add(shift);
+    if state.selected() >= Some(place) {
+        state.select_next();
+    }
+}
+
+fn went(place: usize, state: &mut ListState) {
+    let shift = usize::from(place < state.offset());
+    *state.offset_mut() = state.offset().saturating_sub(shift);
+    if state.selected() > Some(place) {
+        state.select_previous();
+    }
+}
+
+fn draw_log(alloc: Global, lines: &str, area: Rect, buffer: &mut Buffer) -> Mem<()> {
+    let log = Paragraph::new(Text::raw(alloc, lines)?).wrap(Wrap { trim: true });
+    let count = log.line_count(alloc, area.width)?;
+    let first = count.saturating_sub(usize::from(area.height)).min(65535) as u16;
+    log.scroll((first, 0)).render(alloc, area, buffer)
+}
+
+fn draw_dialog(alloc: Global, screen: Rect, buffer: &mut Buffer) -> Mem<()> {
+    Fill::new("·").render(alloc, screen, buffer)?;
+    let area = screen
+        .columns_from(screen.width.saturating_sub(18) / 2, 18)
+        .rows_from(screen.height.saturating_sub(3) / 2, 3);
+    Clear.render(alloc, area, buffer)?;
+    Paragraph::new(Text::raw(alloc, "Leave? y/n")?)
+        .block(Block::bordered(alloc).shadow(Shadow::dimmed()))
+        .centered()
+        .render(alloc, area, buffer)
+}
+
+fn draw_form(
+    alloc: Global,
+    fields: &[(&str, &str)],
+    at: usize,
+    area: Rect,
+    buffer: &mut Buffer,
+) -> Mem<()> {
+    for y in 0..fields.len().min(usize::from(area.height)) {
+        let (label, value) = fields[y];
+        let row = area.rows_from(y as u16, 1);
+        let field = row.columns_from(7, area.width);
+        Paragraph::new(Text::raw(alloc, label)?).render(alloc, row.columns_from(0, 6), buffer)?;
+        Fill::new("_").render(alloc, field, buffer)?;
+        Paragraph::new(Text::raw(alloc, value)?).render(alloc, field, buffer)?;
+        if y == at {
+            buffer.set_style(field, Style::new().add_modifier(Modifier::REVERSED));
+        }
+    }
+    Ok(())
+}
+
+fn price<'a>(alloc: Global, name: &'a str, price: &'a str) -> Mem<Row<'a>> {
+    let name = Cell::new(Text::raw(alloc, name)?);
+    let price = Cell::new(Text::raw(alloc, price)?.alignment(Alignment::Right));
+    Ok(Row::new(vec![in alloc; name, price]?))
+}
+
+fn draw_prices<'a>(
+    alloc: Global,
+    rows: Vec<Row<'a>>,
+    total: Row<'a>,
+    area: Rect,
+    buffer: &mut Buffer,
+) -> anyhow::Result<()> {
+    let widths = vec![in alloc; Constraint::Fill(1), Constraint::Length(5)]?;
+    let table = Table::new(alloc, rows, widths)?
+        .header(price(alloc, "Item", "Price")?)
+        .footer(total);
+    Ok(Widget::render(&table, alloc, area, buffer)?)
+}
+
+fn pane<'a>(alloc: Global, title: &'a str, text: &'a str) -> Mem<Paragraph<'a>> {
+    let mut block = Block::bordered(alloc).merge_borders(MergeStrategy::Exact);
+    block.title(Line::raw(alloc, title)?)?;
+    Ok(Paragraph::new(Text::raw(alloc, text)?).block(block))
+}
+
+fn draw_panes(alloc: Global, screen: Rect, buffer: &mut Buffer) -> Mem<()> {
+    let middle = screen.width / 2;
+    let left = screen.columns_from(0, middle);
+    let right = screen.columns_from(middle.saturating_sub(1), screen.width);
+    pane(alloc, "Files", "notes\ndrafts")?.render(alloc, left, buffer)?;
+    pane(alloc, "Text", "Read me.")?.render(alloc, right, buffer)
+}
+
+fn progress<'a>(alloc: Global, label: &'a str, share: Fraction) -> anyhow::Result<LineGauge<'a>> {
+    let line = LineGauge::default()
+        .filled_symbol("━")
+        .filled_style(Style::new().fg(Color::Green))
+        .label(Line::raw(alloc, label)?);
+    Ok(line.ratio(share)?)
+}
+
+fn draw_progress(
+    alloc: Global,
+    done: u64,
+    all: u64,
+    area: Rect,
+    buffer: &mut Buffer,
+) -> anyhow::Result<()> {
+    let label = format!(in alloc; "{done} of {all}")?;
+    let line = progress(alloc, label.as_str(), Fraction::new(done, all))?;
+    Ok(line.render(alloc, area, buffer)?)
+}
+
+fn draw_april(alloc: Global, days: &[i8], area: Rect, buffer: &mut Buffer) -> anyhow::Result<()> {
+    let mut events = CalendarEventStore::new(alloc);
+    for day in days.iter() {
+        events.add(
+            Date::new(2026, 4, *day)?,
+            Style::new().add_modifier(Modifier::BOLD),
+        )?;
+    }
+    let month = Monthly::new(Date::new(2026, 4, 1)?, &events)
+        .show_month_header(Style::new())
+        .show_weekdays_header(Style::new());
+    Ok(month.render(alloc, area, buffer)?)
+}
+
+fn draw_with_bar(
+    alloc: Global,
+    list: &List<'_>,
+    area: Rect,
+    buffer: &mut Buffer,
+    state: &mut ListState,
+) -> Mem<()> {
+    let beside = area.columns_from(0, area.width.saturating_sub(1));
+    StatefulWidget::render(list, alloc, beside, buffer, state)?;
+    let rows = usize::from(area.height);
+    let places = list.len().saturating_sub(rows).saturating_add(1);
+    let mut seen = ScrollbarState::new(places)
+        .position(state.offset())
+        .viewport_content_length(rows);
+    let bar = Scrollbar::default().begin_symbol(None).end_symbol(None);
+    bar.render(alloc, area, buffer, &mut seen)
+}

@@ -1,0 +1,95 @@
+//! Spans, lines and texts, set and painted within a clip.
+
+use std::alloc::Global;
+use std::test::Fail;
+use tui_cells::{Buffer, Color, Mem, Position, Rect, Style};
+use tui_text::{
+    Alignment, Line, Span, Text, paint_line, paint_text, set_line, set_span, set_stringn,
+};
+
+/// The symbols of all cells, a row in each line.
+fn symbols(alloc: Global, buffer: &Buffer) -> Mem<String> {
+    let mut text = String::new(alloc);
+    for y in 0..buffer.height() {
+        for cell in buffer.row_at(y) {
+            text.push_str(cell.symbol())?;
+        }
+        text.push('\n')?;
+    }
+    Ok(text)
+}
+
+#[test]
+fn a_text_is_set_as_far_as_there_is_room(rt: HostRuntime) -> Result<(), Fail> {
+    let alloc = rt.alloc();
+    let mut buffer = Buffer::from_rows(alloc, "------")?;
+    let clip = Rect::new(1, 0, 4, 1);
+    let red = Style::new().fg(Color::Red);
+    let behind = set_stringn(&mut buffer, clip, Position::new(1, 0), "abc", 2, red)?;
+    assert!(rt; behind == 3);
+    // Two columns are left in the clip: the wide character has them, and the next one does not fit.
+    let behind = set_stringn(&mut buffer, clip, Position::new(3, 0), "コx", 9, red)?;
+    assert!(rt; behind == 5);
+    let outside = set_stringn(&mut buffer, clip, Position::new(5, 0), "x", 9, red)?;
+    assert!(rt; outside == 5);
+    assert!(rt; symbols(alloc, &buffer)?.as_str() == "-abコ -\n");
+    Ok(())
+}
+
+#[test]
+fn spans_and_lines_are_set(rt: HostRuntime) -> Result<(), Fail> {
+    let alloc = rt.alloc();
+    let mut buffer = Buffer::from_rows(alloc, "------")?;
+    let all = buffer.area();
+    let red = Style::new().fg(Color::Red);
+    let behind = set_span(
+        &mut buffer,
+        all,
+        Position::new(0, 0),
+        &Span::styled("xy", red),
+        9,
+    )?;
+    assert!(rt; behind == 2);
+    let mut line = Line::raw(alloc, "p")?.style(red);
+    line.push_span(Span::raw("qr"))?;
+    let behind = set_line(&mut buffer, all, Position::new(2, 0), &line, 2)?;
+    assert!(rt; behind == 4);
+    assert!(rt; symbols(alloc, &buffer)?.as_str() == "xypq--\n");
+    Ok(())
+}
+
+#[test]
+fn a_line_is_painted_by_its_alignment(rt: HostRuntime) -> Result<(), Fail> {
+    let alloc = rt.alloc();
+    let mut buffer = Buffer::from_rows(alloc, "------\n------")?;
+    let all = buffer.area();
+    let short = Line::raw(alloc, "ab")?;
+    paint_line(
+        &mut buffer,
+        all,
+        Rect::new(1, 0, 4, 2),
+        &short,
+        Alignment::Center,
+    )?;
+    let wide = Line::raw(alloc, "abcdefg")?;
+    paint_line(
+        &mut buffer,
+        all,
+        Rect::new(0, 1, 3, 1),
+        &wide,
+        Alignment::Right,
+    )?;
+    assert!(rt; symbols(alloc, &buffer)?.as_str() == "--ab--\nefg---\n");
+    Ok(())
+}
+
+#[test]
+fn a_text_is_painted_in_its_area(rt: HostRuntime) -> Result<(), Fail> {
+    let alloc = rt.alloc();
+    let mut buffer = Buffer::from_rows(alloc, "------\n------\n------")?;
+    let clip = Rect::new(0, 0, 5, 2);
+    let text = Text::raw(alloc, "a\nbc\nd")?.alignment(Alignment::Right);
+    paint_text(&mut buffer, clip, Rect::new(2, 0, 9, 9), &text)?;
+    assert!(rt; symbols(alloc, &buffer)?.as_str() == "----a-\n---bc-\n------\n");
+    Ok(())
+}

@@ -1,0 +1,9 @@
+pub use Rattle.tui_bars.specs as bars
+pub use Rattle.tui_cells.specs as cells
+pub use Rattle.tui_frames.specs as frames
+pub use Rattle.tui_layout.specs as layout
+pub use Rattle.tui_lists.specs as lists
+pub use Rattle.tui_para.specs as para
+pub use Rattle.tui_scene.specs as scene
+pub use Rattle.tui_table.specs as table
+pub use Rattle.tui_text.specs as text

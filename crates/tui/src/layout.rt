@@ -1,0 +1,8 @@
+//! Areas, columns, alignments, and the window of a scrolled list.
+
+pub use tui_cells::{Offset, Position, Rect};
+pub use tui_layout::{
+    Constraint, Direction, Flex, Fraction, Segment, Steps, Sums, Window, scroll_window, split,
+    uncounted_window,
+};
+pub use tui_text::Alignment;

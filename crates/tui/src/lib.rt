@@ -1,0 +1,10 @@
+//! The library under one name: what programs call of the crates below, in modules named as those of ratatui.
+#![tactic(auto)]
+
+pub mod buffer;
+pub mod layout;
+pub mod scene;
+pub mod style;
+pub mod symbols;
+pub mod text;
+pub mod widgets;

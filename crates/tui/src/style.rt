@@ -1,0 +1,3 @@
+//! Styles and what they are made of.
+
+pub use tui_cells::{Color, Modifier, ParseError, Style, Styled};

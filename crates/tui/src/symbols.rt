@@ -1,0 +1,3 @@
+//! The symbols that widgets draw with.
+
+pub use tui_cells::{MergeStrategy, bar, block, border, line, scrollbar, shade};

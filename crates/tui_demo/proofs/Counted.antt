@@ -1,0 +1,28 @@
+-- The words have few lines, so that their number is not cut.
+use Rattle.std.proofs.Common.{◌≡◌, ℕ, ◌≤◌, List, length, Result, Ok, IfOk, IfSome, true, subst, arith}
+use Rattle.tui_frames.specs.InBlock.{beside}
+use Rattle.tui_para.specs.Lines.{GlyphLine}
+use Rattle.tui_para.specs.Paragraph.{ParagraphData, block_rows}
+use Rattle.tui_para.specs.Wrapped.{IsTheOne}
+use Rattle.tui_para.specs.WrappedText.{WrappedText, wrap_text}
+use Rattle.tui_text.specs.Width.{saturated}
+use Rattle.tui_text.specs.declared.alignment.Alignment.TheVariants.{Left}
+use Rattle.tui_demo.specs.Scene.{HasLines, demo_paragraph, one_line}
+use Rattle.tui_demo.specs.Text.{demo_text}
+use Rattle.tui_demo.proofs.Fewer.{length-wrap_text}
+use Rattle.tui_demo.proofs.Joined.{short_text}
+
+-- what the number of a paragraph's lines at 20 columns is known to be
+abbrev CountsWrapped : {E : Type 0} → Result ℕ E → ParagraphData → Type 0
+CountsWrapped count p =
+    IfSome p.wrap (λ wrap. (lines : List GlyphLine) →
+    WrappedText 20 wrap.trim p.alignment p.text lines → count ≡ Ok (beside (saturated (length lines)) (block_rows p)))
+
+pub counted : {E : Type 0} (n : ℕ) (count : Result ℕ E) (p : ParagraphData) → n ≤ 100000 → p ≡ demo_paragraph (demo_text n) →
+    IsTheOne (WrappedText 20 true Left (one_line (demo_text n))) (wrap_text 20 true Left (one_line (demo_text n))) →
+    CountsWrapped count p → IfOk count (HasLines n)
+counted n count p most is once counts =
+    let lines = wrap_text 20 true Left (one_line (demo_text n)) in
+    let few = length-wrap_text 20 true Left (demo_text n) in
+    let whole : saturated (length lines) ≡ length lines = omega (arith, few, short_text n) in
+    rw (subst (CountsWrapped count) is counts lines once.meets) (lines, once.meets, whole)

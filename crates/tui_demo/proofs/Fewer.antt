@@ -1,0 +1,84 @@
+-- A text has at most as many graphemes as bytes, and its wrapping at most one line more than graphemes.
+use Rattle.std.proofs.Common.{◌≡◌, ℕ, zero, suc, ◌+◌, ◌-◌, ◌*◌, ◌≤◌, Bool, true, false, nat_le, List, [], ◌∷◌, ◌++◌}
+use Rattle.std.proofs.Common.{length, map, filter, take, drop, sum_by, refl, ap, arith}
+use Rattle.std.specs.Str.{chars, chars_after, continuation_len, lead_bits}
+use Rattle.std.specs.Prelude.{encode_utf8_all}
+use Rattle.std.proofs.lemmas.List.{append-nil, length-map}
+use Rattle.unicode_segmentation.specs.Grapheme.{graphemes, is_grapheme_break}
+use Rattle.unicode_segmentation.specs.Segments.{Rule, cut, prepend, segments}
+use Rattle.tui_cells.specs.declared.style.Style.{Style}
+use Rattle.tui_para.specs.Places.{line_len, lines_of, wrap, wrap_kept}
+use Rattle.tui_para.specs.Wrapped.{after_break, kept, line_start}
+use Rattle.tui_para.specs.WrappedText.{wrap_text}
+use Rattle.tui_cells.specs.Style.{no_style, patched}
+use Rattle.tui_para.specs.Lines.{glyph_line}
+use Rattle.tui_text.specs.Grapheme.{glyph_blank, glyph_width}
+use Rattle.tui_text.specs.Graphemes.{clusters, glyph_in, is_shown, line_graphemes}
+use Rattle.tui_text.specs.Line.{raw_line}
+use Rattle.tui_text.specs.declared.alignment.Alignment.{Alignment}
+use Rattle.tui_demo.specs.Scene.{one_line}
+
+length-chars_after : (n c : ℕ) (bs : List ℕ) → length (chars_after n c bs) ≤ 1 + length bs
+length-chars_after zero c [] = omega arith
+length-chars_after zero c (b ∷ bs) = omega (arith, length-chars_after (continuation_len b) (lead_bits b) bs)
+length-chars_after (suc n) c [] = omega arith
+length-chars_after (suc n) c (b ∷ bs) = omega (arith, length-chars_after n (c * 64 + (b - 128)) bs)
+
+length-chars : (bs : List ℕ) → length (chars bs) ≤ length bs
+unfolding chars
+length-chars [] = omega arith
+length-chars (b ∷ bs) = omega (arith, length-chars_after (continuation_len b) (lead_bits b) bs)
+
+length-prepend : (part : List ℕ) (pieces : List (List ℕ)) → length (prepend part pieces) ≤ 1 + length pieces
+length-prepend part [] = omega arith
+length-prepend part (piece ∷ pieces) = omega arith
+
+length-cut : (rule : Rule) (before cs after : List ℕ) → length (cut rule before cs after) ≤ length cs
+unfolding cut
+length-cut rule before [] after = omega arith
+length-cut rule before (c ∷ cs) after = by_rule (rule (c ∷ before) (cs ++ after)) refl (length-cut rule (c ∷ before) cs after)
+  where
+    by_rule : (b : Bool) → rule (c ∷ before) (cs ++ after) ≡ b → length (cut rule (c ∷ before) cs after) ≤ length cs →
+        length (cut rule before (c ∷ cs) after) ≤ length (c ∷ cs)
+    by_rule true e less = rw e (omega arith)
+    by_rule false e less = rw e (omega (arith, length-prepend (c ∷ []) (cut rule (c ∷ before) cs after)))
+
+length-graphemes : (text : List ℕ) → length (graphemes true text) ≤ length text
+unfolding segments
+length-graphemes text =
+    let cuts = cut (is_grapheme_break true) [] (chars text) [] in
+    omega (arith, length-map cuts encode_utf8_all, length-cut (is_grapheme_break true) [] (chars text) [], length-chars text)
+
+length-filter : {A : Type 0} (test : A → Bool) (xs : List A) → length (filter test xs) ≤ length xs
+length-filter test [] = omega arith
+length-filter test (x ∷ xs) = grind (arith, length-filter test xs)
+
+length-lines_of : {A : Type 0} (blank : A → Bool) (size : A → ℕ) (w : ℕ) (trim : Bool) (n : ℕ) (xs : List A) → length (lines_of blank size w trim n xs) ≤ n
+length-lines_of blank size w trim zero xs = omega arith
+length-lines_of blank size w trim (suc n) [] = omega arith
+length-lines_of blank size w trim (suc n) (x ∷ xs) =
+    let s = line_start blank trim (x ∷ xs) in
+    let k = line_len blank size w s in
+    omega (arith, length-lines_of blank size w trim n (after_break blank size (w - sum_by size (take k s)) (drop k s)))
+
+length-wrap_kept : {A : Type 0} (blank : A → Bool) (size : A → ℕ) (w : ℕ) (trim : Bool) (xs : List A) → length (wrap_kept blank size w trim xs) ≤ 1 + length xs
+length-wrap_kept blank size w trim [] = omega arith
+length-wrap_kept blank size w trim (x ∷ xs) = omega (arith, length-lines_of blank size w trim (length (x ∷ xs)) (x ∷ xs))
+
+length-wrap : {A : Type 0} (blank : A → Bool) (size : A → ℕ) (w : ℕ) (trim : Bool) (xs : List A) → length (wrap blank size w trim xs) ≤ 1 + length xs
+length-wrap blank size w trim xs = omega (arith, length-wrap_kept blank size w trim (kept size w xs), length-filter (λ x. nat_le (size x) w) xs)
+
+length-line_graphemes : (style : Style) (text : List ℕ) → length (line_graphemes style (raw_line text)) ≤ length text
+length-line_graphemes style text =
+    let glyph = glyph_in (patched (patched style no_style) no_style) in
+    let all = append-nil (map glyph (clusters text)) in
+    omega (arith, ap length all, length-map (clusters text) glyph, length-filter is_shown (graphemes true text), length-graphemes text)
+
+-- the lines of a text on one line
+pub length-wrap_text : (w : ℕ) (trim : Bool) (alignment : Alignment) (text : List ℕ) → length (wrap_text w trim alignment (one_line text)) ≤ 1 + length text
+length-wrap_text w trim alignment text =
+    let glyphs = line_graphemes no_style (raw_line text) in
+    let lines = wrap glyph_blank glyph_width w trim glyphs in
+    let all = append-nil (map (glyph_line alignment) lines) in
+    let few = length-wrap glyph_blank glyph_width w trim glyphs in
+    omega (arith, ap length all, length-map lines (glyph_line alignment), few, length-line_graphemes no_style text)

@@ -1,0 +1,4 @@
+pub mod Joined
+pub mod ItemLists
+pub mod Fewer
+pub mod Counted

@@ -1,0 +1,5 @@
+-- The line that stands before the rows of a demonstration.
+use Rattle.std.specs.Prelude.{ℕ, List, ◌++◌, codes, decimal}
+
+abbrev pub demo_line : ℕ → ℕ → ℕ → List ℕ
+demo_line n offset lines = codes "items " ++ (decimal n ++ (codes " offset " ++ (decimal offset ++ (codes " lines " ++ (decimal lines ++ codes "\n")))))
