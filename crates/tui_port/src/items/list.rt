@@ -1,8 +1,9 @@
 //! The fields of `list`.
 
-ghost use Rattle.std.specs.Prelude.{◌≡◌, IfOk, option_map};
+ghost use Rattle.std.specs.Prelude.{◌≡◌, IfOk, false, option_map, unwrap_or};
 ghost use Rattle.serde_json.specs.View.{view};
 ghost use Rattle.tui_frames.specs.Block.{block_data};
+ghost use Rattle.tui_cells.specs.Style.{no_style};
 ghost use Rattle.tui_lists.specs.List.{list_data};
 ghost use Rattle.tui_port.specs.Items.ListFields.{list_state_of, list_with_items, marked_list, shown_list, turned_list};
 ghost use Rattle.tui_port.specs.Refusals.{Gives};
@@ -59,6 +60,30 @@ fn read_items<'v>(
     Ok(in_block(list, block).style(style.unwrap_or(Style::new())))
 }
 
+/// The list with this in its selected item, where it is given.
+fn marked<'v>(
+    alloc: Global,
+    list: List<'v>,
+    symbol: Option<Symbol<'v>>,
+    style: Option<Style>,
+    repeats: Option<bool>,
+    spacing: Option<HighlightSpacing>,
+) -> Mem<List<'v>>
+    ensures { IfOk result (λ marked. list_data marked ≡ record (list_data list.entry) {
+      symbol = option_or (option_map (λ s. raw_line s.0.now) symbol.entry) (list_data list.entry).symbol;
+      highlight_style = unwrap_or style no_style;
+      repeats = unwrap_or repeats false;
+      spacing = unwrap_or spacing HighlightSpacing.WhenSelected;
+    }) }
+{
+    Ok(
+        with_symbol(alloc, list, symbol)?
+            .highlight_style(style.unwrap_or(Style::new()))
+            .repeat_highlight_symbol(repeats.unwrap_or(false))
+            .highlight_spacing(spacing.unwrap_or(HighlightSpacing::WhenSelected)),
+    )
+}
+
 /// The list with what stands out in its selected item.
 #[tactic(auto, unfolding(crate::specs::Items::ListFields::marked_list))]
 fn read_marks<'v>(
@@ -73,12 +98,7 @@ fn read_marks<'v>(
     let style: Option<Style> = optional(alloc, item, Field::HighlightStyle, value)?;
     let repeats: Option<bool> = optional(alloc, item, Field::RepeatHighlightSymbol, value)?;
     let spacing: Option<HighlightSpacing> = optional(alloc, item, Field::HighlightSpacing, value)?;
-    Ok(
-        with_symbol(alloc, list, symbol)?
-            .highlight_style(style.unwrap_or(Style::new()))
-            .repeat_highlight_symbol(repeats.unwrap_or(false))
-            .highlight_spacing(spacing.unwrap_or(HighlightSpacing::WhenSelected)),
-    )
+    Ok(marked(alloc, list, symbol, style, repeats, spacing)?)
 }
 
 /// The list with its direction and its padding.
