@@ -4,3 +4,4 @@ pub mod Regions
 pub mod Charts
 pub mod Joining
 pub mod Showing
+pub mod Making

@@ -5,7 +5,7 @@ use Rattle.tui_cells.specs.declared.rect.Rect.{Rect}
 use Rattle.tui_cells.specs.Rect.{covers, is_empty}
 use Rattle.tui_cells.specs.Layers.{StayIn}
 use Rattle.tui_cells.specs.Cell.{Look, Edit, edited}
-use Rattle.tui_cells.specs.Buffer.{Screen, cell_at}
+use Rattle.tui_cells.specs.Buffer.{Screen, cell_at, look_at}
 use Rattle.tui_cells.specs.Layers.{Painted, KeptOutside, SameCells, Layer, stroke, layers_at, over, edits}
 
 -- at one place, the third region is the first two together, which do not meet
@@ -104,15 +104,29 @@ Painted-over R S T es a b c p q j = record {
   cells = λ x y. q.cells x y ∙ (ap (option_map (layers_at (over S es) x y)) (p.cells x y) ∙ join_over_cell R S T es x y (cell_at a x y) (j x y));
 }
 
+same_place : (R S : ℕ → ℕ → Bool) (es : List Edit) (x y : ℕ) (r : Bool) → R x y ≡ r → R x y ≡ S x y → (c : Look) →
+    layers_at (over R es) x y c ≡ layers_at (over S es) x y c
+same_place R S es x y true p e c = over_true R es x y c p ∙ sym (over_true S es x y c (sym e ∙ p))
+same_place R S es x y false p e c = over_false R es x y c p ∙ sym (over_false S es x y c (sym e ∙ p))
+
 -- the same strokes over regions that agree
 pub Painted-region : (R S : ℕ → ℕ → Bool) (es : List Edit) (a b : Screen) →
     Painted (over R es) a b → ((x y : ℕ) → R x y ≡ S x y) → Painted (over S es) a b
-Painted-region R S es a b p e = Painted-same (λ x y c. region_at R S es x y (R x y) refl (e x y) c) p
+Painted-region R S es a b p e = Painted-same (λ x y c. same_place R S es x y (R x y) refl (e x y) c) p
+
+-- the same strokes over regions that agree in the buffer
+pub Painted-within : (R S : ℕ → ℕ → Bool) (es : List Edit) (a b : Screen) →
+    Painted (over R es) a b → ((x y : ℕ) → covers a.area x y ≡ true → R x y ≡ S x y) → Painted (over S es) a b
+Painted-within R S es a b p e = record {
+  area = p.area;
+  cells = λ x y. p.cells x y ∙ at_place x y (covers a.area x y) refl;
+}
   where
-    region_at : (R S : ℕ → ℕ → Bool) (es : List Edit) (x y : ℕ) (r : Bool) → R x y ≡ r → R x y ≡ S x y → (c : Look) →
-        layers_at (over R es) x y c ≡ layers_at (over S es) x y c
-    region_at R S es x y true p e c = over_true R es x y c p ∙ sym (over_true S es x y c (sym e ∙ p))
-    region_at R S es x y false p e c = over_false R es x y c p ∙ sym (over_false S es x y c (sym e ∙ p))
+    at_place : (x y : ℕ) (here : Bool) → covers a.area x y ≡ here →
+        option_map (layers_at (over R es) x y) (if here then Some (look_at a x y) else None)
+        ≡ option_map (layers_at (over S es) x y) (if here then Some (look_at a x y) else None)
+    at_place x y true is = ap Some (same_place R S es x y (R x y) refl (e x y is) (look_at a x y))
+    at_place x y false is = refl
 
 pub KeptOutside-weaker : {R S : ℕ → ℕ → Bool} {a b : Screen} → ((x y : ℕ) → S x y ≡ false → R x y ≡ false) → KeptOutside R a b → KeptOutside S a b
 KeptOutside-weaker e p = record { area = p.area; cells = λ x y out. p.cells x y (e x y out) }

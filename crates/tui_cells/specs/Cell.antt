@@ -1,5 +1,5 @@
 -- What a cell shows, and the changes of a cell.
-use Rattle.std.specs.Prelude.{ℕ, ◌/◌, ◌<◌, ◌≤◌, bit_or, List, [], ◌∷◌, length, unwrap_or}
+use Rattle.std.specs.Prelude.{◌≡◌, ℕ, ◌/◌, ◌<◌, ◌≤◌, bit_or, List, [], ◌∷◌, length, unwrap_or}
 use Rattle.tui_cells.specs.declared.style.Style.{Style}
 use Rattle.tui_cells.specs.declared.color.Color.{Color}
 use Rattle.tui_cells.specs.declared.color.Color.TheVariants.{Reset}
@@ -22,6 +22,10 @@ space = 32 ∷ []
 -- a cell at rest: one blank, both colours Reset, no modifier
 abbrev pub blank : Look
 blank = record { symbol = space; fg = Reset; bg = Reset; modifier = 0 }
+
+-- blank but for the symbol: both colours Reset, no modifier
+abbrev pub IsAtRest : Look → Type 0
+IsAtRest c = record c { symbol = space } ≡ blank
 
 -- the symbol that a text gives: the empty text gives the blank
 abbrev pub symbol_of : List ℕ → List ℕ

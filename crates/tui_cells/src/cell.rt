@@ -1,8 +1,8 @@
 //! Cells of a buffer.
 
-ghost use Rattle.std.specs.Prelude.{◌≡◌, ◌<◌, IsOk, IfOk, OnOk, OnErr, length, string_bytes};
+ghost use Rattle.std.specs.Prelude.{◌≡◌, ◌↔◌, ◌<◌, IsOk, IsTrue, IfOk, OnOk, OnErr, length, string_bytes};
 ghost use Rattle.tui_cells.specs.Attributes.{look_of};
-ghost use Rattle.tui_cells.specs.Cell.{IsLight, IsSymbol, blank, dim, dress, edited, merge, put, wipe};
+ghost use Rattle.tui_cells.specs.Cell.{IsAtRest, IsLight, IsSymbol, blank, dim, dress, edited, merge, put, wipe};
 
 use crate::attributes::Attributes;
 use crate::color::Color;
@@ -37,6 +37,7 @@ impl Model for Cell {
 
 impl Cell {
     /// A blank cell: one blank, both colours Reset, no modifier.
+    #[inline]
     pub fn new(alloc: Global) -> Cell
         ensures { result ≡ blank }
     {
@@ -47,6 +48,7 @@ impl Cell {
     }
 
     /// The symbol, which is never empty.
+    #[inline]
     pub fn symbol(&self) -> &str
         ensures is { result.now ≡ self.now.symbol }
         ensures some { IsSymbol result.now }
@@ -55,10 +57,18 @@ impl Cell {
     }
 
     /// The colours and the modifiers at once.
+    #[inline]
     pub fn attributes(&self) -> Attributes
         ensures { look_of self.now.symbol result ≡ self.now }
     {
         self.content.attributes()
+    }
+
+    #[inline]
+    pub(crate) fn is_at_rest(&self) -> bool
+        ensures { IsTrue result ↔ IsAtRest self.now }
+    {
+        self.content.attributes().is_at_rest()
     }
 
     /// The foreground.
@@ -84,13 +94,13 @@ impl Cell {
 
     /// Sets the symbol alone; the empty text gives one blank. At NoMemory the cell is as before. A text of at most 8 bytes
     /// takes no memory.
+    #[inline]
     pub fn set_symbol(&mut self, symbol: &str) -> Mem<()>
         ensures ok { OnOk result (self.new ≡ edited (put symbol.now) self.old) }
         ensures err { OnErr result (self.new ≡ self.old) }
         ensures light { IsLight symbol.now → IsOk result }
     {
-        self.content = Content::of(self.alloc, symbol, self.content.attributes())?;
-        Ok(())
+        self.content.set_symbol(self.alloc, symbol)
     }
 
     /// Sets what `MergeStrategy::merge` makes of the cell's symbol and a new one; the empty text counts as one blank. At
@@ -101,11 +111,11 @@ impl Cell {
         ensures light { IsLight symbol.now → IsOk result }
     {
         let merged = strategy.merge(self.content.symbol(), symbol);
-        self.content = Content::of(self.alloc, merged, self.content.attributes())?;
-        Ok(())
+        self.content.set_symbol(self.alloc, merged)
     }
 
     /// Adds DIM and halves the background.
+    #[inline]
     pub(crate) fn dim(&mut self)
         ensures { self.new ≡ edited dim self.old }
     {
@@ -113,6 +123,7 @@ impl Cell {
     }
 
     /// Sets the colours that are given, adds the added modifiers and then takes out the removed ones.
+    #[inline]
     pub fn set_style(&mut self, style: Style)
         ensures { self.new ≡ edited (dress style) self.old }
     {
@@ -120,17 +131,19 @@ impl Cell {
     }
 
     /// Makes the cell blank.
+    #[inline]
     pub fn reset(&mut self)
         ensures { self.new ≡ edited wipe self.old }
     {
         self.content = Content::Short(Attributes::at_rest(), blank_symbol());
     }
 
+    #[inline]
     pub(crate) fn set_short(&mut self, symbol: ArrayString<SHORT>)
         requires { 0 < length symbol.bytes }
         ensures { self.new ≡ edited (put symbol.bytes) self.old }
     {
-        self.content = Content::Short(self.content.attributes(), symbol);
+        self.content.set_short(symbol);
     }
 
     /// Sets a symbol that cells share.

@@ -1,9 +1,9 @@
 //! How a cell keeps what it shows.
 
-ghost use Rattle.std.specs.Prelude.{◌≡◌, ◌<◌, [], ◌∷◌, IsOk, IfOk, IfSome, None, length, string_bytes};
+ghost use Rattle.std.specs.Prelude.{◌≡◌, ◌<◌, [], ◌∷◌, IsOk, IfOk, IfSome, None, OnErr, OnOk, length, string_bytes};
 ghost use Rattle.std.specs.Char.{encode_utf8};
 ghost use Rattle.tui_cells.specs.Attributes.{content_look, look_of};
-ghost use Rattle.tui_cells.specs.Cell.{IsLight, IsSymbol, dim, dressed, edited, space, symbol_of};
+ghost use Rattle.tui_cells.specs.Cell.{IsLight, dim, dressed, edited, put, space, symbol_of};
 
 use crate::attributes::Attributes;
 use crate::memory::Mem;
@@ -23,6 +23,7 @@ pub(crate) enum Content {
 }
 
 /// One blank in place of the empty text.
+#[inline]
 pub(crate) fn shown(symbol: &str) -> &str
     ensures { result.now ≡ symbol_of symbol.now }
 {
@@ -76,21 +77,45 @@ fn short_symbol(text: &str) -> Option<ArrayString<SHORT>>
 }
 
 impl Content {
-    pub(crate) fn of(alloc: Global, text: &str, attributes: Attributes) -> Mem<Content>
-        ensures ok { IfOk result (λ c. content_look c ≡ look_of (symbol_of text.now) attributes) }
-        ensures some { IfOk result (λ c. IsSymbol (content_look c).symbol) }
+    /// Sets the symbol; the empty text gives one blank. At NoMemory the content is as before.
+    #[inline]
+    pub(crate) fn set_symbol(&mut self, alloc: Global, text: &str) -> Mem<()>
+        ensures ok { OnOk result (content_look self.new ≡ edited (put text.now) (content_look self.old)) }
+        ensures err { OnErr result (self.new ≡ self.old) }
         ensures light { IsLight text.now → IsOk result }
     {
         let text = shown(text);
         match short_symbol(text) {
-            Some(short) => Ok(Content::Short(attributes, short)),
-            None => {
-                let text = String::from_str(alloc, text)?;
-                Ok(Content::Long(attributes, Rc::new(alloc, text)?))
+            Some(short) => {
+                self.set_short(short);
+                Ok(())
             }
+            None => self.set_long(alloc, text),
         }
     }
 
+    /// Sets a symbol of at most 8 bytes, in its place where the old one is short too.
+    #[inline]
+    pub(crate) fn set_short(&mut self, symbol: ArrayString<SHORT>)
+        ensures { content_look self.new ≡ record (content_look self.old) { symbol = symbol.bytes } }
+    {
+        match self {
+            Content::Short(_, place) => *place = symbol,
+            Content::Long(attributes, _) => *self = Content::Short(*attributes, symbol),
+        }
+    }
+
+    #[inline(never)]
+    fn set_long(&mut self, alloc: Global, text: &str) -> Mem<()>
+        ensures ok { OnOk result (content_look self.new ≡ record (content_look self.old) { symbol = text.now }) }
+        ensures err { OnErr result (self.new ≡ self.old) }
+    {
+        let text = String::from_str(alloc, text)?;
+        *self = Content::Long(self.attributes(), Rc::new(alloc, text)?);
+        Ok(())
+    }
+
+    #[inline]
     pub(crate) fn attributes(&self) -> Attributes
         ensures { look_of (content_look self.now).symbol result ≡ content_look self.now }
     {
@@ -100,6 +125,7 @@ impl Content {
         }
     }
 
+    #[inline]
     pub(crate) fn symbol(&self) -> &str
         ensures { result.now ≡ (content_look self.now).symbol }
     {
@@ -109,6 +135,7 @@ impl Content {
         }
     }
 
+    #[inline]
     pub(crate) fn set_style(&mut self, style: Style)
         ensures { content_look self.new ≡ dressed style (content_look self.old) }
     {

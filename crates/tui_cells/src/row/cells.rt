@@ -1,0 +1,106 @@
+//! Neighbouring cells.
+
+ghost use Rattle.std.specs.Prelude.{◌≡◌, ◌≤◌, ◌<◌, [], ℕ, IfOk, length, replicate, slice_index_or, vec_capacity};
+ghost use Rattle.tui_cells.specs.Buffer.{RowEdited, row_cells};
+ghost use Rattle.tui_cells.specs.Cell.{IsAtRest, blank, dim, dress, put, wipe};
+
+use crate::cell::Cell;
+use crate::content::SHORT;
+use crate::memory::Mem;
+use crate::style::Style;
+use arrayvec::ArrayString;
+use std::alloc::Global;
+
+/// So many blank cells.
+pub(crate) fn blank_cells(alloc: Global, width: u16) -> Mem<Vec<Cell>>
+    ensures { IfOk result (λ cells. cells.items ≡ replicate width blank) }
+{
+    let mut cells = Vec::with_capacity(alloc, width as usize)?;
+    make_blanks(&mut cells, alloc, width);
+    Ok(cells)
+}
+
+/// Makes the cells of a row if none of them is made.
+#[inline]
+pub(crate) fn make_cells(cells: &mut Vec<Cell>, alloc: Global, width: u16)
+    requires { cells.old.items ≡ [] → width ≤ vec_capacity cells.old }
+    ensures { cells.new.items ≡ row_cells width cells.old.items }
+{
+    if cells.is_empty() {
+        make_blanks(cells, alloc, width);
+    }
+}
+
+// The room is reserved, so no push fails.
+#[inline(never)]
+fn make_blanks(cells: &mut Vec<Cell>, alloc: Global, width: u16)
+    requires empty { cells.old.items ≡ [] }
+    requires room { width ≤ vec_capacity cells.old }
+    ensures { cells.new.items ≡ replicate width blank }
+{
+    for _i in 0..width {
+        match cells.push(Cell::new(alloc)) {
+            Ok(()) => {}
+            Err(_) => {}
+        }
+    }
+}
+
+/// The first place whose cell has a style, or the end.
+pub(crate) fn rest_end(cells: &[Cell]) -> usize
+    ensures within { result ≤ length cells.now }
+    ensures rest { (i : ℕ) → i < result → IsAtRest (slice_index_or cells.now i blank) }
+    ensures styled { result < length cells.now → IsAtRest (slice_index_or cells.now result blank) → ⊥ }
+{
+    'places: for place in 0..cells.len() {
+        if !cells[place].is_at_rest() {
+            return place;
+        }
+    }
+    cells.len()
+}
+
+/// Dims the cells from one place up to another.
+pub(crate) fn dim_cells(cells: &mut Vec<Cell>, from: usize, to: usize)
+    requires { (from ≤ to) × (to ≤ length cells.old.items) }
+    ensures { RowEdited from to dim cells.old.items cells.new.items }
+{
+    'cells: for i in from..to {
+        let cell = &mut cells[i];
+        cell.dim();
+    }
+}
+
+/// Sets a symbol in the cells from one place up to another.
+pub(crate) fn put_cells(cells: &mut Vec<Cell>, from: usize, to: usize, symbol: ArrayString<SHORT>)
+    requires within { (from ≤ to) × (to ≤ length cells.old.items) }
+    requires some { 0 < length symbol.bytes }
+    ensures { RowEdited from to (put symbol.bytes) cells.old.items cells.new.items }
+{
+    'cells: for i in from..to {
+        let cell = &mut cells[i];
+        cell.set_short(symbol);
+    }
+}
+
+/// Sets the style of the cells from one place up to another.
+pub(crate) fn dress_cells(cells: &mut Vec<Cell>, from: usize, to: usize, style: Style)
+    requires { (from ≤ to) × (to ≤ length cells.old.items) }
+    ensures { RowEdited from to (dress style) cells.old.items cells.new.items }
+{
+    'cells: for i in from..to {
+        let cell = &mut cells[i];
+        cell.set_style(style);
+    }
+}
+
+/// Makes the cells from one place up to another blank.
+pub(crate) fn wipe_cells(cells: &mut Vec<Cell>, from: usize, to: usize)
+    requires { (from ≤ to) × (to ≤ length cells.old.items) }
+    ensures { RowEdited from to wipe cells.old.items cells.new.items }
+{
+    'cells: for i in from..to {
+        let cell = &mut cells[i];
+        cell.reset();
+    }
+}
