@@ -1,17 +1,17 @@
 -- The runs of a row, found one after another from the left.
-use Rattle.std.proofs.Common.{◌≡◌, ◌≢◌, ℕ, ◌+◌, ◌-◌, ◌<◌, ◌≤◌, List, [], ◌∷◌, ◌++◌, length, get_or, drop, flat_map, add-one, Some, None, refl, sym, ◌∙◌, subst, inl, inr, arith}
+use Rattle.std.proofs.Common.{◌≡◌, ◌≢◌, ℕ, ◌+◌, ◌-◌, ◌<◌, ◌≤◌, List, [], ◌∷◌, ◌++◌, length, get_or, drop, flat_map, add-one, Some, None, refl, sym, ap, ◌∙◌, subst, inl, inr, arith, slice_index_or, option_map}
 use Rattle.std.specs.List.{All, AllPairs, Contains}
 use Rattle.std.proofs.lemmas.Bool.{cases_lt}
 use Rattle.std.proofs.Math.Seq.{drop-cons}
 use Rattle.std.proofs.lemmas.List.{drop_all}
 use Rattle.std.proofs.lemmas.List.Elements.{All-nil, All-push, All-weaker, Contains-append_left, Contains-push}
 use Rattle.std.proofs.lemmas.List.Quantifiers.{all_pairs_push}
-use Rattle.std.proofs.lemmas.Option.{slice_get_past}
+use Rattle.std.proofs.lemmas.Option.{slice_get-get_or, slice_get_past}
 use Rattle.tui_cells.specs.declared.attributes.Attributes.{Attributes}
-use Rattle.tui_cells.specs.Cell.{Look}
+use Rattle.tui_cells.specs.Cell.{IsAtRest, Look, blank, space}
 use Rattle.tui_port.specs.Laws.{IsInRun}
 use Rattle.tui_port.specs.Print.{AreRunLines, run_line}
-use Rattle.tui_port.specs.Runs.{StyleRun, IsStyleRun, AreStyleRuns, attributes_at, at_rest}
+use Rattle.tui_port.specs.Runs.{StyleRun, IsStyleRun, AreStyleRuns, attributes_at, attributes_of, at_rest}
 
 -- The runs that begin before a column, which no run crosses.
 pub record RunsBefore (row : List Look) (column : ℕ) (runs : List StyleRun) : Type 0 where
@@ -122,6 +122,35 @@ more_rest row s e a runs inv t rest =
         | inr le ↦ absurd (styled (some_one b a (sym is ∙ t.alike x le to) ∙ rest))
       ];
     }
+
+rest_attributes : (c : Look) → IsAtRest c → attributes_of c ≡ at_rest
+rest_attributes c is = ap attributes_of is
+
+attributes_rest : (c : Look) → attributes_of c ≡ at_rest → IsAtRest c
+attributes_rest c is = ap (λ (a : Attributes). record { symbol = space; fg = a.fg; bg = a.bg; modifier = a.modifier.bits }) is
+
+there : (row : List Look) (x : ℕ) → x < length row → attributes_at row x ≡ Some (attributes_of (slice_index_or row x blank))
+there row x lt = ap (option_map attributes_of) (slice_get-get_or row x blank lt)
+
+pub at_rest_at : (row : List Look) (x : ℕ) → x < length row → IsAtRest (slice_index_or row x blank) → attributes_at row x ≡ Some at_rest
+at_rest_at row x lt is = there row x lt ∙ ap Some (rest_attributes (slice_index_or row x blank) is)
+
+styled_at : (row : List Look) (x : ℕ) → (x < length row → IsAtRest (slice_index_or row x blank) → ⊥) → attributes_at row x ≢ Some at_rest
+styled_at row x styled e = elim (cases_lt x (length row)) [
+  | inl lt ↦ styled lt (attributes_rest (slice_index_or row x blank) (some_one _ _ (sym (there row x lt) ∙ e)))
+  | inr le ↦ past_end row x at_rest le e
+]
+
+-- no run begins before the first cell with a style
+pub rest_first : (row : List Look) (first : ℕ) → first ≤ length row → ((x : ℕ) → x < first → IsAtRest (slice_index_or row x blank)) →
+    (first < length row → IsAtRest (slice_index_or row first blank) → ⊥) → RunsBefore row first []
+rest_first row first le rest styled = elim (cases_lt 0 first) [
+  | inl lt ↦ more_rest row 0 first at_rest [] (no_runs row)
+      (record { some = lt; alike = λ x from to. at_rest_at row x (omega (arith, to, le)) (rest x to); other = styled_at row first styled }) refl
+  | inr none ↦
+      let zero : first ≡ 0 = omega (arith, none) in
+      rw zero (no_runs row)
+]
 
 -- one more run after the runs
 pub more_run : (row : List Look) (s e : ℕ) (a : Attributes) (runs : List StyleRun) → RunsBefore row s runs → IsStretch row s e a → a ≢ at_rest → RunsBefore row e (runs ++ run_of s e a ∷ [])

@@ -1,6 +1,7 @@
 //! The styles of the print.
 
-ghost use Rattle.std.specs.Prelude.{◌≡◌, ◌≢◌, ◌<◌, ◌≤◌, ◌↔◌, ◌⊎◌, ℕ, List, [], length, Some, IsTrue, flat_map};
+ghost use Rattle.std.specs.Prelude.{◌≡◌, ◌≢◌, ◌<◌, ◌≤◌, ◌↔◌, ◌⊎◌, ℕ, List, [], length, Some, IsTrue, flat_map, slice_index_or};
+ghost use Rattle.tui_cells.specs.Cell.{IsAtRest, blank};
 ghost use Rattle.tui_port.specs.Gathers.{Gathers};
 ghost use Rattle.tui_port.specs.Print.{AreRunLines, run_line};
 ghost use Rattle.tui_port.specs.Runs.{AreStyleRuns, StyleRun, at_rest, attributes_at};
@@ -16,16 +17,27 @@ pub(crate) fn put_runs<K: Sink>(gather: &mut Gather, buf: &Buffer, sink: &mut K)
         × Gathers (K.held sink.old) (K.held sink.new) (K.faults sink.old) (K.faults sink.new) gather.old gather.new text }
 {
     'rows: for number in 0..buf.height() {
-        put_row_runs(gather, number, buf.row_at(number), sink);
+        let first = buf.rest_end(number);
+        put_row_runs(gather, number, buf.row_at(number), first, sink);
     }
 }
 
-fn put_row_runs<K: Sink>(gather: &mut Gather, number: usize, row: &[Cell], sink: &mut K)
+// The cells before the first column are at rest.
+fn put_row_runs<K: Sink>(
+    gather: &mut Gather,
+    number: usize,
+    row: &[Cell],
+    first: usize,
+    sink: &mut K,
+)
+    requires within { first ≤ length row.now }
+    requires rest { (x : ℕ) → x < first → IsAtRest (slice_index_or row.now x blank) }
+    requires styled { first < length row.now → IsAtRest (slice_index_or row.now first blank) → ⊥ }
     ensures { (runs : List StyleRun) × AreStyleRuns row.now runs
         × Gathers (K.held sink.old) (K.held sink.new) (K.faults sink.old) (K.faults sink.new)
         gather.old gather.new (flat_map (run_line number) runs) }
 {
-    let mut start = 0;
+    let mut start = first;
     while start < row.len() {
         let attributes = attributes_in(row, start);
         let end = run_end(row, start, attributes);

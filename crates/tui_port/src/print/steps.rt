@@ -1,6 +1,6 @@
 //! The columns of symbols.
 
-ghost use Rattle.std.specs.Prelude.{◌≡◌};
+ghost use Rattle.std.specs.Prelude.{◌≡◌, [], ◌∷◌, IfSome};
 ghost use Rattle.tui_port.specs.Print.{step_of};
 
 use tui_text::cell_width;
@@ -21,17 +21,10 @@ impl<'a> Steps<'a> {
         }
     }
 
-    /// The columns from a cell with this symbol to the next one that shows. A printable byte takes
-    /// one column, which needs no look-up.
-    #[inline]
-    #[tactic(auto, using(crate::proofs::RowLemmas::one_column))]
+    /// The columns from a cell with this symbol to the next one that shows.
     pub(crate) fn step(&mut self, symbol: &'a str) -> usize
         ensures { result ≡ step_of symbol.now }
     {
-        let bytes = symbol.as_bytes();
-        if bytes.len() == 1 && 32 <= bytes[0] && bytes[0] <= 126 {
-            return 1;
-        }
         if symbol != self.symbol {
             *self = Steps {
                 symbol,
@@ -39,6 +32,17 @@ impl<'a> Steps<'a> {
             };
         }
         self.step
+    }
+}
+
+/// The byte of a symbol that is one printable byte. It takes one column, which needs no look-up.
+#[inline]
+pub(crate) fn plain_byte(symbol: &str) -> Option<u8>
+    ensures { IfSome result (λ byte. (symbol.now ≡ byte ∷ []) × (step_of symbol.now ≡ 1)) }
+{
+    match symbol.as_bytes() {
+        [byte] if 32 <= *byte && *byte <= 126 => Some(*byte),
+        _ => None,
     }
 }
 

@@ -2,11 +2,11 @@ use Rattle.std.proofs.Common.{arith, [], ◌∷◌, ◌++◌, rules, inl, inr}
 use Rattle.std.proofs.lemmas.List.{append-nil, flat_map_more}
 use Rattle.tui_port.specs.Print.{run_line}
 use Rattle.tui_port.proofs.Gathering.{Gathers-none, Gathers-then}
-use Rattle.tui_port.proofs.RunLemmas.{IsStretch, no_runs, run_of, more_rest, more_run, all_runs, stretch_of}
+use Rattle.tui_port.proofs.RunLemmas.{IsStretch, rest_first, run_of, more_rest, more_run, all_runs, stretch_of}
 use Rattle.tui_port.proofs.print.runs.put_row_runs.Goals as goal
 
 pub loop-start-init : goal.loop-start-init
-loop-start-init g c = (omega arith, ([], no_runs c.args.row.now, Gathers-none _ _ _))
+loop-start-init g c = (c.requires.within, ([], rest_first c.args.row.now c.args.first c.requires.within c.requires.rest c.requires.styled, Gathers-none _ _ _))
 
 pub loop-start-preserved : goal.loop-start-preserved
 loop-start-preserved g c =
