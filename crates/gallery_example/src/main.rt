@@ -8,9 +8,8 @@ mod months;
 mod texts;
 
 use std::alloc::Global;
-use tui::buffer::{Buffer, Mem};
+use tui::buffer::{Buffer, Mem, visible_cells};
 use tui::layout::Rect;
-use tui::text::cell_width;
 
 /// Each widget's name, and the columns and rows of its screen.
 const SCREENS: [(&str, u16, u16); 14] = [
@@ -45,13 +44,8 @@ fn main(rt: HostRuntime) -> anyhow::Result<()> {
 fn rows_of(alloc: Global, buffer: &Buffer) -> Mem<String> {
     let mut text = String::new(alloc);
     for y in 0..buffer.height() {
-        let mut covered = 0;
-        for cell in buffer.row_at(y) {
-            if covered == 0 {
-                text.push_str(cell.symbol())?;
-                covered = cell_width(cell.symbol());
-            }
-            covered = covered.saturating_sub(1);
+        for (_, cell) in visible_cells(buffer.row_at(y)) {
+            text.push_str(cell.symbol())?;
         }
         text.push('\n')?;
     }

@@ -1,22 +1,22 @@
 //! Wraps a text to 16 columns, centred, and prints the rows.
 #![tactic(auto)]
 
-use tui::buffer::Buffer;
+use tui::buffer::{Buffer, visible_cells};
 use tui::layout::Rect;
 use tui::text::Text;
 use tui::widgets::{Paragraph, Widget, Wrap};
 
 fn main(rt: HostRuntime) -> anyhow::Result<()> {
     let alloc = rt.alloc();
-    let text = Text::raw(alloc, "The quick brown fox jumps over the lazy dog.")?;
+    let text = Text::raw(alloc, "The quick brown fox says コンニチハ to the lazy dog.")?;
     let paragraph = Paragraph::new(text).wrap(Wrap { trim: true }).centered();
 
-    let area = Rect::new(0, 0, 16, 3);
+    let area = Rect::new(0, 0, 16, 4);
     let mut buffer = Buffer::empty(alloc, area)?;
     paragraph.render(alloc, area, &mut buffer)?;
 
     for row in 0..buffer.height() {
-        for cell in buffer.row_at(row) {
+        for (_, cell) in visible_cells(buffer.row_at(row)) {
             print!(rt; "{}", cell.symbol())?;
         }
         println!(rt; "")?;

@@ -2,7 +2,7 @@
 #![tactic(auto)]
 
 use std::alloc::Global;
-use tui::buffer::{Buffer, Mem};
+use tui::buffer::{Buffer, Mem, visible_cells};
 use tui::layout::{Alignment, Constraint, Fraction, Position, Rect};
 use tui::style::{Color, Modifier, Style};
 use tui::symbols::MergeStrategy;
@@ -19,7 +19,7 @@ fn main(rt: HostRuntime) -> anyhow::Result<()> {
     let mut buffer = Buffer::empty(alloc, area)?;
     draw_dialog(alloc, area, &mut buffer)?;
     for row in 0..buffer.height() {
-        for cell in buffer.row_at(row) {
+        for (_, cell) in visible_cells(buffer.row_at(row)) {
             print!(rt; "{}", cell.symbol())?;
         }
         println!(rt; "")?;

@@ -5,6 +5,7 @@ use std::test::Fail;
 use tui_cells::{Buffer, Color, Mem, Position, Rect, Style};
 use tui_text::{
     Alignment, Line, Span, Text, paint_line, paint_text, set_line, set_span, set_stringn,
+    symbol_columns, visible_cells,
 };
 
 /// The symbols of all cells, a row in each line.
@@ -91,5 +92,23 @@ fn a_text_is_painted_in_its_area(rt: HostRuntime) -> Result<(), Fail> {
     let text = Text::raw(alloc, "a\nbc\nd")?.alignment(Alignment::Right);
     paint_text(&mut buffer, clip, Rect::new(2, 0, 9, 9), &text)?;
     assert!(rt; symbols(alloc, &buffer)?.as_str() == "----a-\n---bc-\n------\n");
+    Ok(())
+}
+
+#[test]
+fn a_row_shows_without_what_wide_symbols_hide(rt: HostRuntime) -> Result<(), Fail> {
+    let alloc = rt.alloc();
+    let buffer = Buffer::from_rows(alloc, "aコ-ニ-b")?;
+    let mut text = String::new(alloc);
+    let mut columns = 0usize;
+    for row in 0..buffer.height() {
+        for (column, cell) in visible_cells(buffer.row_at(row)) {
+            text.push_str(cell.symbol())?;
+            columns = columns.saturating_mul(10).saturating_add(column);
+        }
+    }
+    assert!(rt; text.as_str() == "aコニb");
+    assert!(rt; columns == 135);
+    assert!(rt; symbol_columns("コ") == 2 && symbol_columns("") == 1);
     Ok(())
 }

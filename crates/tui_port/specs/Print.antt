@@ -1,10 +1,10 @@
 -- The print of a screen, in bytes.
-use Rattle.std.specs.Prelude.{◌≡◌, ℕ, zero, suc, ◌+◌, ◌-◌, ◌/◌, ◌%◌, max, List, [], ◌∷◌, ◌++◌, codes, decimal, flat_map, slice_index_or, Option, None, Some}
+use Rattle.std.specs.Prelude.{◌≡◌, ℕ, ◌+◌, ◌/◌, ◌%◌, List, [], ◌∷◌, ◌++◌, codes, decimal, flat_map, slice_index_or, Option, None, Some}
 use Rattle.tui_cells.specs.declared.color.Color.{Color}
 use Rattle.tui_cells.specs.declared.color.Color.TheVariants as colors
 use Rattle.tui_cells.specs.Cell.{Look}
 use Rattle.tui_cells.specs.Buffer.{Screen}
-use Rattle.tui_text.specs.Grapheme.{width_of}
+use Rattle.tui_text.specs.Visible.{Placed, visible}
 use Rattle.tui_scene.specs.Item.{ItemData, PlacedData, list, scrollbar, still, table}
 use Rattle.tui_port.specs.Runs.{StyleRun, AreStyleRuns}
 
@@ -12,19 +12,13 @@ use Rattle.tui_port.specs.Runs.{StyleRun, AreStyleRuns}
 abbrev pub newline : List ℕ
 newline = 10 ∷ []
 
--- the columns from a cell that shows to the next one: its width, but at least one
-unfoldable pub step_of : List ℕ → ℕ
-step_of symbol = max (width_of symbol) 1
+-- the symbols of cells, one after another
+abbrev pub symbols_of : List Placed → List ℕ
+symbols_of cells = flat_map (λ p. p.cell.symbol) cells
 
--- the symbols of the cells that show, where the first so many cells are hidden behind a wide symbol
-unfoldable pub symbols_of : ℕ → List Look → List ℕ
-symbols_of hidden [] = []
-symbols_of zero (c ∷ cs) = c.symbol ++ symbols_of (step_of c.symbol - 1) cs
-symbols_of (suc hidden) (c ∷ cs) = symbols_of hidden cs
-
--- the line of a row
+-- the line of a row: the symbols of the cells that show
 unfoldable pub row_line : List Look → List ℕ
-row_line row = codes "r " ++ (symbols_of 0 row ++ newline)
+row_line row = codes "r " ++ (symbols_of (visible row) ++ newline)
 
 -- a hexadecimal digit, and the two digits of a byte
 abbrev pub hex_digit : ℕ → ℕ

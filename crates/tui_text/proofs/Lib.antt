@@ -10,3 +10,4 @@ pub mod Settings
 pub mod TextRows
 pub mod Elements
 pub mod Computing
+pub mod ShownCells

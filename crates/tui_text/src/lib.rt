@@ -11,6 +11,7 @@ mod printable;
 pub mod setting;
 pub mod span;
 pub mod text;
+pub mod visible;
 pub mod width;
 
 pub use alignment::Alignment;
@@ -21,4 +22,5 @@ pub use painting::{below, paint_line, paint_row, paint_rows, paint_spans, paint_
 pub use setting::{set_line, set_line_in, set_span, set_span_in, set_stringn, set_stringn_in};
 pub use span::Span;
 pub use text::Text;
+pub use visible::{VisibleCells, symbol_columns, visible_cells};
 pub use width::cell_width;

@@ -1,9 +1,9 @@
 //! The columns of symbols.
 
 ghost use Rattle.std.specs.Prelude.{◌≡◌, [], ◌∷◌, IfSome};
-ghost use Rattle.tui_port.specs.Print.{step_of};
+ghost use Rattle.tui_text.specs.Visible.{step_of};
 
-use tui_text::cell_width;
+use tui_text::symbol_columns;
 
 /// The step of the last symbol that was looked up, since the next one is often the same.
 #[derive(Clone, Copy)]
@@ -17,7 +17,7 @@ impl<'a> Steps<'a> {
     pub(crate) fn new() -> Steps<'a> {
         Steps {
             symbol: " ",
-            step: look_up(" "),
+            step: symbol_columns(" "),
         }
     }
 
@@ -28,7 +28,7 @@ impl<'a> Steps<'a> {
         if symbol != self.symbol {
             *self = Steps {
                 symbol,
-                step: look_up(symbol),
+                step: symbol_columns(symbol),
             };
         }
         self.step
@@ -44,11 +44,4 @@ pub(crate) fn plain_byte(symbol: &str) -> Option<u8>
         [byte] if 32 <= *byte && *byte <= 126 => Some(*byte),
         _ => None,
     }
-}
-
-#[tactic(auto, unfolding(crate::specs::Print::step_of))]
-fn look_up(symbol: &str) -> usize
-    ensures { result ≡ step_of symbol.now }
-{
-    (cell_width(symbol) as usize).max(1)
 }

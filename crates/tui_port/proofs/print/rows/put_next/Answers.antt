@@ -1,5 +1,6 @@
 use Rattle.std.proofs.Common.{arith}
-use Rattle.tui_port.proofs.RowLemmas.{row_step, some_step}
+use Rattle.tui_text.proofs.ShownCells.{some_step}
+use Rattle.tui_port.proofs.RowLemmas.{row_step}
 use Rattle.tui_port.proofs.print.rows.put_next.Goals as goal
 
 pub returns-clause-within : goal.returns-clause-within
@@ -13,4 +14,4 @@ returns-clause-put g c =
     let cell = c.index-row-column.result in
     let text = rw (c.as_bytes.ensures.value, c.symbol-symbol.ensures.is) at c.extend-2.ensures in
     let step = rw (c.step.ensures, c.symbol-symbol.ensures.is) at c.min.ensures in
-    (cell.symbol, row_step c.args.row.now c.args.column c.min.result cell c.requires c.index-row-column.is step (some_step cell.symbol), text)
+    (cell.symbol, row_step c.args.row.now c.args.column c.min.result cell c.requires c.index-row-column.is step, text)
