@@ -16,10 +16,6 @@ pub struct VisibleCells<'r> {
 
 /// The cells of a row that show, from the left, each behind its column, which counts from 0. A symbol of several columns
 /// hides the cells behind it, which are left out; a symbol without a width counts as one column wide. Takes no memory.
-///
-/// ```text
-/// for (column, cell) in visible_cells(buffer.row_at(0)) { .. }
-/// ```
 #[tactic(auto, unfolding(crate::specs::Visible::visible_left))]
 pub fn visible_cells<'r>(row: &'r [Cell]) -> VisibleCells<'r>
     ensures { visible_left result ≡ visible row.now }
