@@ -22,3 +22,6 @@ returns-clause-kept c =
     (KeptOutside-then c.in_ok-end.ensures.kept
     (KeptOutside-then (KeptOutside-weaker (λ x y out. outside_both c.args.inner _ x y out) (rw c.used_columns.ensures at c.dress_if.ensures.kept))
     c.set_line_in-3.ensures.kept))
+
+pub returns-in_err-end-clause-kept : goal.returns-in_err-end-clause-kept
+returns-in_err-end-clause-kept c = KeptOutside-then c.in_ok-start.ensures.kept c.in_err-end.ensures.kept
