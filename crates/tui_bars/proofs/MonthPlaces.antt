@@ -1,5 +1,41 @@
 -- The places of a month and the calendar's days.
-use Rattle.std.proofs.Common.{◌≡◌, ℕ, zero, suc, ◌+◌, ◌-◌, ◌*◌, ◌/◌, ◌%◌, ◌<◌, ◌≤◌, ◌==◌, nat_lt, Bool, true, false, refl, sym, ap, ◌∙◌, subst, arith, rules, tests, ℤ, pos, negsuc, neg_ℤ, ◌+ℤ◌, ◌-ℤ◌, ◌<ℤ◌, Option, None, Some, if◌then◌else◌}
+use Rattle.std.proofs.Common.{
+  ◌≡◌,
+  ℕ,
+  zero,
+  suc,
+  ◌+◌,
+  ◌-◌,
+  ◌*◌,
+  ◌/◌,
+  ◌%◌,
+  ◌<◌,
+  ◌≤◌,
+  ◌==◌,
+  nat_lt,
+  Bool,
+  true,
+  false,
+  refl,
+  sym,
+  ap,
+  ◌∙◌,
+  subst,
+  arith,
+  rules,
+  tests,
+  ℤ,
+  pos,
+  negsuc,
+  neg_ℤ,
+  ◌+ℤ◌,
+  ◌-ℤ◌,
+  ◌<ℤ◌,
+  Option,
+  None,
+  Some,
+  if◌then◌else◌,
+}
 use Rattle.std.specs.Prelude.{int_le}
 use Rattle.std.proofs.lemmas.Bool.Decides.{nat_tests}
 use Rattle.jiff.specs.Words.{IsEpochDay, days_in_month}
@@ -7,7 +43,16 @@ use Rattle.jiff_core.specs.Calendar.{IsCivilDate, days_from_civil}
 use Rattle.jiff_core.specs.declared.civil.date.Date.{Date as Plain}
 use Rattle.jiff_core.proofs.SignedLemmas.{signed_arith}
 use Rattle.jiff_core.proofs.CalendarLemmas.{days_in_month_bounds}
-use Rattle.jiff_core.proofs.DateLemmas.{days_from_civil-day, days_from_civil-next_month, days_from_civil-next_year, days_from_civil-min, days_from_civil-max, epoch_day_injective, epoch_day_range, weekday_number-day}
+use Rattle.jiff_core.proofs.DateLemmas.{
+  days_from_civil-day,
+  days_from_civil-next_month,
+  days_from_civil-next_year,
+  days_from_civil-min,
+  days_from_civil-max,
+  epoch_day_injective,
+  epoch_day_range,
+  weekday_number-day,
+}
 use Rattle.tui_bars.specs.Month.{DateData, IsDay, IsMonth, after_sunday, date_of, days_of, lead_of, nth_after, nth_before, place_of, place_of_day, start_of, weeks_of}
 
 same_parts : (a b : DateData) → a.year ≡ b.year → a.month ≡ b.month → a.day ≡ b.day → Some a ≡ Some b

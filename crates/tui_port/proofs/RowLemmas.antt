@@ -1,5 +1,38 @@
 -- Rows of the print.
-use Rattle.std.proofs.Common.{◌≡◌, ℕ, zero, suc, ◌+◌, ◌-◌, ◌<◌, ◌≤◌, List, [], ◌∷◌, ◌++◌, length, get_or, drop, take, slice_index_or, flat_map, refl, ap, sym, ◌∙◌, add-one, min, inl, inr, append_assoc, slice_set, arith, rules, false, true}
+use Rattle.std.proofs.Common.{
+  ◌≡◌,
+  ℕ,
+  zero,
+  suc,
+  ◌+◌,
+  ◌-◌,
+  ◌<◌,
+  ◌≤◌,
+  List,
+  [],
+  ◌∷◌,
+  ◌++◌,
+  length,
+  get_or,
+  drop,
+  take,
+  slice_index_or,
+  flat_map,
+  refl,
+  ap,
+  sym,
+  ◌∙◌,
+  add-one,
+  min,
+  inl,
+  inr,
+  append_assoc,
+  slice_set,
+  arith,
+  rules,
+  false,
+  true,
+}
 use Rattle.std.proofs.lemmas.List.{drop_all, drop-drop, append-nil, take_more_set}
 use Rattle.std.proofs.lemmas.Bool.{cases_lt}
 use Rattle.std.proofs.lemmas.Grind.{flat_map-append}
