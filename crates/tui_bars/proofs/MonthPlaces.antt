@@ -85,7 +85,9 @@ december year n false e c low high =
     (((omega (arith, signed_arith), omega (arith, signed_arith)), (omega arith, omega arith), (omega arith, omega arith)), omega (arith, signed_arith, next, within))
 
 earlier : (year : ℤ) (month n : ℕ) (b : Bool) → (month == 1) ≡ b → IsCivilDate year month 1 → 1 ≤ n → n ≤ 28 →
-    IsDay (days_from_civil year month 1 -ℤ pos n) (if b then (if int_le year (negsuc 9998) then None else Some (date_of (year -ℤ pos 1) 12 (32 - n))) else Some (date_of year (month - 1) (days_in_month year (month - 1) + 1 - n)))
+    IsDay (days_from_civil year month 1 -ℤ pos n)
+    (if b then (if int_le year (negsuc 9998) then None else Some (date_of (year -ℤ pos 1) 12 (32 - n)))
+    else Some (date_of year (month - 1) (days_in_month year (month - 1) + 1 - n)))
 earlier year month n true e c low high =
     let january : month ≡ 1 = grind (arith, nat_tests) in
     rw january (december year n (int_le year (negsuc 9998)) refl (rw january at c) low high)
@@ -115,7 +117,8 @@ january year n false e c low high =
     (((omega (arith, signed_arith), omega (arith, signed_arith)), (omega arith, omega arith), (low, omega arith)), omega (arith, signed_arith, next, within))
 
 later : (year : ℤ) (month n : ℕ) (b : Bool) → (month == 12) ≡ b → IsCivilDate year month 1 → 1 ≤ n → n ≤ 28 →
-    IsDay (days_from_civil year month (days_in_month year month) +ℤ pos n) (if b then (if int_le (pos 9999) year then None else Some (date_of (year +ℤ pos 1) 1 n)) else Some (date_of year (month + 1) n))
+    IsDay (days_from_civil year month (days_in_month year month) +ℤ pos n)
+    (if b then (if int_le (pos 9999) year then None else Some (date_of (year +ℤ pos 1) 1 n)) else Some (date_of year (month + 1) n))
 later year month n true e c low high =
     let december : month ≡ 12 = grind (arith, nat_tests) in
     rw december (january year n (int_le (pos 9999) year) refl (rw december at c) low high)

@@ -163,7 +163,8 @@ to_end_in_row b c strip (t ∷ ts) one = StayIn-append (to_end_in_row b c strip 
 cut_in_row : (b : BlockData) (c strip : Rect) (cut column : ℕ) (ts : List LineData) → strip.height ≤ 1 → StayIn (λ x y. y == strip.y) (titles_cut b c strip cut column ts)
 unfolding titles_cut
 cut_in_row b c strip cut column [] one = StayIn-none
-cut_in_row b c strip cut column (t ∷ ts) one = StayIn-append (title_in_row b c strip _ _ _ t one) (cut_in_row b c strip cut (column + (min (title_width t) (strip.width - column) - (cut - column)) + 1) ts one)
+cut_in_row b c strip cut column (t ∷ ts) one = StayIn-append (title_in_row b c strip _ _ _ t one)
+    (cut_in_row b c strip cut (column + (min (title_width t) (strip.width - column) - (cut - column)) + 1) ts one)
 
 middle_by : (b : BlockData) (c strip : Rect) (ts : List LineData) (fits : Bool) → strip.height ≤ 1 →
     StayIn (λ x y. y == strip.y)
