@@ -51,7 +51,16 @@ fn weeks_begin_on_sunday(rt: HostRuntime) -> Result<(), Fail> {
     assert!(rt; april.width() == 21 && april.height() == 8);
     assert_eq!(rt;
         drawn(alloc, &april, 21, 8)?.as_str(),
-        "     April 2023      \n Su Mo Tu We Th Fr Sa\n                    1\n  2  3  4  5  6  7  8\n  9 10 11 12 13 14 15\n 16 17 18 19 20 21 22\n 23 24 25 26 27 28 29\n 30                  \n"
+        concat!(
+            "     April 2023      \n",
+            " Su Mo Tu We Th Fr Sa\n",
+            "                    1\n",
+            "  2  3  4  5  6  7  8\n",
+            "  9 10 11 12 13 14 15\n",
+            " 16 17 18 19 20 21 22\n",
+            " 23 24 25 26 27 28 29\n",
+            " 30                  \n"
+        )
     );
     // The headers come first where rows are few, and a day is cut where its columns end.
     assert_eq!(rt;

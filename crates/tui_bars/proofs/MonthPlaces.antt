@@ -1,5 +1,41 @@
 -- The places of a month and the calendar's days.
-use Rattle.std.proofs.Common.{◌≡◌, ℕ, zero, suc, ◌+◌, ◌-◌, ◌*◌, ◌/◌, ◌%◌, ◌<◌, ◌≤◌, ◌==◌, nat_lt, Bool, true, false, refl, sym, ap, ◌∙◌, subst, arith, rules, tests, ℤ, pos, negsuc, neg_ℤ, ◌+ℤ◌, ◌-ℤ◌, ◌<ℤ◌, Option, None, Some, if◌then◌else◌}
+use Rattle.std.proofs.Common.{
+  ◌≡◌,
+  ℕ,
+  zero,
+  suc,
+  ◌+◌,
+  ◌-◌,
+  ◌*◌,
+  ◌/◌,
+  ◌%◌,
+  ◌<◌,
+  ◌≤◌,
+  ◌==◌,
+  nat_lt,
+  Bool,
+  true,
+  false,
+  refl,
+  sym,
+  ap,
+  ◌∙◌,
+  subst,
+  arith,
+  rules,
+  tests,
+  ℤ,
+  pos,
+  negsuc,
+  neg_ℤ,
+  ◌+ℤ◌,
+  ◌-ℤ◌,
+  ◌<ℤ◌,
+  Option,
+  None,
+  Some,
+  if◌then◌else◌,
+}
 use Rattle.std.specs.Prelude.{int_le}
 use Rattle.std.proofs.lemmas.Bool.Decides.{nat_tests}
 use Rattle.jiff.specs.Words.{IsEpochDay, days_in_month}
@@ -7,7 +43,16 @@ use Rattle.jiff_core.specs.Calendar.{IsCivilDate, days_from_civil}
 use Rattle.jiff_core.specs.declared.civil.date.Date.{Date as Plain}
 use Rattle.jiff_core.proofs.SignedLemmas.{signed_arith}
 use Rattle.jiff_core.proofs.CalendarLemmas.{days_in_month_bounds}
-use Rattle.jiff_core.proofs.DateLemmas.{days_from_civil-day, days_from_civil-next_month, days_from_civil-next_year, days_from_civil-min, days_from_civil-max, epoch_day_injective, epoch_day_range, weekday_number-day}
+use Rattle.jiff_core.proofs.DateLemmas.{
+  days_from_civil-day,
+  days_from_civil-next_month,
+  days_from_civil-next_year,
+  days_from_civil-min,
+  days_from_civil-max,
+  epoch_day_injective,
+  epoch_day_range,
+  weekday_number-day,
+}
 use Rattle.tui_bars.specs.Month.{DateData, IsDay, IsMonth, after_sunday, date_of, days_of, lead_of, nth_after, nth_before, place_of, place_of_day, start_of, weeks_of}
 
 same_parts : (a b : DateData) → a.year ≡ b.year → a.month ≡ b.month → a.day ≡ b.day → Some a ≡ Some b
@@ -40,7 +85,9 @@ december year n false e c low high =
     (((omega (arith, signed_arith), omega (arith, signed_arith)), (omega arith, omega arith), (omega arith, omega arith)), omega (arith, signed_arith, next, within))
 
 earlier : (year : ℤ) (month n : ℕ) (b : Bool) → (month == 1) ≡ b → IsCivilDate year month 1 → 1 ≤ n → n ≤ 28 →
-    IsDay (days_from_civil year month 1 -ℤ pos n) (if b then (if int_le year (negsuc 9998) then None else Some (date_of (year -ℤ pos 1) 12 (32 - n))) else Some (date_of year (month - 1) (days_in_month year (month - 1) + 1 - n)))
+    IsDay (days_from_civil year month 1 -ℤ pos n)
+    (if b then (if int_le year (negsuc 9998) then None else Some (date_of (year -ℤ pos 1) 12 (32 - n)))
+    else Some (date_of year (month - 1) (days_in_month year (month - 1) + 1 - n)))
 earlier year month n true e c low high =
     let january : month ≡ 1 = grind (arith, nat_tests) in
     rw january (december year n (int_le year (negsuc 9998)) refl (rw january at c) low high)
@@ -70,7 +117,8 @@ january year n false e c low high =
     (((omega (arith, signed_arith), omega (arith, signed_arith)), (omega arith, omega arith), (low, omega arith)), omega (arith, signed_arith, next, within))
 
 later : (year : ℤ) (month n : ℕ) (b : Bool) → (month == 12) ≡ b → IsCivilDate year month 1 → 1 ≤ n → n ≤ 28 →
-    IsDay (days_from_civil year month (days_in_month year month) +ℤ pos n) (if b then (if int_le (pos 9999) year then None else Some (date_of (year +ℤ pos 1) 1 n)) else Some (date_of year (month + 1) n))
+    IsDay (days_from_civil year month (days_in_month year month) +ℤ pos n)
+    (if b then (if int_le (pos 9999) year then None else Some (date_of (year +ℤ pos 1) 1 n)) else Some (date_of year (month + 1) n))
 later year month n true e c low high =
     let december : month ≡ 12 = grind (arith, nat_tests) in
     rw december (january year n (int_le (pos 9999) year) refl (rw december at c) low high)

@@ -1,5 +1,40 @@
 -- The walks of a bar chart.
-use Rattle.std.proofs.Common.{◌≡◌, ℕ, ◌+◌, ◌-◌, ◌<◌, ◌≤◌, ◌==◌, Bool, true, false, not, List, [], ◌∷◌, map, take, drop, length, get_or, if◌then◌else◌, refl, ◌∙◌, ap, subst, sym, arith, Result, OnOk, Option, Some, None, option_map, add-one, drop-cons}
+use Rattle.std.proofs.Common.{
+  ◌≡◌,
+  ℕ,
+  ◌+◌,
+  ◌-◌,
+  ◌<◌,
+  ◌≤◌,
+  ◌==◌,
+  Bool,
+  true,
+  false,
+  not,
+  List,
+  [],
+  ◌∷◌,
+  map,
+  take,
+  drop,
+  length,
+  get_or,
+  if◌then◌else◌,
+  refl,
+  ◌∙◌,
+  ap,
+  subst,
+  sym,
+  arith,
+  Result,
+  OnOk,
+  Option,
+  Some,
+  None,
+  option_map,
+  add-one,
+  drop-cons,
+}
 use Rattle.std.specs.Prelude.{filter, flat_map}
 use Rattle.std.specs.List.{list_any}
 use Rattle.std.specs.Option.{is_some}

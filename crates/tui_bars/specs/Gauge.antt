@@ -1,5 +1,29 @@
 -- A gauge as plain data, and its strokes.
-use Rattle.std.specs.Prelude.{⊤, ℕ, ◌+◌, ◌-◌, ◌/◌, ◌==◌, ◌&&◌, min, nat_lt, Bool, false, List, [], ◌∷◌, ◌++◌, Some, None, Option, option_map, unwrap_or, codes, decimal, if◌then◌else◌}
+use Rattle.std.specs.Prelude.{
+  ⊤,
+  ℕ,
+  ◌+◌,
+  ◌-◌,
+  ◌/◌,
+  ◌==◌,
+  ◌&&◌,
+  min,
+  nat_lt,
+  Bool,
+  false,
+  List,
+  [],
+  ◌∷◌,
+  ◌++◌,
+  Some,
+  None,
+  Option,
+  option_map,
+  unwrap_or,
+  codes,
+  decimal,
+  if◌then◌else◌,
+}
 use Rattle.tui_cells.specs.declared.color.Color.TheVariants.{Reset}
 use Rattle.tui_cells.specs.declared.position.Position.{Position}
 use Rattle.tui_cells.specs.declared.rect.Rect.{Rect}

@@ -1,5 +1,29 @@
 -- The strokes of bars that lie below each other.
-use Rattle.std.specs.Prelude.{ℕ, zero, suc, ◌||◌, not, nat_le, slice_index, ◌+◌, ◌-◌, ◌*◌, ◌/◌, ◌&&◌, nat_lt, Bool, List, [], ◌++◌, length, drop, Option, None, Some, if◌then◌else◌}
+use Rattle.std.specs.Prelude.{
+  ℕ,
+  zero,
+  suc,
+  ◌||◌,
+  not,
+  nat_le,
+  slice_index,
+  ◌+◌,
+  ◌-◌,
+  ◌*◌,
+  ◌/◌,
+  ◌&&◌,
+  nat_lt,
+  Bool,
+  List,
+  [],
+  ◌++◌,
+  length,
+  drop,
+  Option,
+  None,
+  Some,
+  if◌then◌else◌,
+}
 use Rattle.tui_cells.specs.declared.rect.Rect.{Rect}
 use Rattle.tui_cells.specs.declared.style.Style.{Style}
 use Rattle.tui_cells.specs.Layers.{Layer}

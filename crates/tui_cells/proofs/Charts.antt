@@ -1,5 +1,41 @@
 -- The lookups of border symbols find what the table says.
-use Rattle.std.proofs.Common.{◌≡◌, Bor, ℕ, ◌+◌, ◌-◌, ◌<◌, ◌≤◌, Bool, true, false, ◌&&◌, ◌==◌, Option, Some, None, List, [], ◌∷◌, ◌⊎◌, inl, inr, length, map, get_or, nat_eq, nat_le, unwrap_or, is_some, if◌then◌else◌, refl, ◌∙◌, ap, sym, subst, arith}
+use Rattle.std.proofs.Common.{
+  ◌≡◌,
+  Bor,
+  ℕ,
+  ◌+◌,
+  ◌-◌,
+  ◌<◌,
+  ◌≤◌,
+  Bool,
+  true,
+  false,
+  ◌&&◌,
+  ◌==◌,
+  Option,
+  Some,
+  None,
+  List,
+  [],
+  ◌∷◌,
+  ◌⊎◌,
+  inl,
+  inr,
+  length,
+  map,
+  get_or,
+  nat_eq,
+  nat_le,
+  unwrap_or,
+  is_some,
+  if◌then◌else◌,
+  refl,
+  ◌∙◌,
+  ap,
+  sym,
+  subst,
+  arith,
+}
 use Rattle.std.proofs.lemmas.Bool.{agree_below, agree_below_at, and_parts, eqb-true, false≢true}
 use Rattle.std.proofs.lemmas.Bool.Decides.{nat_tests}
 use Rattle.std.proofs.lemmas.List.{get_or-map, length-map}

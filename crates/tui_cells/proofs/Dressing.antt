@@ -10,7 +10,8 @@ use Rattle.tui_cells.proofs.Painting.{Painted-same}
 
 -- a style that sets nothing leaves a cell as it is
 undressed : (s : Style) (c : Look) → s ≡ no_style → dressed s c ≡ c
-undressed s c e = ap (λ t. dressed t c) e ∙ ap (λ m. record { symbol = c.symbol; fg = c.fg; bg = c.bg; modifier = m }) (xor_zero_r (bit_or (bit_or c.modifier 0) 0) ∙ (or_zero_r (bit_or c.modifier 0) ∙ or_zero_r c.modifier))
+undressed s c e = ap (λ t. dressed t c) e ∙ ap (λ m. record { symbol = c.symbol; fg = c.fg; bg = c.bg; modifier = m })
+    (xor_zero_r (bit_or (bit_or c.modifier 0) 0) ∙ (or_zero_r (bit_or c.modifier 0) ∙ or_zero_r c.modifier))
 
 -- so its stroke changes nothing
 pub nothing_set : (R : ℕ → ℕ → Bool) (s : Style) (b : Screen) → s ≡ no_style → Painted (stroke R (dress s)) b b

@@ -1,5 +1,37 @@
 -- Laws of joining border symbols.
-use Rattle.std.proofs.Common.{◌≡◌, ◌⊎◌, inl, inr, ℕ, ◌≤◌, Bool, true, false, ◌&&◌, ◌||◌, ◌==◌, not, Option, Some, None, List, [], ◌∷◌, length, nat_le, unwrap_or, IsSome, is_some, nat_eq, subst, if◌then◌else◌, refl, ◌∙◌, ap, arith}
+use Rattle.std.proofs.Common.{
+  ◌≡◌,
+  ◌⊎◌,
+  inl,
+  inr,
+  ℕ,
+  ◌≤◌,
+  Bool,
+  true,
+  false,
+  ◌&&◌,
+  ◌||◌,
+  ◌==◌,
+  not,
+  Option,
+  Some,
+  None,
+  List,
+  [],
+  ◌∷◌,
+  length,
+  nat_le,
+  unwrap_or,
+  IsSome,
+  is_some,
+  nat_eq,
+  subst,
+  if◌then◌else◌,
+  refl,
+  ◌∙◌,
+  ap,
+  arith,
+}
 use Rattle.std.proofs.lemmas.Bool.{and_parts, false≢true, or_parts}
 use Rattle.std.proofs.lemmas.Bool.Decides.{nat_tests}
 use Rattle.std.specs.Cmp.Lexicographic.{pointwise}

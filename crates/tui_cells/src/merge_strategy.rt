@@ -3,7 +3,17 @@
 ghost use Rattle.std.specs.Prelude.{◌≡◌, None, Some};
 ghost use Rattle.tui_cells.specs.BoxDrawing.{known_arms};
 ghost use Rattle.tui_cells.specs.Cell.{IsLight, space};
-ghost use Rattle.tui_cells.specs.Merging.{EitherOrderJoins, EveryJoinExists, FuzzyAlwaysJoins, PlainSymbolsJoin, UnknownGivesNew, exact, fuzzy, fuzzy_for, merged};
+ghost use Rattle.tui_cells.specs.Merging.{
+  EitherOrderJoins,
+  EveryJoinExists,
+  FuzzyAlwaysJoins,
+  PlainSymbolsJoin,
+  UnknownGivesNew,
+  exact,
+  fuzzy,
+  fuzzy_for,
+  merged,
+};
 
 use crate::arms::Arms;
 use crate::box_drawing::{drawn_as, symbol_with};

@@ -1,5 +1,36 @@
 -- What a block leaves of the cells inside it.
-use Rattle.std.proofs.Common.{◌≡◌, ℕ, ◌+◌, ◌-◌, ◌/◌, ◌≤◌, min, Bool, true, false, ◌&&◌, ◌||◌, ◌==◌, not, nat_le, cond, List, [], ◌∷◌, ◌++◌, Option, Some, None, map, if◌then◌else◌, refl, ◌∙◌, ap, sym, arith}
+use Rattle.std.proofs.Common.{
+  ◌≡◌,
+  ℕ,
+  ◌+◌,
+  ◌-◌,
+  ◌/◌,
+  ◌≤◌,
+  min,
+  Bool,
+  true,
+  false,
+  ◌&&◌,
+  ◌||◌,
+  ◌==◌,
+  not,
+  nat_le,
+  cond,
+  List,
+  [],
+  ◌∷◌,
+  ◌++◌,
+  Option,
+  Some,
+  None,
+  map,
+  if◌then◌else◌,
+  refl,
+  ◌∙◌,
+  ap,
+  sym,
+  arith,
+}
 use Rattle.std.specs.List.{filter, list_any}
 use Rattle.std.proofs.lemmas.Bool.{and_parts}
 use Rattle.std.proofs.lemmas.Bool.Decides.{nat_tests}
@@ -20,7 +51,28 @@ use Rattle.tui_frames.specs.Borders.{bottom, has, left, right, top}
 use Rattle.tui_frames.specs.Laws.{InsideIsDressed}
 use Rattle.tui_frames.specs.Shadow.{ShadowData, in_shadow, kind_edits, shadow_area, shadow_layers}
 use Rattle.tui_frames.specs.Space.{bottom_edge, count, inner, past, top_edge}
-use Rattle.tui_frames.specs.Strokes.{block_layers, border_layers, column_side, corner_layers, corners_layers, frame_layers, last_column, last_row, place_of, row_at, row_side, row_titles, shadow_layers_if, sides_layers, strip_of, title_layers, titles_cut, titles_from, titles_in_middle, titles_to_end}
+use Rattle.tui_frames.specs.Strokes.{
+  block_layers,
+  border_layers,
+  column_side,
+  corner_layers,
+  corners_layers,
+  frame_layers,
+  last_column,
+  last_row,
+  place_of,
+  row_at,
+  row_side,
+  row_titles,
+  shadow_layers_if,
+  sides_layers,
+  strip_of,
+  title_layers,
+  titles_cut,
+  titles_from,
+  titles_in_middle,
+  titles_to_end,
+}
 use Rattle.tui_frames.specs.Titles.{has_title, is_in, is_on, title_width, titles_in, total}
 use Rattle.tui_frames.proofs.InBlock.{inner_out}
 use Rattle.tui_frames.specs.declared.title_position.TitlePosition.{TitlePosition}
@@ -111,7 +163,8 @@ to_end_in_row b c strip (t ∷ ts) one = StayIn-append (to_end_in_row b c strip 
 cut_in_row : (b : BlockData) (c strip : Rect) (cut column : ℕ) (ts : List LineData) → strip.height ≤ 1 → StayIn (λ x y. y == strip.y) (titles_cut b c strip cut column ts)
 unfolding titles_cut
 cut_in_row b c strip cut column [] one = StayIn-none
-cut_in_row b c strip cut column (t ∷ ts) one = StayIn-append (title_in_row b c strip _ _ _ t one) (cut_in_row b c strip cut (column + (min (title_width t) (strip.width - column) - (cut - column)) + 1) ts one)
+cut_in_row b c strip cut column (t ∷ ts) one = StayIn-append (title_in_row b c strip _ _ _ t one)
+    (cut_in_row b c strip cut (column + (min (title_width t) (strip.width - column) - (cut - column)) + 1) ts one)
 
 middle_by : (b : BlockData) (c strip : Rect) (ts : List LineData) (fits : Bool) → strip.height ≤ 1 →
     StayIn (λ x y. y == strip.y)

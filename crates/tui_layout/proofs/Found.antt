@@ -1,5 +1,33 @@
 -- The function gives the window.
-use Rattle.std.proofs.Common.{◌≡◌, ℕ, zero, suc, ◌+◌, ◌-◌, ◌<◌, ◌≤◌, ◌==◌, min, nat_le, nat_lt, Bool, true, false, if◌then◌else◌, List, length, get_or, refl, subst, inl, inr, arith, Option, Some, None}
+use Rattle.std.proofs.Common.{
+  ◌≡◌,
+  ℕ,
+  zero,
+  suc,
+  ◌+◌,
+  ◌-◌,
+  ◌<◌,
+  ◌≤◌,
+  ◌==◌,
+  min,
+  nat_le,
+  nat_lt,
+  Bool,
+  true,
+  false,
+  if◌then◌else◌,
+  List,
+  length,
+  get_or,
+  refl,
+  subst,
+  inl,
+  inr,
+  arith,
+  Option,
+  Some,
+  None,
+}
 use Rattle.std.proofs.lemmas.Bool.{cases_lt}
 use Rattle.std.proofs.lemmas.Bool.Decides.{nat_tests}
 use Rattle.tui_layout.specs.Sums.{total}

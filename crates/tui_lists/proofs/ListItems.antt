@@ -1,5 +1,39 @@
 -- Heights, rows and items, one more at a time.
-use Rattle.std.proofs.Common.{◌≡◌, ℕ, suc, ◌+◌, ◌-◌, ◌<◌, ◌≤◌, ◌==◌, ◌&&◌, ◌||◌, min, Bool, List, [], ◌∷◌, ◌++◌, map, drop, take, length, get_or, Option, Result, OnOk, if◌then◌else◌, refl, ◌∙◌, ap, sym, subst, arith, add-one, drop-cons}
+use Rattle.std.proofs.Common.{
+  ◌≡◌,
+  ℕ,
+  suc,
+  ◌+◌,
+  ◌-◌,
+  ◌<◌,
+  ◌≤◌,
+  ◌==◌,
+  ◌&&◌,
+  ◌||◌,
+  min,
+  Bool,
+  List,
+  [],
+  ◌∷◌,
+  ◌++◌,
+  map,
+  drop,
+  take,
+  length,
+  get_or,
+  Option,
+  Result,
+  OnOk,
+  if◌then◌else◌,
+  refl,
+  ◌∙◌,
+  ap,
+  sym,
+  subst,
+  arith,
+  add-one,
+  drop-cons,
+}
 use Rattle.std.proofs.lemmas.List.{get_or-map, length-map, take_more}
 use Rattle.tui_cells.specs.declared.rect.Rect.{Rect}
 use Rattle.tui_cells.specs.declared.style.Style.{Style}

@@ -1,5 +1,29 @@
 -- The strokes of a list stay in its footprint.
-use Rattle.std.specs.Prelude.{ℕ, zero, suc, ◌+◌, ◌-◌, ◌==◌, ◌&&◌, ◌||◌, min, max, Bool, true, false, List, [], ◌∷◌, drop, length, Option, None, Some, unwrap_or, if◌then◌else◌}
+use Rattle.std.specs.Prelude.{
+  ℕ,
+  zero,
+  suc,
+  ◌+◌,
+  ◌-◌,
+  ◌==◌,
+  ◌&&◌,
+  ◌||◌,
+  min,
+  max,
+  Bool,
+  true,
+  false,
+  List,
+  [],
+  ◌∷◌,
+  drop,
+  length,
+  Option,
+  None,
+  Some,
+  unwrap_or,
+  if◌then◌else◌,
+}
 use Rattle.tui_cells.specs.declared.rect.Rect.{Rect}
 use Rattle.tui_cells.specs.Cell.{dress, put, space}
 use Rattle.tui_cells.specs.Layers.{Layer, StayIn}

@@ -1,5 +1,30 @@
 -- The strokes of a list.
-use Rattle.std.specs.Prelude.{ℕ, zero, suc, ◌+◌, ◌-◌, ◌==◌, ◌&&◌, ◌||◌, min, max, Bool, List, [], ◌∷◌, ◌++◌, drop, length, is_some, Option, None, Some, unwrap_or, false, if◌then◌else◌}
+use Rattle.std.specs.Prelude.{
+  ℕ,
+  zero,
+  suc,
+  ◌+◌,
+  ◌-◌,
+  ◌==◌,
+  ◌&&◌,
+  ◌||◌,
+  min,
+  max,
+  Bool,
+  List,
+  [],
+  ◌∷◌,
+  ◌++◌,
+  drop,
+  length,
+  is_some,
+  Option,
+  None,
+  Some,
+  unwrap_or,
+  false,
+  if◌then◌else◌,
+}
 use Rattle.tui_cells.specs.declared.rect.Rect.{Rect}
 use Rattle.tui_cells.specs.Cell.{dress, put, space}
 use Rattle.tui_cells.specs.Layers.{Layer, over, stroke}

@@ -70,7 +70,9 @@ tabs_layers t clip =
 used_stays : (inner : Rect) (start end : ℕ) (style : Style) (is_selected : Bool) →
     StayIn (covers inner) (if is_selected then stroke (covers (used_columns inner start end)) (dress style) else [])
 used_stays inner start end style is_selected =
-    StayIn-wider (λ x y out. outside_both inner (cells_at start inner.y (end - start)) x y out) (highlight_stays (used_columns inner start end) style is_selected)
+    StayIn-wider
+    (λ x y out. outside_both inner (cells_at start inner.y (end - start)) x y out)
+    (highlight_stays (used_columns inner start end) style is_selected)
 
 pub tab_stays : (t : TabsData) (inner : Rect) (x : ℕ) (is_selected : Bool) (title : LineData) → StayIn (covers inner) (tab_layers t inner x is_selected title)
 unfolding tab_layers

@@ -29,7 +29,8 @@ unfolding items_of
 items_more front i vs v x lt is h =
     ap (λ ds. after front (items_of i ds)) (items_view-drop vs i v lt is) ∙ rw h (after-one front x (items_of (i + 1) (items_view (drop (i + 1) vs))))
 
-pub items_err : (e : SceneError) (front : List PlacedData) (i : ℕ) (vs : List Value) (v : Value) (total : Result (List PlacedData) Refusal) → i < length vs → v ≡ get_or vs i v → Refuses e (item_of i (view v))
+pub items_err : (e : SceneError) (front : List PlacedData) (i : ℕ) (vs : List Value) (v : Value) (total : Result (List PlacedData) Refusal) →
+    i < length vs → v ≡ get_or vs i v → Refuses e (item_of i (view v))
     → after front (items_of i (items_view (drop i vs))) ≡ total → Refuses e total
 unfolding items_of
 items_err errors.NoMemory front i vs v total lt is h so_far = tt

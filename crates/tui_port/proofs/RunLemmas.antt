@@ -1,5 +1,34 @@
 -- The runs of a row, found one after another from the left.
-use Rattle.std.proofs.Common.{◌≡◌, ◌≢◌, ℕ, ◌+◌, ◌-◌, ◌<◌, ◌≤◌, List, [], ◌∷◌, ◌++◌, length, get_or, drop, flat_map, add-one, Some, None, refl, sym, ap, ◌∙◌, subst, inl, inr, arith, slice_index_or, option_map}
+use Rattle.std.proofs.Common.{
+  ◌≡◌,
+  ◌≢◌,
+  ℕ,
+  ◌+◌,
+  ◌-◌,
+  ◌<◌,
+  ◌≤◌,
+  List,
+  [],
+  ◌∷◌,
+  ◌++◌,
+  length,
+  get_or,
+  drop,
+  flat_map,
+  add-one,
+  Some,
+  None,
+  refl,
+  sym,
+  ap,
+  ◌∙◌,
+  subst,
+  inl,
+  inr,
+  arith,
+  slice_index_or,
+  option_map,
+}
 use Rattle.std.specs.List.{All, AllPairs, Contains}
 use Rattle.std.proofs.lemmas.Bool.{cases_lt}
 use Rattle.std.proofs.Math.Seq.{drop-cons}
@@ -173,7 +202,8 @@ more_run row s e a runs inv t styled =
     }
 
 -- two runs with a common column are one run
-earlier_start : (row : List Look) (run other : StyleRun) (x : ℕ) → IsStyleRun row run → IsStyleRun row other → IsInRun run x → IsInRun other x → run.attributes ≡ other.attributes → other.start < run.start → ⊥
+earlier_start : (row : List Look) (run other : StyleRun) (x : ℕ) → IsStyleRun row run → IsStyleRun row other → IsInRun run x → IsInRun other x →
+    run.attributes ≡ other.attributes → other.start < run.start → ⊥
 earlier_start row run other x is are in_run in_other same lt =
     let y : ℕ = run.start - 1 in
     let from = in_run.0 in
@@ -211,7 +241,8 @@ all_runs row column runs inv le = record {
 }
 
 -- a stretch begins at each cell
-pub stretch_of : (row : List Look) (s e : ℕ) (a : Attributes) → attributes_at row s ≡ Some a → s ≤ e → ((x : ℕ) → s ≤ x → x < e → attributes_at row x ≡ Some a) → attributes_at row e ≢ Some a → IsStretch row s e a
+pub stretch_of : (row : List Look) (s e : ℕ) (a : Attributes) → attributes_at row s ≡ Some a → s ≤ e →
+    ((x : ℕ) → s ≤ x → x < e → attributes_at row x ≡ Some a) → attributes_at row e ≢ Some a → IsStretch row s e a
 stretch_of row s e a first le alike other = record {
   some = elim (cases_lt s e) [
     | inl lt ↦ lt

@@ -100,7 +100,8 @@ stretch_end row s a first (suc left) x le from alike = elim (cases_lt x (length 
 ]
 
 -- the runs from a column on are found one after another
-find_runs : (row : List Look) (left column : ℕ) (runs : List StyleRun) → length row ≤ column + left → RunsBefore row column runs → (found : List StyleRun) × AreStyleRuns row found × ((end : ℕ) × RunsBefore row end found × (length row ≤ end))
+find_runs : (row : List Look) (left column : ℕ) (runs : List StyleRun) → length row ≤ column + left → RunsBefore row column runs →
+    (found : List StyleRun) × AreStyleRuns row found × ((end : ℕ) × RunsBefore row end found × (length row ≤ end))
 find_runs row zero column runs le inv = (runs, all_runs row column runs inv (omega arith), (column, inv, omega arith))
 find_runs row (suc left) column runs le inv = elim (cases_lt column (length row)) [
   | inl lt ↦

@@ -7,7 +7,8 @@ pub record Gathered : Type 0 where
   pub bytes : List ℕ
   pub going : Bool
 
--- Some bytes were handed in after those that were gathered. As long as no put fails, the bytes that were put and those that are gathered now are all of them, in order.
+-- Some bytes were handed in after those that were gathered. As long as no put fails, the bytes that were put and those that are
+-- gathered now are all of them, in order.
 abbrev pub Passes : Option (List ℕ) → Option (List ℕ) → ℕ → ℕ → Bool → Bool → List ℕ → List ℕ → List ℕ → Type 0
 Passes old new faults then_faults true true before now bytes =
     (done : List ℕ) × Puts old new faults then_faults true true done × (before ++ bytes ≡ done ++ now)

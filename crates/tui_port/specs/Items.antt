@@ -13,7 +13,25 @@ pub mod Paragraph
 pub mod Names
 use Rattle.std.specs.Prelude.{ℕ, ◌+◌, List, [], ◌∷◌, Option, Some, None, Result, Ok, Err}
 use Rattle.serde_json.specs.Data.{Data, Items, no_items, item}
-use Rattle.tui_scene.specs.Item.{ItemData, PlacedData, bar_chart, block, clear, fill, gauge, line_gauge, list, logo, monthly, paragraph, scrollbar, sparkline, still, table, tabs}
+use Rattle.tui_scene.specs.Item.{
+  ItemData,
+  PlacedData,
+  bar_chart,
+  block,
+  clear,
+  fill,
+  gauge,
+  line_gauge,
+  list,
+  logo,
+  monthly,
+  paragraph,
+  scrollbar,
+  sparkline,
+  still,
+  table,
+  tabs,
+}
 use Rattle.tui_port.specs.declared.field.Field.TheVariants as fields
 use Rattle.tui_port.specs.declared.items.widget.Widget.{Widget}
 use Rattle.tui_port.specs.declared.items.widget.Widget.TheVariants as widgets

@@ -23,4 +23,5 @@ CellsHaveRuns = (row : List Look) (column : ℕ) (a : Attributes) → attributes
 
 -- a buffer and its widgets have exactly one print
 abbrev pub PrintIsUnique : Type 0
-PrintIsUnique = (screen : Screen) (placed : List PlacedData) → (text : List ℕ) × IsPrint screen placed text × ((other : List ℕ) → IsPrint screen placed other → other ≡ text)
+PrintIsUnique = (screen : Screen) (placed : List PlacedData) →
+    (text : List ℕ) × IsPrint screen placed text × ((other : List ℕ) → IsPrint screen placed other → other ≡ text)

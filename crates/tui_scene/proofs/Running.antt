@@ -1,5 +1,41 @@
 -- One more widget of a scene is drawn.
-use Rattle.std.proofs.Common.{◌≡◌, ℕ, ◌+◌, ◌<◌, ◌≤◌, List, [], ◌∷◌, ◌++◌, map, take, drop, length, get_or, set, All, refl, ◌∙◌, ap, sym, subst, arith, Option, Some, None, Bool, true, false, option_map, Result, Ok, Err, OnOk, add-one, drop-cons}
+use Rattle.std.proofs.Common.{
+  ◌≡◌,
+  ℕ,
+  ◌+◌,
+  ◌<◌,
+  ◌≤◌,
+  List,
+  [],
+  ◌∷◌,
+  ◌++◌,
+  map,
+  take,
+  drop,
+  length,
+  get_or,
+  set,
+  All,
+  refl,
+  ◌∙◌,
+  ap,
+  sym,
+  subst,
+  arith,
+  Option,
+  Some,
+  None,
+  Bool,
+  true,
+  false,
+  option_map,
+  Result,
+  Ok,
+  Err,
+  OnOk,
+  add-one,
+  drop-cons,
+}
 use Rattle.std.proofs.lemmas.Grind.{common_steps}
 use Rattle.std.proofs.lemmas.List.{get_or-map, length-map, map-set, set-get_or, drop_all, take_more}
 use Rattle.std.proofs.lemmas.List.Edits.{map_over_more}

@@ -91,7 +91,9 @@ IsDueDemo n text e = ⊥
 abbrev pub IsDue : List (String Global) → Call → List ℕ → Ended → Type 0
 IsDue words call text ended.Usage = AreWrong words × Unread call × (text ≡ codes "refused: usage\n")
 IsDue words call text ended.TooLong = AreScene words × ReadPast call × (text ≡ codes "refused: too long\n")
-IsDue words call text ended.NotJson = AreScene words × ((bytes : List ℕ) × ReadWhole call bytes × (IsUtf8 bytes → read bytes ≡ None)) × (text ≡ codes "refused: not JSON\n")
+IsDue words call text ended.NotJson =
+    AreScene words × ((bytes : List ℕ) × ReadWhole call bytes × (IsUtf8 bytes → read bytes ≡ None))
+    × (text ≡ codes "refused: not JSON\n")
 IsDue words call text ended.Ok =
     (AreScene words × ((bytes : List ℕ) × (d : Data) × ReadJson call bytes d × IsDueFor d text ended.Ok))
     ⊎ ((n : ℕ) × AreDemo n words × Unread call × IsDueDemo n text ended.Ok)
@@ -101,7 +103,8 @@ IsDue words call text e = ⊥
 -- the sink has what was due, or a fault and a first part of it, or nothing for want of memory
 abbrev pub EndsWith : (List ℕ → Ended → Type 0) → Option (List ℕ) → Option (List ℕ) → ℕ → ℕ → Ended → Type 0
 EndsWith due held held_then writes writes_then ended.NoMemory = Keeps held held_then × (writes_then ≡ writes)
-EndsWith due held held_then writes writes_then ended.WriteFault = (text : List ℕ) × (e : Ended) × due text e × Puts held held_then writes writes_then true false text
+EndsWith due held held_then writes writes_then ended.WriteFault =
+    (text : List ℕ) × (e : Ended) × due text e × Puts held held_then writes writes_then true false text
 EndsWith due held held_then writes writes_then e = (text : List ℕ) × due text e × Puts held held_then writes writes_then true true text
 
 -- a run ends so

@@ -1,5 +1,38 @@
 -- An element of a list that is seen by a function, and answers that hold of an Ok.
-use Rattle.std.proofs.Common.{refl, take, ◌≡◌, ℕ, ◌+◌, ◌<◌, ◌≤◌, Bool, ◌++◌, List, [], ◌∷◌, All, Result, Ok, Err, OnOk, IfOk, drop, get_or, length, map, nat_lt, sum_by, true, arith, ◌∙◌, ap, sym, subst, add-one, drop-cons}
+use Rattle.std.proofs.Common.{
+  refl,
+  take,
+  ◌≡◌,
+  ℕ,
+  ◌+◌,
+  ◌<◌,
+  ◌≤◌,
+  Bool,
+  ◌++◌,
+  List,
+  [],
+  ◌∷◌,
+  All,
+  Result,
+  Ok,
+  Err,
+  OnOk,
+  IfOk,
+  drop,
+  get_or,
+  length,
+  map,
+  nat_lt,
+  sum_by,
+  true,
+  arith,
+  ◌∙◌,
+  ap,
+  sym,
+  subst,
+  add-one,
+  drop-cons,
+}
 use Rattle.std.proofs.lemmas.List.{map-append, take_more, drop_all, get_or-map, length-map}
 use Rattle.std.specs.Cmp.Lexicographic.{pointwise}
 use Rattle.std.proofs.lemmas.Bool.{and_parts}

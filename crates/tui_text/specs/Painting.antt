@@ -1,5 +1,27 @@
 -- The strokes of a line in one row.
-use Rattle.std.specs.Prelude.{ℕ, ◌+◌, ◌-◌, ◌/◌, min, false, ◌&&◌, ◌||◌, ◌==◌, nat_le, nat_lt, List, [], ◌∷◌, ◌++◌, Option, None, Some, unwrap_or, flat_map, if◌then◌else◌}
+use Rattle.std.specs.Prelude.{
+  ℕ,
+  ◌+◌,
+  ◌-◌,
+  ◌/◌,
+  min,
+  false,
+  ◌&&◌,
+  ◌||◌,
+  ◌==◌,
+  nat_le,
+  nat_lt,
+  List,
+  [],
+  ◌∷◌,
+  ◌++◌,
+  Option,
+  None,
+  Some,
+  unwrap_or,
+  flat_map,
+  if◌then◌else◌,
+}
 use Rattle.std.specs.Option.{option_map_or, option_or}
 use Rattle.tui_cells.specs.declared.rect.Rect.{Rect}
 use Rattle.tui_cells.specs.Cell.{dress, put, wipe}

@@ -9,7 +9,20 @@ ghost use Rattle.tui_text.specs.Graphemes.{clusters};
 ghost use Rattle.tui_text.specs.Line.{line_data};
 ghost use Rattle.tui_text.specs.Painting.{cells_at};
 ghost use Rattle.tui_text.specs.Span.{span_data};
-ghost use Rattle.tui_text.specs.Setting.{AreLight, in_line, line_spans, room_in, set_cluster, set_clusters, set_column, set_end, set_layers, spans_end, spans_layers, styled_text};
+ghost use Rattle.tui_text.specs.Setting.{
+  AreLight,
+  in_line,
+  line_spans,
+  room_in,
+  set_cluster,
+  set_clusters,
+  set_column,
+  set_end,
+  set_layers,
+  spans_end,
+  spans_layers,
+  styled_text,
+};
 
 use crate::clusters::Clusters;
 use crate::grapheme::StyledGrapheme;

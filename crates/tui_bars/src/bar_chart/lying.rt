@@ -6,7 +6,19 @@ ghost use Rattle.tui_bars.specs.BarChart.{bar_chart_data, bar_data, group_data};
 ghost use Rattle.tui_bars.specs.ChartLight.{IsLightBar, IsLightText};
 ghost use Rattle.tui_bars.specs.Levels.{AreLightLevels};
 ghost use Rattle.tui_bars.specs.LineGauge.{IsLightLine};
-ghost use Rattle.tui_bars.specs.Lying.{beyond_layers, filled_of, gap_row, group_row_layers, left_layers, middle_of, rest_layers, lying_layers, row_value_layers, start_from, strip_layers};
+ghost use Rattle.tui_bars.specs.Lying.{
+  beyond_layers,
+  filled_of,
+  gap_row,
+  group_row_layers,
+  left_layers,
+  middle_of,
+  rest_layers,
+  lying_layers,
+  row_value_layers,
+  start_from,
+  strip_layers,
+};
 ghost use Rattle.tui_cells.specs.Layers.{KeptOutside, Painted};
 ghost use Rattle.tui_cells.specs.Rect.{covers};
 ghost use Rattle.tui_layout.specs.declared.direction.Direction.TheVariants.{Horizontal};

@@ -6,7 +6,19 @@ ghost use Rattle.tui_bars.specs.ChartLight.{IsLightBar};
 ghost use Rattle.tui_bars.specs.Labels.{alignment_of, columns_of, group_title_layers, place_in, titled_layers};
 ghost use Rattle.tui_bars.specs.Levels.{AreLightLevels};
 ghost use Rattle.tui_bars.specs.LineGauge.{IsLightLine};
-ghost use Rattle.tui_bars.specs.Upright.{bar_area, column_layers, group_label_layers, group_row, has_room, label_layers, label_row, texts_layers, value_layers, value_place, value_text_layers};
+ghost use Rattle.tui_bars.specs.Upright.{
+  bar_area,
+  column_layers,
+  group_label_layers,
+  group_row,
+  has_room,
+  label_layers,
+  label_row,
+  texts_layers,
+  value_layers,
+  value_place,
+  value_text_layers,
+};
 ghost use Rattle.tui_cells.specs.Cell.{IsLight};
 ghost use Rattle.tui_cells.specs.Layers.{KeptOutside, Painted};
 ghost use Rattle.tui_cells.specs.Rect.{covers};

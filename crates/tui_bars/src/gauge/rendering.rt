@@ -3,7 +3,21 @@
 ghost use Rattle.std.specs.Prelude.{◌≡◌, ◌≤◌, [], ◌∷◌, IsOk, IsTrue, OnOk};
 ghost use Rattle.tui_bars.specs.Drawing.{IsLightGauge, gauge_drawing};
 ghost use Rattle.tui_bars.specs.Framed.{framed_layers};
-ghost use Rattle.tui_bars.specs.Gauge.{IsLightLabel, eighth, filled_area, filled_style, gauge_data, gauge_layers, label_area, label_place, label_width, labelled_layers, tip_area, tip_layers, turned_style};
+ghost use Rattle.tui_bars.specs.Gauge.{
+  IsLightLabel,
+  eighth,
+  filled_area,
+  filled_style,
+  gauge_data,
+  gauge_layers,
+  label_area,
+  label_place,
+  label_width,
+  labelled_layers,
+  tip_area,
+  tip_layers,
+  turned_style,
+};
 ghost use Rattle.tui_cells.specs.Cell.{IsLight};
 ghost use Rattle.tui_cells.specs.Layers.{KeptOutside, Painted};
 ghost use Rattle.tui_cells.specs.Rect.{covers, is_empty};

@@ -7,7 +7,18 @@ ghost use Rattle.tui_cells.specs.Rect.{covers, is_empty};
 ghost use Rattle.tui_lists.specs.Orientation.{length_along};
 ghost use Rattle.tui_lists.specs.Parts.{viewport_in};
 ghost use Rattle.tui_lists.specs.Scrollbar.{scrollbar_data};
-ghost use Rattle.tui_lists.specs.ScrollbarStrokes.{IsLightScrollbar, IsLightSign, bar_layers, places, run_layers, scrollbar_layers, scrollbar_moving, sign_layers, symbol_width, track_of};
+ghost use Rattle.tui_lists.specs.ScrollbarStrokes.{
+  IsLightScrollbar,
+  IsLightSign,
+  bar_layers,
+  places,
+  run_layers,
+  scrollbar_layers,
+  scrollbar_moving,
+  sign_layers,
+  symbol_width,
+  track_of,
+};
 
 use crate::scrollbar::Scrollbar;
 use crate::scrollbar::parts::Parts;

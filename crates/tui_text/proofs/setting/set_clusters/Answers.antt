@@ -22,7 +22,8 @@ loop-cluster-preserved c =
       rest = λ final q. c.loop-cluster.invariant.rest final
           (set_more _ _ _ _ _ _ _ _ _ _ _ final c.in-Some.ensures.steps (omega (arith, wide, room)) (omega (arith, wide)) (omega (arith, wide)) c.in_ok-put_cluster.ensures.ok q);
       kept = KeptOutside-then c.loop-cluster.invariant.kept
-          (kept_in c.args.at.x _ _ c.args.room _ _ _ (omega (arith, c.loop-cluster.invariant.columns, c.loop-cluster.invariant.left)) (omega (arith, c.loop-cluster.invariant.columns, room)) c.in_ok-put_cluster.ensures.kept);
+          (kept_in c.args.at.x _ _ c.args.room _ _ _ (omega (arith, c.loop-cluster.invariant.columns, c.loop-cluster.invariant.left))
+          (omega (arith, c.loop-cluster.invariant.columns, room)) c.in_ok-put_cluster.ensures.kept);
     }
 
 pub returns-clause-ok : goal.returns-clause-ok

@@ -33,4 +33,5 @@ pub returns-clause-ok : goal.returns-clause-ok
 returns-clause-ok c = c.loop-span.invariant.rest _ (spans_done _ _ _ _ _ (ap (λ ys. map (in_line c.args.style) (map span_data ys)) (none_from c.args.spans.now c.loop-span.span-index (omega arith))))
 
 pub returns-clause-end : goal.returns-clause-end
-returns-clause-end c = sym (spans_end_done _ _ _ (ap (λ ys. map (in_line c.args.style) (map span_data ys)) (none_from c.args.spans.now c.loop-span.span-index (omega arith)))) ∙ c.loop-span.invariant.end
+returns-clause-end c = sym (spans_end_done _ _ _ (ap (λ ys. map (in_line c.args.style) (map span_data ys))
+    (none_from c.args.spans.now c.loop-span.span-index (omega arith)))) ∙ c.loop-span.invariant.end

@@ -22,5 +22,6 @@ returns-clause-ok c = c.bars.invariant.rest _ (bar_done bar_data c.args.group.no
 pub returns-in_err-paint_bar-clause-light : goal.returns-in_err-paint_bar-clause-light
 returns-in_err-paint_bar-clause-light c levels all =
     let broken = c.in_err-paint_bar.ensures.light levels
-    (seen_at bar_data (IsLightBar (direction_of c.args.pass)) c.args.group.now.bars.items c.bars.j c.index-bar.result.now c.index-bar.result.now (omega (arith, length-map c.args.group.now.bars.items bar_data)) (search) all) in
+    (seen_at bar_data (IsLightBar (direction_of c.args.pass)) c.args.group.now.bars.items c.bars.j c.index-bar.result.now c.index-bar.result.now
+    (omega (arith, length-map c.args.group.now.bars.items bar_data)) (search) all) in
     cc

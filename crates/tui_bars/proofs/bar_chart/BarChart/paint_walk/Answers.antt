@@ -11,7 +11,8 @@ pub groups-preserved : goal.groups-preserved
 groups-preserved c = record {
   rest = λ final q. c.groups.invariant.rest final
       (group_more group_data c.args.self.now.groups.items (bar_chart_data c.args.self.now) (group_layers (bar_chart_data c.args.self.now) c.args.plan c.args.pass)
-      _ _ c.groups.i _ _ _ _ c.index-group.result.now _ _ final (omega arith) (search) c.len-bars.ensures c.shown_in-count.ensures.is c.place_after-at.ensures c.space_after-space.ensures c.in_ok-paint_shown.ensures.ok q);
+      _ _ c.groups.i _ _ _ _ c.index-group.result.now _ _ final (omega arith) (search) c.len-bars.ensures
+      c.shown_in-count.ensures.is c.place_after-at.ensures c.space_after-space.ensures c.in_ok-paint_shown.ensures.ok q);
   kept = KeptOutside-then c.groups.invariant.kept c.in_ok-paint_shown.ensures.kept;
 }
 

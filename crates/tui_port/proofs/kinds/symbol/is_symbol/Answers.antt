@@ -7,5 +7,6 @@ use Rattle.tui_port.proofs.kinds.symbol.is_symbol.Goals as goal
 pub returns-then-text-le32 : goal.returns-then-text-le32
 unfolding is_symbol
 returns-then-text-le32 c =
-    let all = all_from_yields_List (λ x. not (is_control x)) _ _ c.all.result c.all.ensures.ran (YieldsList-from_chars c.args.text.now c.utf8.text c.chars.ensures.rest) (λ x b q k. search (rules, tests)) in
+    let all = all_from_yields_List (λ x. not (is_control x)) _ _ c.all.result c.all.ensures.ran
+    (YieldsList-from_chars c.args.text.now c.utf8.text c.chars.ensures.rest) (λ x b q k. search (rules, tests)) in
     search rules

@@ -19,7 +19,14 @@ loop-start-preserved g c =
     let t : IsStretch row s e a = stretch_of row s e a c.attributes_in-attributes.ensures c.run_end-end.ensures.within.0 c.run_end-end.ensures.alike c.run_end-end.ensures.other in
     elim c.put_run.ensures [
       | inl rest ↦ (c.run_end-end.ensures.within.1, (inv.1.0, more_rest row s e a inv.1.0 inv.1.1 t rest.0, rw append-nil at (Gathers-then inv.1.2 rest.1)))
-      | inr styled ↦ (c.run_end-end.ensures.within.1, (inv.1.0 ++ run_of s e a ∷ [], more_run row s e a inv.1.0 inv.1.1 t styled.0, rw (flat_map_more line [] inv.1.0 (run_of s e a)) at (Gathers-then inv.1.2 styled.1)))
+      | inr styled ↦ (
+        c.run_end-end.ensures.within.1,
+        (
+          inv.1.0 ++ run_of s e a ∷ [],
+          more_run row s e a inv.1.0 inv.1.1 t styled.0,
+          rw (flat_map_more line [] inv.1.0 (run_of s e a)) at (Gathers-then inv.1.2 styled.1),
+        ),
+      )
     ]
 
 pub returns : goal.returns
