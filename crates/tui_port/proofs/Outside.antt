@@ -3,7 +3,7 @@ use Rattle.std.proofs.Common.{◌≡◌, ℕ, ◌+◌, ◌-◌, Bool, true, fals
 use Rattle.std.proofs.lemmas.List.{take-append-le, take-append-drop, drop-take, take-take, append-nil, drop-drop, take_at, take_all, length-take, length-drop, length-append, nil_from_length}
 use Rattle.std.proofs.Math.Seq.{take-append-add}
 use Rattle.std.specs.Io.KnownBytes.{Appends, Consumes, Keeps}
-use Rattle.tui_port.specs.Causes.{TakesPart, Sent, Caused, Puts}
+use Rattle.tui_port.specs.Causes.{TakesPart, Sent, Caused, Puts, Told}
 
 -- a few bytes, and a few more
 pub take_more : (a n : ℕ) (xs : List ℕ) → take a xs ++ take n (drop a xs) ≡ take (a + n) xs
@@ -92,6 +92,8 @@ Caused-then f g h false false true s t = absurd t
 Caused-then f g h false false false s t = t ∙ s
 
 -- two pieces, one after the other
-pub Puts-then : {a b c : Option (List ℕ)} {f g h : ℕ} {p q r : Bool} {xs ys : List ℕ} → Puts a b f g p q xs → Puts b c g h q r ys → Puts a c f h p r (xs ++ ys)
-Puts-then {a} {b} {c} {f} {g} {h} {p} {q} {r} {xs} {ys} s t =
-    record { sent = Sent-then a b c p q r xs ys s.sent t.sent; cause = Caused-then f g h p q r s.cause t.cause }
+pub Puts-then : {a b c : Told} {p q r : Bool} {xs ys : List ℕ} → Puts a b p q xs → Puts b c q r ys → Puts a c p r (xs ++ ys)
+Puts-then {a} {b} {c} {p} {q} {r} {xs} {ys} s t = record {
+  sent = Sent-then a.bytes b.bytes c.bytes p q r xs ys s.sent t.sent;
+  cause = Caused-then a.faults b.faults c.faults p q r s.cause t.cause;
+}

@@ -2,6 +2,11 @@
 use Rattle.std.specs.Prelude.{◌≡◌, ℕ, ◌+◌, ◌-◌, ◌^◌, ◌≤◌, ◌<◌, min, List, length, take, Option, Result, Bool, true, false, OnOk, OnErr}
 use Rattle.std.specs.Io.KnownBytes.{Appends, Consumes, Keeps}
 
+-- what a source or a sink tells: the bytes that are left or held, where it tells them, and how often a call has failed
+pub record Told : Type 0 where
+  pub bytes : Option (List ℕ)
+  pub faults : ℕ
+
 -- the last value of a count
 abbrev pub last_count : ℕ
 last_count = 2 ^ 64 - 1
@@ -49,11 +54,11 @@ Caused before now false true = ⊥
 Caused before now false false = now ≡ before
 
 -- Some bytes were to be put, as long as no put fails.
-pub record Puts (old new : Option (List ℕ)) (before now : ℕ) (going goes : Bool) (bytes : List ℕ) : Type 0 where
-  pub sent : Sent old new going goes bytes
-  pub cause : Caused before now going goes
+pub record Puts (old new : Told) (going goes : Bool) (bytes : List ℕ) : Type 0 where
+  pub sent : Sent old.bytes new.bytes going goes bytes
+  pub cause : Caused old.faults new.faults going goes
 
 -- The bytes were put: Ok exactly where the sink took them all.
-pub record Writes {T E : Type 0} (old new : Option (List ℕ)) (before now : ℕ) (result : Result T E) (bytes : List ℕ) : Type 0 where
-  pub ok : OnOk result (Appends old new bytes × (now ≡ before))
-  pub failed : OnErr result (TakesPart old new bytes × Rose before now)
+pub record Writes {T E : Type 0} (old new : Told) (result : Result T E) (bytes : List ℕ) : Type 0 where
+  pub ok : OnOk result (Appends old.bytes new.bytes bytes × (new.faults ≡ old.faults))
+  pub failed : OnErr result (TakesPart old.bytes new.bytes bytes × Rose old.faults new.faults)

@@ -46,8 +46,7 @@ impl Gather {
     /// Adds a byte.
     #[inline]
     pub(crate) fn push<K: Sink>(&mut self, sink: &mut K, byte: u8)
-        ensures { Gathers (K.held sink.old) (K.held sink.new) (K.faults sink.old) (K.faults sink.new)
-            self.old self.new (byte ∷ []) }
+        ensures { Gathers (K.told sink.old) (K.told sink.new) self.old self.new (byte ∷ []) }
     {
         if self.len == ROOM {
             self.put(sink);
@@ -58,8 +57,7 @@ impl Gather {
     /// Adds some bytes.
     #[inline]
     pub(crate) fn extend<K: Sink>(&mut self, sink: &mut K, bytes: &[u8])
-        ensures { Gathers (K.held sink.old) (K.held sink.new) (K.faults sink.old) (K.faults sink.new)
-            self.old self.new bytes.now }
+        ensures { Gathers (K.told sink.old) (K.told sink.new) self.old self.new bytes.now }
     {
         if bytes.len() <= ROOM - self.len {
             self.add_all(bytes);
@@ -72,8 +70,7 @@ impl Gather {
     #[inline(never)]
     fn extend_past<K: Sink>(&mut self, sink: &mut K, bytes: &[u8])
         requires { ROOM < length self.old.bytes + length bytes.now }
-        ensures { Gathers (K.held sink.old) (K.held sink.new) (K.faults sink.old) (K.faults sink.new)
-            self.old self.new bytes.now }
+        ensures { Gathers (K.told sink.old) (K.told sink.new) self.old self.new bytes.now }
     {
         let (first, rest) = bytes.split_at(ROOM - self.len);
         self.add_all(first);
@@ -107,7 +104,7 @@ impl Gather {
     // Puts what is gathered.
     #[inline(never)]
     fn put<K: Sink>(&mut self, sink: &mut K)
-        ensures puts { Puts (K.held sink.old) (K.held sink.new) (K.faults sink.old) (K.faults sink.new)
+        ensures puts { Puts (K.told sink.old) (K.told sink.new)
             self.old.going self.new.going self.old.bytes }
         ensures none { self.new.bytes ≡ [] }
     {
@@ -117,7 +114,7 @@ impl Gather {
 
     /// Puts the rest, and answers whether no put has failed.
     pub(crate) fn end<K: Sink>(&mut self, sink: &mut K) -> bool
-        ensures { Puts (K.held sink.old) (K.held sink.new) (K.faults sink.old) (K.faults sink.new)
+        ensures { Puts (K.told sink.old) (K.told sink.new)
             self.old.going result self.old.bytes }
     {
         self.put(sink);

@@ -63,9 +63,7 @@ impl MemSink {
 }
 
 impl Sink for MemSink {
-    ghost held = { λ s. Some s.held };
-
-    ghost faults = { λ s. s.faults };
+    ghost told = { λ s. record { bytes = Some s.held; faults = s.faults } };
 
     /// Takes as much as there is room for. Call number k fails exactly where k is listed, or a
     /// piece that isn't empty finds no room; the number stays at its last value.

@@ -50,9 +50,7 @@ impl MemSource {
 }
 
 impl Source for MemSource {
-    ghost left = { λ s. Some s.left };
-
-    ghost faults = { λ s. s.faults };
+    ghost told = { λ s. record { bytes = Some s.left; faults = s.faults } };
 
     /// Gives as much as `into` has room for. Call number k fails exactly where k is listed; the
     /// number stays at its last value.

@@ -24,8 +24,7 @@ pub fn write_screen<K: Sink>(
     scene: &Scene<'_>,
     sink: &mut K,
 ) -> Result<(), WriteFault>
-    ensures { (text : List ℕ) × IsPrint buf.now scene.now text
-        × Writes (K.held sink.old) (K.held sink.new) (K.faults sink.old) (K.faults sink.new) result text }
+    ensures { (text : List ℕ) × IsPrint buf.now scene.now text × Writes (K.told sink.old) (K.told sink.new) result text }
 {
     if put_screen(buf, scene, sink) {
         Ok(())
@@ -35,8 +34,7 @@ pub fn write_screen<K: Sink>(
 }
 
 fn put_screen<K: Sink>(buf: &Buffer, scene: &Scene<'_>, sink: &mut K) -> bool
-    ensures { (text : List ℕ) × IsPrint buf.now scene.now text
-        × Puts (K.held sink.old) (K.held sink.new) (K.faults sink.old) (K.faults sink.new) true result text }
+    ensures { (text : List ℕ) × IsPrint buf.now scene.now text × Puts (K.told sink.old) (K.told sink.new) true result text }
 {
     let mut gather = Gather::new();
     rows::put_rows(&mut gather, buf, sink);
@@ -48,7 +46,7 @@ fn put_screen<K: Sink>(buf: &Buffer, scene: &Scene<'_>, sink: &mut K) -> bool
 /// Writes some text, and then the rows of a buffer, a line `r` and the symbols for each. `WriteFault`: the sink has taken the
 /// first bytes, but not all of them. Takes no memory.
 pub fn write_rows<K: Sink>(before: &str, buf: &Buffer, sink: &mut K) -> Result<(), WriteFault>
-    ensures { Writes (K.held sink.old) (K.held sink.new) (K.faults sink.old) (K.faults sink.new) result
+    ensures { Writes (K.told sink.old) (K.told sink.new) result
         (before.now ++ flat_map row_line buf.now.rows) }
 {
     if put_text_and_rows(before, buf, sink) {
@@ -59,7 +57,7 @@ pub fn write_rows<K: Sink>(before: &str, buf: &Buffer, sink: &mut K) -> Result<(
 }
 
 fn put_text_and_rows<K: Sink>(before: &str, buf: &Buffer, sink: &mut K) -> bool
-    ensures { Puts (K.held sink.old) (K.held sink.new) (K.faults sink.old) (K.faults sink.new) true result
+    ensures { Puts (K.told sink.old) (K.told sink.new) true result
         (before.now ++ flat_map row_line buf.now.rows) }
 {
     let mut gather = Gather::new();

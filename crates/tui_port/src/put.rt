@@ -7,7 +7,7 @@ use crate::sink::{Sink, WriteFault};
 /// Puts all of the bytes. No put follows a failed one; the sink has then taken the first bytes, but
 /// not all of them.
 pub fn put_all<K: Sink>(sink: &mut K, bytes: &[u8]) -> Result<(), WriteFault>
-    ensures { Writes (K.held sink.old) (K.held sink.new) (K.faults sink.old) (K.faults sink.new) result bytes.now }
+    ensures { Writes (K.told sink.old) (K.told sink.new) result bytes.now }
 {
     let mut at = 0;
     while at < bytes.len() {
@@ -21,7 +21,7 @@ pub fn put_all<K: Sink>(sink: &mut K, bytes: &[u8]) -> Result<(), WriteFault>
 
 /// Puts all of the bytes if no put has failed so far, and answers whether none has.
 pub fn put_if<K: Sink>(going: bool, sink: &mut K, bytes: &[u8]) -> bool
-    ensures { Puts (K.held sink.old) (K.held sink.new) (K.faults sink.old) (K.faults sink.new) going result bytes.now }
+    ensures { Puts (K.told sink.old) (K.told sink.new) going result bytes.now }
 {
     going && put_all(sink, bytes).is_ok()
 }

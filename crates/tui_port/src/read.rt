@@ -36,21 +36,21 @@ impl From<AllocError> for ReadEnd {
 /// Reads a source to its end, in chunks. No read follows a failed one, or one that gave a byte
 /// past the limit.
 pub fn read_all<S: Source>(alloc: Global, source: &mut S) -> Result<Vec<u8>, ReadEnd>
-    ensures ok { IfOk result (λ v. Consumes (S.left source.old) (S.left source.new) v.items
-        × IsAtEnd (S.left source.new)
+    ensures ok { IfOk result (λ v. Consumes (S.told source.old).bytes (S.told source.new).bytes v.items
+        × IsAtEnd (S.told source.new).bytes
         × (length v.items ≤ 1048576)) }
 
     // What the source gave else: a byte past the limit at `TooLong` alone, all of it in one read.
     ensures too_long { IsErrOf result ReadEnd.TooLong →
-        Gave (S.left source.old) (S.left source.new) 1048577 1056768 }
+        Gave (S.told source.old).bytes (S.told source.new).bytes 1048577 1056768 }
     ensures read_fault { IsErrOf result ReadEnd.ReadFault →
-        Gave (S.left source.old) (S.left source.new) 0 1048576 }
+        Gave (S.told source.old).bytes (S.told source.new).bytes 0 1048576 }
     ensures no_memory { IsErrOf result ReadEnd.NoMemory →
-        Gave (S.left source.old) (S.left source.new) 0 1048576 }
+        Gave (S.told source.old).bytes (S.told source.new).bytes 0 1048576 }
 
     // The count of faults: `ReadFault` has its cause, and every other ending leaves the count.
-    ensures cause { IsErrOf result ReadEnd.ReadFault → Rose (S.faults source.old) (S.faults source.new) }
-    ensures quiet { result ≢ Err ReadEnd.ReadFault → S.faults source.new ≡ S.faults source.old }
+    ensures cause { IsErrOf result ReadEnd.ReadFault → Rose (S.told source.old).faults (S.told source.new).faults }
+    ensures quiet { result ≢ Err ReadEnd.ReadFault → (S.told source.new).faults ≡ (S.told source.old).faults }
 {
     let mut bytes = Vec::new(alloc);
     let mut chunk = [0u8; CHUNK];

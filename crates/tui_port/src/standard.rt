@@ -25,9 +25,7 @@ impl<R: Read + Drop> StdSource<R> {
 }
 
 impl<R: Read + Drop> Source for StdSource<R> {
-    ghost left = { λ s. R.remaining s.inner };
-
-    ghost faults = { λ s. s.faults };
+    ghost told = { λ s. record { bytes = R.remaining s.inner; faults = s.faults } };
 
     fn read(&mut self, into: &mut [u8]) -> Result<usize, Failed> {
         match self.inner.read(into) {
@@ -59,9 +57,7 @@ impl<W: Write + Drop> StdSink<W> {
 }
 
 impl<W: Write + Drop> Sink for StdSink<W> {
-    ghost held = { λ s. W.contents s.inner };
-
-    ghost faults = { λ s. s.faults };
+    ghost told = { λ s. record { bytes = W.contents s.inner; faults = s.faults } };
 
     fn put(&mut self, bytes: &[u8]) -> Result<usize, Failed> {
         match self.inner.write(bytes) {

@@ -20,18 +20,18 @@ no_longer : (bytes xs : List ℕ) (left : Option (List ℕ)) → Consumes (Some 
 no_longer bytes xs None c = absurd c
 no_longer bytes xs (Some ys) c = omega (arith, ap length c, length-append xs ys)
 
-whole_is : (call : Call) (bytes xs : List ℕ) → call.left ≡ Some bytes → ReadWhole call xs → xs ≡ bytes
-whole_is call bytes xs e w = is_all bytes xs call.left_then (rw e at w.taken) w.end
+whole_is : (call : Call) (bytes xs : List ℕ) → call.source.bytes ≡ Some bytes → ReadWhole call xs → xs ≡ bytes
+whole_is call bytes xs e w = is_all bytes xs call.source_then.bytes (rw e at w.taken) w.end
 
-json_of : (call : Call) (bytes xs : List ℕ) (d : Data) → call.left ≡ Some bytes → ReadJson call xs d → AreJson bytes d
+json_of : (call : Call) (bytes xs : List ℕ) (d : Data) → call.source.bytes ≡ Some bytes → ReadJson call xs d → AreJson bytes d
 json_of call bytes xs d e json =
     let same = whole_is call bytes xs e json.whole in
     record { within = subst (λ (b : List ℕ). length b ≤ 1048576) same json.whole.within; utf8 = subst IsUtf8 same json.utf8; json = rw same at json.json }
 
 -- a run without faults that had its memory ends as the bytes call for
 called : (words : List (String Global)) (call : Call) (e : Ended) → Ends words call e →
-    AreScene words → (Rose call.reads call.reads_then → ⊥) → (Rose call.writes call.writes_then → ⊥) → e ≢ ended.NoMemory
-    → (bytes : List ℕ) → call.left ≡ Some bytes → CallFor bytes e
+    AreScene words → (Rose call.source.faults call.source_then.faults → ⊥) → (Rose call.sink.faults call.sink_then.faults → ⊥) → e ≢ ended.NoMemory
+    → (bytes : List ℕ) → call.source.bytes ≡ Some bytes → CallFor bytes e
 called words call ended.Ok h are reads writes some bytes left = ⊎_elim
     (λ scene. (let w = scene.1 in (w.1, json_of call bytes w.0 w.1 left w.2, (w.3.0, w.3.1))))
     (λ demo. absurd (not_both words demo.0 are demo.1))
@@ -42,7 +42,7 @@ called words call ended.WriteFault h are reads writes some bytes left = absurd (
 called words call ended.Usage h are reads writes some bytes left = absurd (h.1.0.0 are)
 called words call ended.TooLong h are reads writes some bytes left =
     let gave = h.1.1.gave in
-    omega (arith, no_longer bytes gave.bytes call.left_then (rw left at gave.taken), gave.enough)
+    omega (arith, no_longer bytes gave.bytes call.source_then.bytes (rw left at gave.taken), gave.enough)
 called words call ended.NotJson h are reads writes some bytes left =
     let w = h.1.1 in
     let same = whole_is call bytes w.0 left w.1 in

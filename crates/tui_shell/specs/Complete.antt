@@ -28,9 +28,9 @@ CallFor bytes e = ⊥
 -- where they are told
 abbrev pub IsComplete : List (String Global) → Call → Ended → Type 0
 IsComplete words call e =
-    AreScene words → (Rose call.reads call.reads_then → ⊥) → (Rose call.writes call.writes_then → ⊥) → e ≢ ended.NoMemory
-    → (bytes : List ℕ) → call.left ≡ Some bytes → (due : Ended) → (e ≡ due) ↔ CallFor bytes due
+    AreScene words → (Rose call.source.faults call.source_then.faults → ⊥) → (Rose call.sink.faults call.sink_then.faults → ⊥) → e ≢ ended.NoMemory
+    → (bytes : List ℕ) → call.source.bytes ≡ Some bytes → (due : Ended) → (e ≡ due) ↔ CallFor bytes due
 
 -- with the words `demo` and a number it ends Ok, whatever its source is
 abbrev pub IsCompleteDemo : List (String Global) → Call → Ended → Type 0
-IsCompleteDemo words call e = (n : ℕ) → AreDemo n words → (Rose call.writes call.writes_then → ⊥) → e ≢ ended.NoMemory → e ≡ ended.Ok
+IsCompleteDemo words call e = (n : ℕ) → AreDemo n words → (Rose call.sink.faults call.sink_then.faults → ⊥) → e ≢ ended.NoMemory → e ≡ ended.Ok

@@ -6,7 +6,7 @@ use Rattle.serde_json.specs.Data.{Data}
 use Rattle.serde_json.specs.Read.{read}
 use Rattle.tui_cells.specs.Buffer.{Screen}
 use Rattle.tui_scene.specs.Item.{PlacedData}
-use Rattle.tui_port.specs.Causes.{Gave, Puts, Rose}
+use Rattle.tui_port.specs.Causes.{Gave, Puts, Rose, Told}
 use Rattle.tui_port.specs.Print.{IsPrint}
 use Rattle.tui_port.specs.Scene.{SceneData, scene_of}
 use Rattle.tui_shell.specs.Commands.{AreDemo, AreScene, AreWrong}
@@ -16,45 +16,32 @@ use Rattle.tui_shell.specs.Refusal.{field_line}
 use Rattle.tui_shell.specs.declared.ended.Ended.{Ended}
 use Rattle.tui_shell.specs.declared.ended.Ended.TheVariants as ended
 
--- a run's source and sink: the bytes left and held, where they are told, and the counts of faults, before and after
+-- what a run's source and sink tell, before and after
 pub record Call : Type 0 where
-  pub left : Option (List ℕ)
-  pub left_then : Option (List ℕ)
-  pub reads : ℕ
-  pub reads_then : ℕ
-  pub held : Option (List ℕ)
-  pub held_then : Option (List ℕ)
-  pub writes : ℕ
-  pub writes_then : ℕ
+  pub source : Told
+  pub source_then : Told
+  pub sink : Told
+  pub sink_then : Told
 
-abbrev pub call_of : Option (List ℕ) → Option (List ℕ) → ℕ → ℕ → Option (List ℕ) → Option (List ℕ) → ℕ → ℕ → Call
-call_of left left_then reads reads_then held held_then writes writes_then = record {
-  left = left;
-  left_then = left_then;
-  reads = reads;
-  reads_then = reads_then;
-  held = held;
-  held_then = held_then;
-  writes = writes;
-  writes_then = writes_then;
-}
+abbrev pub call_of : Told → Told → Told → Told → Call
+call_of source source_then sink sink_then = record { source = source; source_then = source_then; sink = sink; sink_then = sink_then }
 
 -- nothing was read
 pub record Unread (call : Call) : Type 0 where
-  pub left : call.left_then ≡ call.left
-  pub quiet : call.reads_then ≡ call.reads
+  pub left : call.source_then.bytes ≡ call.source.bytes
+  pub quiet : call.source_then.faults ≡ call.source.faults
 
 -- these bytes were read, within the limit, and nothing is left
 pub record ReadWhole (call : Call) (bytes : List ℕ) : Type 0 where
-  pub taken : Consumes call.left call.left_then bytes
-  pub end : IsAtEnd call.left_then
+  pub taken : Consumes call.source.bytes call.source_then.bytes bytes
+  pub end : IsAtEnd call.source_then.bytes
   pub within : length bytes ≤ 1048576
-  pub quiet : call.reads_then ≡ call.reads
+  pub quiet : call.source_then.faults ≡ call.source.faults
 
 -- the source gave a byte past the limit, and no read of a further piece followed
 pub record ReadPast (call : Call) : Type 0 where
-  pub gave : Gave call.left call.left_then 1048577 1056768
-  pub quiet : call.reads_then ≡ call.reads
+  pub gave : Gave call.source.bytes call.source_then.bytes 1048577 1056768
+  pub quiet : call.source_then.faults ≡ call.source.faults
 
 -- these bytes were read, and they are JSON for this value
 pub record ReadJson (call : Call) (bytes : List ℕ) (value : Data) : Type 0 where
@@ -64,12 +51,12 @@ pub record ReadJson (call : Call) (bytes : List ℕ) (value : Data) : Type 0 whe
 
 -- no byte past the limit was read
 abbrev pub ReadWithin : Call → Type 0
-ReadWithin call = Gave call.left call.left_then 0 1048576
+ReadWithin call = Gave call.source.bytes call.source_then.bytes 0 1048576
 
 -- nothing was written
 pub record Unwritten (call : Call) : Type 0 where
-  pub held : Keeps call.held call.held_then
-  pub quiet : call.writes_then ≡ call.writes
+  pub held : Keeps call.sink.bytes call.sink_then.bytes
+  pub quiet : call.sink_then.faults ≡ call.sink.faults
 
 -- what is to be written for a scene, and how the run then ends
 abbrev pub IsDueOf : SceneData → List ℕ → Ended → Type 0
@@ -92,8 +79,7 @@ abbrev pub IsDue : List (String Global) → Call → List ℕ → Ended → Type
 IsDue words call text ended.Usage = AreWrong words × Unread call × (text ≡ codes "refused: usage\n")
 IsDue words call text ended.TooLong = AreScene words × ReadPast call × (text ≡ codes "refused: too long\n")
 IsDue words call text ended.NotJson =
-    AreScene words × ((bytes : List ℕ) × ReadWhole call bytes × (IsUtf8 bytes → read bytes ≡ None))
-    × (text ≡ codes "refused: not JSON\n")
+    AreScene words × ((bytes : List ℕ) × ReadWhole call bytes × (IsUtf8 bytes → read bytes ≡ None)) × (text ≡ codes "refused: not JSON\n")
 IsDue words call text ended.Ok =
     (AreScene words × ((bytes : List ℕ) × (d : Data) × ReadJson call bytes d × IsDueFor d text ended.Ok))
     ⊎ ((n : ℕ) × AreDemo n words × Unread call × IsDueDemo n text ended.Ok)
@@ -101,15 +87,14 @@ IsDue words call text (ended.BadField i f) = AreScene words × ((bytes : List �
 IsDue words call text e = ⊥
 
 -- the sink has what was due, or a fault and a first part of it, or nothing for want of memory
-abbrev pub EndsWith : (List ℕ → Ended → Type 0) → Option (List ℕ) → Option (List ℕ) → ℕ → ℕ → Ended → Type 0
-EndsWith due held held_then writes writes_then ended.NoMemory = Keeps held held_then × (writes_then ≡ writes)
-EndsWith due held held_then writes writes_then ended.WriteFault =
-    (text : List ℕ) × (e : Ended) × due text e × Puts held held_then writes writes_then true false text
-EndsWith due held held_then writes writes_then e = (text : List ℕ) × due text e × Puts held held_then writes writes_then true true text
+abbrev pub EndsWith : (List ℕ → Ended → Type 0) → Told → Told → Ended → Type 0
+EndsWith due old new ended.NoMemory = Keeps old.bytes new.bytes × (new.faults ≡ old.faults)
+EndsWith due old new ended.WriteFault = (text : List ℕ) × (e : Ended) × due text e × Puts old new true false text
+EndsWith due old new e = (text : List ℕ) × due text e × Puts old new true true text
 
 -- a run ends so
 abbrev pub Ends : List (String Global) → Call → Ended → Type 0
-Ends words call ended.ReadFault = AreScene words × ReadWithin call × Unwritten call × Rose call.reads call.reads_then
-Ends words call ended.NoMemory = (AreScene words × ReadWithin call × Unwritten call × (call.reads_then ≡ call.reads))
+Ends words call ended.ReadFault = AreScene words × ReadWithin call × Unwritten call × Rose call.source.faults call.source_then.faults
+Ends words call ended.NoMemory = (AreScene words × ReadWithin call × Unwritten call × (call.source_then.faults ≡ call.source.faults))
     ⊎ ((n : ℕ) × AreDemo n words × Unread call × Unwritten call)
-Ends words call e = EndsWith (IsDue words call) call.held call.held_then call.writes call.writes_then e
+Ends words call e = EndsWith (IsDue words call) call.sink call.sink_then e

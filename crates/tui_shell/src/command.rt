@@ -11,6 +11,7 @@ use crate::demo::show_demo;
 use crate::drawing::drawn;
 use crate::ended::Ended;
 use crate::json::{JsonError, json_of};
+use crate::leftovers::Leftovers;
 use crate::refusal::put_field;
 use crate::words::{demo_number, is_scene};
 use serde_json::Value;
@@ -35,23 +36,26 @@ pub fn show<S: Source, K: Sink>(
     source: &mut S,
     sink: &mut K,
 ) -> Ended
-    ensures ends { Ends words.now (call_of (S.left source.old) (S.left source.new) (S.faults source.old) (S.faults source.new)
-        (K.held sink.old) (K.held sink.new) (K.faults sink.old) (K.faults sink.new)) result }
-    ensures complete { IsComplete words.now (call_of (S.left source.old) (S.left source.new) (S.faults source.old) (S.faults source.new)
-        (K.held sink.old) (K.held sink.new) (K.faults sink.old) (K.faults sink.new)) result }
-    ensures demo { IsCompleteDemo words.now (call_of (S.left source.old) (S.left source.new) (S.faults source.old) (S.faults source.new)
-        (K.held sink.old) (K.held sink.new) (K.faults sink.old) (K.faults sink.new)) result }
+    ensures ends { Ends words.now (call_of (S.told source.old) (S.told source.new) (K.told sink.old) (K.told sink.new)) result }
+    ensures complete { IsComplete words.now (call_of (S.told source.old) (S.told source.new) (K.told sink.old) (K.told sink.new)) result }
+    ensures demo { IsCompleteDemo words.now (call_of (S.told source.old) (S.told source.new) (K.told sink.old) (K.told sink.new)) result }
     ensures usage { AreWrong words.now → (result ≡ Ended.Usage) ⊎ (result ≡ Ended.WriteFault) }
 {
-    run(alloc, words, source, sink)
+    run(alloc, words, source, sink, Leftovers::Dropped)
 }
 
-fn run<S: Source, K: Sink>(alloc: Global, words: &[String], source: &mut S, sink: &mut K) -> Ended
-    ensures { Ends words.now (call_of (S.left source.old) (S.left source.new) (S.faults source.old) (S.faults source.new)
-        (K.held sink.old) (K.held sink.new) (K.faults sink.old) (K.faults sink.new)) result }
+/// The same, where the caller says what becomes of the values that the run made.
+pub(crate) fn run<S: Source, K: Sink>(
+    alloc: Global,
+    words: &[String],
+    source: &mut S,
+    sink: &mut K,
+    leftovers: Leftovers,
+) -> Ended
+    ensures { Ends words.now (call_of (S.told source.old) (S.told source.new) (K.told sink.old) (K.told sink.new)) result }
 {
     if is_scene(words) {
-        return run_scene(alloc, words, source, sink);
+        return run_scene(alloc, words, source, sink, leftovers);
     }
     match demo_number(words) {
         Some(n) => show_demo(alloc, n, sink),
@@ -64,10 +68,10 @@ fn run_scene<S: Source, K: Sink>(
     words: &[String],
     source: &mut S,
     sink: &mut K,
+    leftovers: Leftovers,
 ) -> Ended
     requires { AreScene words.now }
-    ensures { Ends words.now (call_of (S.left source.old) (S.left source.new) (S.faults source.old) (S.faults source.new)
-        (K.held sink.old) (K.held sink.new) (K.faults sink.old) (K.faults sink.new)) result }
+    ensures { Ends words.now (call_of (S.told source.old) (S.told source.new) (K.told sink.old) (K.told sink.new)) result }
 {
     let bytes = match read_all(alloc, source) {
         Ok(bytes) => bytes,
@@ -78,7 +82,11 @@ fn run_scene<S: Source, K: Sink>(
         Err(ReadEnd::NoMemory) => return Ended::NoMemory,
     };
     match json_of(alloc, bytes) {
-        Ok(value) => show_value(alloc, &value, sink),
+        Ok(value) => {
+            let ended = show_value(alloc, &value, sink, leftovers);
+            leftovers.done_with(value);
+            ended
+        }
         Err(JsonError::NotJson) => Ended::NotJson.if_put(put_if(
             true,
             sink,
@@ -88,11 +96,15 @@ fn run_scene<S: Source, K: Sink>(
     }
 }
 
-fn show_value<K: Sink>(alloc: Global, value: &Value, sink: &mut K) -> Ended
-    ensures { EndsWith (IsDueFor (view value.now)) (K.held sink.old) (K.held sink.new) (K.faults sink.old) (K.faults sink.new) result }
+fn show_value<K: Sink>(alloc: Global, value: &Value, sink: &mut K, leftovers: Leftovers) -> Ended
+    ensures { EndsWith (IsDueFor (view value.now)) (K.told sink.old) (K.told sink.new) result }
 {
     match scene_of(alloc, value) {
-        Ok(mut reading) => show_scene(alloc, &mut reading, sink),
+        Ok(mut reading) => {
+            let ended = show_scene(alloc, &mut reading, sink, leftovers);
+            leftovers.done_with(reading);
+            ended
+        }
         Err(SceneError::BadField { item, field }) => Ended::BadField { item, field }.if_put(
             put_field(item, field, sink),
         ),
@@ -100,11 +112,20 @@ fn show_value<K: Sink>(alloc: Global, value: &Value, sink: &mut K) -> Ended
     }
 }
 
-fn show_scene<K: Sink>(alloc: Global, reading: &mut Reading<'_>, sink: &mut K) -> Ended
-    ensures { EndsWith (IsDueOf (reading_data reading.old)) (K.held sink.old) (K.held sink.new) (K.faults sink.old) (K.faults sink.new) result }
+fn show_scene<K: Sink>(
+    alloc: Global,
+    reading: &mut Reading<'_>,
+    sink: &mut K,
+    leftovers: Leftovers,
+) -> Ended
+    ensures { EndsWith (IsDueOf (reading_data reading.old)) (K.told sink.old) (K.told sink.new) result }
 {
     match drawn(alloc, reading.width, reading.height, &mut reading.scene) {
-        Ok(buffer) => Ended::Ok.if_put(write_screen(&buffer, &reading.scene, sink).is_ok()),
+        Ok(buffer) => {
+            let all = write_screen(&buffer, &reading.scene, sink).is_ok();
+            leftovers.done_with(buffer);
+            Ended::Ok.if_put(all)
+        }
         Err(NoMemory) => Ended::NoMemory,
     }
 }

@@ -18,7 +18,7 @@ use tui_scene::{Item, Scene};
 pub(crate) fn show_demo<K: Sink>(alloc: Global, n: u32, sink: &mut K) -> Ended
     requires least { 1 ≤ n }
     requires most { n ≤ 100000 }
-    ensures { EndsWith (IsDueDemo n) (K.held sink.old) (K.held sink.new) (K.faults sink.old) (K.faults sink.new) result }
+    ensures { EndsWith (IsDueDemo n) (K.told sink.old) (K.told sink.new) result }
 {
     match drawn_demo(alloc, n) {
         Ok((line, buffer)) => Ended::Ok.if_put(write_rows(line.as_str(), &buffer, sink).is_ok()),

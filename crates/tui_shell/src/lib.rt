@@ -7,6 +7,7 @@ mod drawing;
 pub mod ended;
 mod json;
 mod laws;
+mod leftovers;
 pub mod program;
 mod refusal;
 pub mod words;

@@ -9,7 +9,7 @@ use tui_port::{Field, Sink, put_if};
 
 /// Says which field is refused, and answers whether all of the line was put.
 pub(crate) fn put_field<K: Sink>(item: Option<usize>, field: Field, sink: &mut K) -> bool
-    ensures { Puts (K.held sink.old) (K.held sink.new) (K.faults sink.old) (K.faults sink.new) true result
+    ensures { Puts (K.told sink.old) (K.told sink.new) true result
         (field_line item field) }
 {
     match item {
@@ -19,7 +19,7 @@ pub(crate) fn put_field<K: Sink>(item: Option<usize>, field: Field, sink: &mut K
 }
 
 fn put_scene_field<K: Sink>(field: Field, sink: &mut K) -> bool
-    ensures { Puts (K.held sink.old) (K.held sink.new) (K.faults sink.old) (K.faults sink.new) true result
+    ensures { Puts (K.told sink.old) (K.told sink.new) true result
         (field_line None field) }
 {
     let going = put_if(true, sink, b"refused: scene field ");
@@ -28,7 +28,7 @@ fn put_scene_field<K: Sink>(field: Field, sink: &mut K) -> bool
 }
 
 fn put_item_field<K: Sink>(item: usize, field: Field, sink: &mut K) -> bool
-    ensures { Puts (K.held sink.old) (K.held sink.new) (K.faults sink.old) (K.faults sink.new) true result
+    ensures { Puts (K.told sink.old) (K.told sink.new) true result
         (field_line (Some item) field) }
 {
     let mut digits = Buffer::new();

@@ -12,8 +12,7 @@ use tui_cells::{Buffer, Cell};
 
 /// Adds a line for each row.
 pub(crate) fn put_rows<K: Sink>(gather: &mut Gather, buf: &Buffer, sink: &mut K)
-    ensures { Gathers (K.held sink.old) (K.held sink.new) (K.faults sink.old) (K.faults sink.new)
-        gather.old gather.new (flat_map row_line buf.now.rows) }
+    ensures { Gathers (K.told sink.old) (K.told sink.new) gather.old gather.new (flat_map row_line buf.now.rows) }
 {
     'rows: for number in 0..buf.height() {
         put_row(gather, buf.row_at(number), sink);
@@ -24,8 +23,7 @@ pub(crate) fn put_rows<K: Sink>(gather: &mut Gather, buf: &Buffer, sink: &mut K)
 const PIECE: usize = 64;
 
 fn put_row<K: Sink>(gather: &mut Gather, row: &[Cell], sink: &mut K)
-    ensures { Gathers (K.held sink.old) (K.held sink.new) (K.faults sink.old) (K.faults sink.new)
-        gather.old gather.new (row_line row.now) }
+    ensures { Gathers (K.told sink.old) (K.told sink.new) gather.old gather.new (row_line row.now) }
 {
     gather.extend(sink, b"r ");
     let mut piece = [0u8; PIECE];
@@ -50,7 +48,7 @@ fn put_next<'r, K: Sink>(
     requires { column < length row.now }
     ensures within { (column < result) × (result ≤ length row.now) }
     ensures put { (text : List ℕ) × (symbols_of (visible_from column 0 (drop column row.now)) ≡ text ++ symbols_of (visible_from result 0 (drop result row.now)))
-        × Gathers (K.held sink.old) (K.held sink.new) (K.faults sink.old) (K.faults sink.new) gather.old gather.new text }
+        × Gathers (K.told sink.old) (K.told sink.new) gather.old gather.new text }
 {
     let plain = copy_plain(row, column, piece);
     if plain > 0 {

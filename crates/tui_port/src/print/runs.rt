@@ -14,7 +14,7 @@ use tui_cells::{Attributes, Buffer, Cell, Color};
 /// Adds the lines of the runs of each row.
 pub(crate) fn put_runs<K: Sink>(gather: &mut Gather, buf: &Buffer, sink: &mut K)
     ensures { (text : List ℕ) × AreRunLines 0 buf.now.rows text
-        × Gathers (K.held sink.old) (K.held sink.new) (K.faults sink.old) (K.faults sink.new) gather.old gather.new text }
+        × Gathers (K.told sink.old) (K.told sink.new) gather.old gather.new text }
 {
     'rows: for number in 0..buf.height() {
         let first = buf.rest_end(number);
@@ -34,8 +34,7 @@ fn put_row_runs<K: Sink>(
     requires rest { (x : ℕ) → x < first → IsAtRest (slice_index_or row.now x blank) }
     requires styled { first < length row.now → IsAtRest (slice_index_or row.now first blank) → ⊥ }
     ensures { (runs : List StyleRun) × AreStyleRuns row.now runs
-        × Gathers (K.held sink.old) (K.held sink.new) (K.faults sink.old) (K.faults sink.new)
-        gather.old gather.new (flat_map (run_line number) runs) }
+        × Gathers (K.told sink.old) (K.told sink.new) gather.old gather.new (flat_map (run_line number) runs) }
 {
     let mut start = first;
     while start < row.len() {
@@ -93,9 +92,9 @@ fn put_run<K: Sink>(
     sink: &mut K,
 )
     ensures { ((attributes ≡ at_rest)
-        × Gathers (K.held sink.old) (K.held sink.new) (K.faults sink.old) (K.faults sink.new) gather.old gather.new [])
+        × Gathers (K.told sink.old) (K.told sink.new) gather.old gather.new [])
         ⊎ ((attributes ≢ at_rest)
-        × Gathers (K.held sink.old) (K.held sink.new) (K.faults sink.old) (K.faults sink.new) gather.old gather.new
+        × Gathers (K.told sink.old) (K.told sink.new) gather.old gather.new
         (run_line number (record { start = start; len = len; attributes = attributes }))) }
 {
     if !is_same(attributes, Attributes::at_rest()) {
@@ -111,7 +110,7 @@ fn put_run_line<K: Sink>(
     attributes: Attributes,
     sink: &mut K,
 )
-    ensures { Gathers (K.held sink.old) (K.held sink.new) (K.faults sink.old) (K.faults sink.new) gather.old gather.new
+    ensures { Gathers (K.told sink.old) (K.told sink.new) gather.old gather.new
         (run_line number (record { start = start; len = len; attributes = attributes })) }
 {
     gather.extend(sink, b"s ");

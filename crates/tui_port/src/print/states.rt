@@ -11,8 +11,7 @@ use tui_scene::{Item, Scene};
 
 /// Adds a line for each widget with a state.
 pub(crate) fn put_states<K: Sink>(gather: &mut Gather, scene: &Scene<'_>, sink: &mut K)
-    ensures { Gathers (K.held sink.old) (K.held sink.new) (K.faults sink.old) (K.faults sink.new)
-        gather.old gather.new (state_lines 0 scene.now) }
+    ensures { Gathers (K.told sink.old) (K.told sink.new) gather.old gather.new (state_lines 0 scene.now) }
 {
     let items = scene.items();
     'items: for number in 0..items.len() {
@@ -21,8 +20,7 @@ pub(crate) fn put_states<K: Sink>(gather: &mut Gather, scene: &Scene<'_>, sink: 
 }
 
 fn put_state<K: Sink>(gather: &mut Gather, number: usize, item: &Item<'_>, sink: &mut K)
-    ensures { Gathers (K.held sink.old) (K.held sink.new) (K.faults sink.old) (K.faults sink.new)
-        gather.old gather.new (state_line number (item_data item.now)) }
+    ensures { Gathers (K.told sink.old) (K.told sink.new) gather.old gather.new (state_line number (item_data item.now)) }
 {
     match item {
         Item::List(_, state) => {
@@ -67,8 +65,7 @@ fn put_state_line<K: Sink>(
     column: Option<usize>,
     sink: &mut K,
 )
-    ensures { Gathers (K.held sink.old) (K.held sink.new) (K.faults sink.old) (K.faults sink.new)
-        gather.old gather.new (state_text number name.now start row column) }
+    ensures { Gathers (K.told sink.old) (K.told sink.new) gather.old gather.new (state_text number name.now start row column) }
 {
     gather.extend(sink, b"t ");
     put_number(gather, number, sink);
@@ -84,8 +81,7 @@ fn put_state_line<K: Sink>(
 }
 
 fn put_place<K: Sink>(gather: &mut Gather, place: Option<usize>, sink: &mut K)
-    ensures { Gathers (K.held sink.old) (K.held sink.new) (K.faults sink.old) (K.faults sink.new)
-        gather.old gather.new (place_text place) }
+    ensures { Gathers (K.told sink.old) (K.told sink.new) gather.old gather.new (place_text place) }
 {
     match place {
         None => gather.push(sink, b'-'),

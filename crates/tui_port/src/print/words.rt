@@ -13,8 +13,7 @@ use tui_cells::Color;
 #[inline]
 #[tactic(auto, using(std::proofs::lemmas::Fmt::decimal_digit))]
 pub(crate) fn put_number<K: Sink>(gather: &mut Gather, n: usize, sink: &mut K)
-    ensures { Gathers (K.held sink.old) (K.held sink.new) (K.faults sink.old) (K.faults sink.new)
-        gather.old gather.new (decimal n) }
+    ensures { Gathers (K.told sink.old) (K.told sink.new) gather.old gather.new (decimal n) }
 {
     if n < 10 {
         gather.push(sink, b'0' + n as u8);
@@ -24,8 +23,7 @@ pub(crate) fn put_number<K: Sink>(gather: &mut Gather, n: usize, sink: &mut K)
 }
 
 fn put_digits<K: Sink>(gather: &mut Gather, n: usize, sink: &mut K)
-    ensures { Gathers (K.held sink.old) (K.held sink.new) (K.faults sink.old) (K.faults sink.new)
-        gather.old gather.new (decimal n) }
+    ensures { Gathers (K.told sink.old) (K.told sink.new) gather.old gather.new (decimal n) }
 {
     let mut digits = Digits::new();
     gather.extend(sink, digits.format(n).as_bytes());
@@ -34,8 +32,7 @@ fn put_digits<K: Sink>(gather: &mut Gather, n: usize, sink: &mut K)
 /// Adds a colour: its name, `#` and six hexadecimal digits, or its index.
 #[tactic(auto, unfolding(crate::specs::Print::color_text))]
 pub(crate) fn put_color<K: Sink>(gather: &mut Gather, color: Color, sink: &mut K)
-    ensures { Gathers (K.held sink.old) (K.held sink.new) (K.faults sink.old) (K.faults sink.new)
-        gather.old gather.new (color_text color) }
+    ensures { Gathers (K.told sink.old) (K.told sink.new) gather.old gather.new (color_text color) }
 {
     match color {
         Color::Reset => gather.extend(sink, b"reset"),

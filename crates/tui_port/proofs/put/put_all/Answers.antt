@@ -10,5 +10,6 @@ loop-at-preserved g c =
       within = omega (arith, length-drop c.loop-at.at c.args.bytes.now, c.in-Ok.ensures.bound);
       faults = search rules;
       sent = rw (← take_more c.loop-at.at c.in-Ok.count c.args.bytes.now)
-          (Appends-then (k.held c.args.sink.now) (k.held c.loop-at.sink) (k.held c.put.new.self) _ _ c.loop-at.invariant.sent (rw part_from at c.in-Ok.ensures.bytes));
+          (Appends-then (k.told c.args.sink.now).bytes (k.told c.loop-at.sink).bytes (k.told c.put.new.self).bytes _ _
+          c.loop-at.invariant.sent (rw part_from at c.in-Ok.ensures.bytes));
     }

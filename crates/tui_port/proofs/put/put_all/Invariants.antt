@@ -7,8 +7,8 @@ invariant-loop-at g l =
     let k = g.K.Sink in
     record {
       within : l.at ≤ length l.bytes;
-      faults : k.faults l.sink ≡ k.faults l.fn.sink;
-      sent : Appends (k.held l.fn.sink) (k.held l.sink) (take l.at l.bytes);
+      faults : (k.told l.sink).faults ≡ (k.told l.fn.sink).faults;
+      sent : Appends (k.told l.fn.sink).bytes (k.told l.sink).bytes (take l.at l.bytes);
     }
 
 abbrev pub decreases-loop-at : goal.decreases-loop-at

@@ -9,7 +9,7 @@ returns-then-count-len-clause-too_long g c =
     let part = take c.in-Ok.count c.read.new.into in
     λ _. record {
       bytes = c.reads.bytes.items ++ part;
-      taken = Consumes-then (s.left c.args.source.now) (s.left c.reads.source) (s.left c.read.new.self) _ _ c.reads.invariant.taken c.in-Ok.ensures.bytes.0;
+      taken = Consumes-then (s.told c.args.source.now).bytes (s.told c.reads.source).bytes (s.told c.read.new.self).bytes _ _ c.reads.invariant.taken c.in-Ok.ensures.bytes.0;
       enough = omega (arith, length-append c.reads.bytes.items part, length-take c.in-Ok.count c.read.new.into, c.in-Ok.ensures.bound);
       within = omega (arith, length-append c.reads.bytes.items part, length-take c.in-Ok.count c.read.new.into, c.in-Ok.ensures.bound);
     }
@@ -20,7 +20,7 @@ returns-in_err-extend_from_slice-clause-no_memory g c =
     let part = take c.in-Ok.count c.read.new.into in
     λ _. record {
       bytes = c.reads.bytes.items ++ part;
-      taken = Consumes-then (s.left c.args.source.now) (s.left c.reads.source) (s.left c.read.new.self) _ _ c.reads.invariant.taken c.in-Ok.ensures.bytes.0;
+      taken = Consumes-then (s.told c.args.source.now).bytes (s.told c.reads.source).bytes (s.told c.read.new.self).bytes _ _ c.reads.invariant.taken c.in-Ok.ensures.bytes.0;
       enough = omega arith;
       within = omega (arith, length-append c.reads.bytes.items part, length-take c.in-Ok.count c.read.new.into, c.in-Ok.ensures.bound);
     }

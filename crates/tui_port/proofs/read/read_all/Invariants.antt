@@ -7,8 +7,8 @@ invariant-reads g l =
     let s = g.S.Source in
     record {
       within : length l.bytes.items ≤ 1048576;
-      faults : s.faults l.source ≡ s.faults l.fn.source;
-      taken : Consumes (s.left l.fn.source) (s.left l.source) l.bytes.items;
+      faults : (s.told l.source).faults ≡ (s.told l.fn.source).faults;
+      taken : Consumes (s.told l.fn.source).bytes (s.told l.source).bytes l.bytes.items;
     }
 
 abbrev pub decreases-reads : goal.decreases-reads

@@ -12,4 +12,4 @@ returns-in-Err-BadField g c =
     let refused = rw e.field-0-is at e.ensures in
     let puts = rw e.field-0-is at c.put_field.ensures in
     rw (rw e.field-0-is at c.if_put.ensures) (written (IsDueFor (view c.args.value.now)) c.put_field.result (ended.BadField e.item e.field)
-    (field_line e.item e.field) _ _ _ _ refl (refused, refl) puts)
+    (field_line e.item e.field) _ _ refl (refused, refl) puts)

@@ -10,5 +10,5 @@ use Rattle.tui_shell.proofs.demo.show_demo.Goals as goal
 pub returns-in-Ok : goal.returns-in-Ok
 returns-in-Ok g c =
     let text = string_bytes c.in-Ok.line ++ flat_map row_line c.in-Ok.buffer.rows in
-    let puts = puts_of _ _ _ _ c.write_rows.result text (rw c.as_str.ensures.value at c.write_rows.ensures) in
-    rw (c.if_put.ensures, c.is_ok.ensures.value) (written (IsDueDemo c.args.n) (is_ok c.write_rows.result) ended.Ok text _ _ _ _ refl c.in-Ok.ensures puts)
+    let puts = puts_of _ _ c.write_rows.result text (rw c.as_str.ensures.value at c.write_rows.ensures) in
+    rw (c.if_put.ensures, c.is_ok.ensures.value) (written (IsDueDemo c.args.n) (is_ok c.write_rows.result) ended.Ok text _ _ refl c.in-Ok.ensures puts)

@@ -18,4 +18,4 @@ returns-else-rest-lt-ROOM g c =
     let both = append_assoc old.bytes first rest ∙ ap (λ (l : List ℕ). old.bytes ++ l) whole in
     let start = rw (before, gathered, going) at c.put.ensures.puts in
     let all = rw both at (Puts-then start c.put_if-self-inside.ensures) in
-    record { passed = rw empty (put_with _ _ _ _ _ _ old.bytes c.args.bytes.now all) }
+    record { passed = rw empty (put_with _ _ _ _ old.bytes c.args.bytes.now all) }

@@ -6,7 +6,7 @@ use Rattle.tui_port.proofs.RunLemmas.{IsStretch, rest_first, run_of, more_rest, 
 use Rattle.tui_port.proofs.print.runs.put_row_runs.Goals as goal
 
 pub loop-start-init : goal.loop-start-init
-loop-start-init g c = (c.requires.within, ([], rest_first c.args.row.now c.args.first c.requires.within c.requires.rest c.requires.styled, Gathers-none _ _ _))
+loop-start-init g c = (c.requires.within, ([], rest_first c.args.row.now c.args.first c.requires.within c.requires.rest c.requires.styled, Gathers-none _ _))
 
 pub loop-start-preserved : goal.loop-start-preserved
 loop-start-preserved g c =

@@ -6,7 +6,7 @@ use Rattle.tui_port.proofs.RunLemmas.{lines_more, lines_end}
 use Rattle.tui_port.proofs.print.runs.put_runs.Goals as goal
 
 pub rows-init : goal.rows-init
-rows-init g c = ([], λ rest lines. lines, Gathers-none _ _ _)
+rows-init g c = ([], λ rest lines. lines, Gathers-none _ _)
 
 pub rows-preserved : goal.rows-preserved
 rows-preserved g c =

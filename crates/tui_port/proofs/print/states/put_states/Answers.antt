@@ -7,7 +7,7 @@ use Rattle.tui_port.proofs.StateLines.{states_end, states_more}
 use Rattle.tui_port.proofs.print.states.put_states.Goals as goal
 
 pub items-init : goal.items-init
-items-init g c = ([], refl, Gathers-none _ _ _)
+items-init g c = ([], refl, Gathers-none _ _)
 
 pub items-preserved : goal.items-preserved
 items-preserved g c =
