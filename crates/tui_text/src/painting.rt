@@ -1,8 +1,8 @@
 //! Painting of lines in rows, and of texts in areas.
 
 ghost use Rattle.std.specs.Prelude.{◌≡◌, ◌+◌, ◌-◌, ◌^◌, ◌≤◌, ◌<◌, All, IsOk, OnOk, false, map, sum_by};
-ghost use Rattle.tui_cells.specs.Cell.{IsLight};
-ghost use Rattle.tui_cells.specs.Layers.{KeptOutside, Painted};
+ghost use Rattle.tui_cells.specs.Cell.{IsLight, wipe};
+ghost use Rattle.tui_cells.specs.Layers.{KeptOutside, Painted, stroke};
 ghost use Rattle.tui_cells.specs.Rect.{covers, intersection_of};
 ghost use Rattle.tui_text.specs.Grapheme.{glyph_of, glyph_width};
 ghost use Rattle.tui_text.specs.Graphemes.{glyphs_left};
@@ -34,7 +34,25 @@ use crate::text::Text;
 use crate::width::{cell_width, has_columns, spans_width};
 use tui_cells::{Buffer, Mem, Position, Rect, Style};
 
+/// Makes the cells behind the first one of a grapheme blank. Mostly there is none.
+#[inline(always)]
+fn reset_behind(buf: &mut Buffer, x: u16, y: u16, width: u16)
+    requires { (0 < width) × (x + width ≤ 65535) }
+    ensures { Painted (stroke (covers (cells_at (x + 1) y (width - 1))) wipe) buf.old buf.new }
+{
+    if width == 1 {
+        return;
+    }
+    buf.reset(Rect {
+        x: x + 1,
+        y,
+        width: width - 1,
+        height: 1,
+    });
+}
+
 /// Puts a grapheme of a width in its columns.
+#[inline]
 pub(crate) fn put_glyph(
     buf: &mut Buffer,
     x: u16,
@@ -56,17 +74,12 @@ pub(crate) fn put_glyph(
         height: 1,
     };
     buf.set_style(cell, grapheme.style);
-    let behind = Rect {
-        x: x + 1,
-        y,
-        width: width - 1,
-        height: 1,
-    };
-    buf.reset(behind);
+    reset_behind(buf, x, y, width);
     Ok(())
 }
 
 /// The column where a grapheme of a width begins, if it lies whole inside the row.
+#[inline(always)]
 fn column_at(row: Rect, skip: usize, place: usize, width: u16) -> Option<u16>
     ensures is { result ≡ column_at row skip place width }
 {
@@ -81,6 +94,7 @@ fn column_at(row: Rect, skip: usize, place: usize, width: u16) -> Option<u16>
     Some(row.x + from as u16)
 }
 
+#[inline(always)]
 fn paint_glyph(
     buf: &mut Buffer,
     row: Rect,
