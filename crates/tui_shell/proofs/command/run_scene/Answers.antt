@@ -24,5 +24,5 @@ returns-in-Ok-json_of g c =
     let are = c.requires in
     let ok = c.in-Ok.ensures.ok in
     let json = c.in-Ok-json_of.ensures.ok in
-    ends_for _ _ c.in-Ok.bytes.items (view c.in-Ok-json_of.value) c.show_value.result are
-    (record { whole = record { taken = ok.0; end = ok.1; within = ok.2; quiet = search rules }; utf8 = json.0; json = json.1 }) c.show_value.ensures
+    ends_for _ _ c.in-Ok.bytes.items (view c.in-Ok-json_of.value) c.show_value-ended.result are
+    (record { whole = record { taken = ok.0; end = ok.1; within = ok.2; quiet = search rules }; utf8 = json.0; json = json.1 }) c.show_value-ended.ensures
