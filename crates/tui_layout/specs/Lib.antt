@@ -6,6 +6,7 @@ pub mod Found
 pub mod Halves
 pub mod HighlightSpacing
 pub mod Laws
+pub mod Selection
 pub mod Sharing
 pub mod Sums
 pub mod Window

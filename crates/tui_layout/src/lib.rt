@@ -1,4 +1,4 @@
-//! Rows and columns: the columns of a length, heights and their sums, and the window of a scrolled list.
+//! Rows and columns: the columns of a length, heights and their sums, the window of a scrolled list, and the moves of a selected place.
 #![tactic(auto)]
 
 pub mod columns;
@@ -11,6 +11,7 @@ pub mod highlight_spacing;
 pub mod laws;
 mod plan;
 pub mod segment;
+pub mod selection;
 mod sharing;
 pub mod steps;
 pub mod sums;

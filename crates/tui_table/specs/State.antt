@@ -1,5 +1,5 @@
--- What a table keeps, and how it is moved.
-use Rattle.std.specs.Prelude.{ℕ, ◌+◌, ◌-◌, ◌^◌, min, Option, Some, None, unwrap_or}
+-- What a table keeps, and what is written through it.
+use Rattle.std.specs.Prelude.{ℕ, Option, Some, None}
 use Rattle.std.specs.Borrow.{Fml, Lends, MutBor, usize}
 use Rattle.std.specs.contracts.prelude.Option.{the_row as OptionOf}
 use Rattle.tui_table.specs.declared.state.TableState.{TableState}
@@ -8,26 +8,6 @@ use Rattle.tui_table.specs.contracts.state.TableState.{the_row}
 -- the first row, and nothing selected
 abbrev pub at_rest : TableState
 at_rest = record { offset = 0; selected = None; selected_column = None }
-
-abbrev pub greatest : ℕ
-greatest = 2 ^ 64 - 1
-
--- one place further on, or the first one
-abbrev pub next_of : Option ℕ → ℕ
-next_of None = 0
-next_of (Some place) = min (place + 1) greatest
-
--- one place back, or the greatest one
-abbrev pub previous_of : Option ℕ → ℕ
-previous_of None = greatest
-previous_of (Some place) = place - 1
-
--- so many places further on, or back, from the first one where nothing is selected
-abbrev pub further : Option ℕ → ℕ → ℕ
-further selected amount = min (unwrap_or selected 0 + amount) greatest
-
-abbrev pub back : Option ℕ → ℕ → ℕ
-back selected amount = unwrap_or selected 0 - amount
 
 -- the row and the column of a selected cell, and the cell of both
 abbrev pub row_of_cell : Option (ℕ × ℕ) → Option ℕ

@@ -2,20 +2,10 @@
 
 ghost use Rattle.std.specs.Prelude.{◌≡◌, IfSome, None, Some};
 ghost use Rattle.std.specs.Borrow.{sem};
-ghost use Rattle.tui_table.specs.State.{
-  LendsColumn,
-  LendsOffset,
-  LendsSelected,
-  at_rest,
-  back,
-  column_of_cell,
-  further,
-  greatest,
-  next_of,
-  previous_of,
-  row_of_cell,
-  selected_cell,
-};
+ghost use Rattle.tui_layout.specs.Selection.{back, further, greatest, next_of, previous_of};
+ghost use Rattle.tui_table.specs.State.{LendsColumn, LendsOffset, LendsSelected, at_rest, column_of_cell, row_of_cell, selected_cell};
+
+use tui_layout::selection::{back, further, next_of, previous_of};
 
 /// The first row that is shown, and the selected row and column; all places count from 0. A row or a column past the last one
 /// may be selected: a drawing makes it the last.
@@ -279,34 +269,4 @@ fn column_of_cell(cell: Option<(usize, usize)>) -> Option<usize>
         Some((_, column)) => Some(column),
         None => None,
     }
-}
-
-fn next_of(selected: Option<usize>) -> usize
-    ensures { result ≡ next_of selected }
-{
-    match selected {
-        None => 0,
-        Some(place) => place.saturating_add(1),
-    }
-}
-
-fn previous_of(selected: Option<usize>) -> usize
-    ensures { result ≡ previous_of selected }
-{
-    match selected {
-        None => usize::MAX,
-        Some(place) => place.saturating_sub(1),
-    }
-}
-
-fn further(selected: Option<usize>, amount: u16) -> usize
-    ensures { result ≡ further selected amount }
-{
-    selected.unwrap_or(0).saturating_add(usize::from(amount))
-}
-
-fn back(selected: Option<usize>, amount: u16) -> usize
-    ensures { result ≡ back selected amount }
-{
-    selected.unwrap_or(0).saturating_sub(usize::from(amount))
 }

@@ -1,10 +1,12 @@
 //! What a list keeps from one drawing to the next.
 
-ghost use Rattle.std.specs.Prelude.{◌≡◌, ◌+◌, ◌-◌, ◌^◌, Some, unwrap_or};
+ghost use Rattle.std.specs.Prelude.{◌≡◌, Some};
 ghost use Rattle.std.specs.Option.{option_map_or};
 ghost use Rattle.std.specs.Borrow.{sem};
+ghost use Rattle.tui_layout.specs.Selection.{back, further, greatest, next_of, previous_of};
 ghost use Rattle.tui_lists.specs.ListState.{LendsOffset, LendsSelected, at_rest};
-ghost use Rattle.tui_text.specs.Width.{saturated};
+
+use tui_layout::selection::{back, further, next_of, previous_of};
 
 /// The first item that is shown, and the selected one if there is one, by their places from 0. A place past the last item counts
 /// as the last one when the list is drawn.
@@ -84,23 +86,17 @@ impl ListState {
 
     /// Selects the next item, or the first where none is selected. At the greatest place it stays.
     pub fn select_next(&mut self)
-        ensures { self.new ≡ record self.old { selected = Some (option_map_or (λ s. saturated (s + 1)) self.old.selected 0) } }
+        ensures { self.new ≡ record self.old { selected = Some (next_of self.old.selected) } }
     {
-        self.selected = Some(match self.selected {
-            None => 0,
-            Some(selected) => selected.saturating_add(1),
-        });
+        self.selected = Some(next_of(self.selected));
     }
 
     /// Selects the item before, or the greatest place where none is selected, which a drawing cuts to the last item. At the first
     /// item it stays.
     pub fn select_previous(&mut self)
-        ensures { self.new ≡ record self.old { selected = Some (option_map_or (λ s. s - 1) self.old.selected (2 ^ 64 - 1)) } }
+        ensures { self.new ≡ record self.old { selected = Some (previous_of self.old.selected) } }
     {
-        self.selected = Some(match self.selected {
-            None => usize::MAX,
-            Some(selected) => selected.saturating_sub(1),
-        });
+        self.selected = Some(previous_of(self.selected));
     }
 
     /// Selects the first item.
@@ -112,7 +108,7 @@ impl ListState {
 
     /// Selects the greatest place, which a drawing cuts to the last item.
     pub fn select_last(&mut self)
-        ensures { self.new ≡ record self.old { selected = Some (2 ^ 64 - 1) } }
+        ensures { self.new ≡ record self.old { selected = Some greatest } }
     {
         self.selected = Some(usize::MAX);
     }
@@ -120,17 +116,15 @@ impl ListState {
     /// Selects the item so many places further down, counted from the first where none is selected. At the greatest place it
     /// stops.
     pub fn scroll_down_by(&mut self, amount: u16)
-        ensures { self.new ≡ record self.old { selected = Some (saturated (unwrap_or self.old.selected 0 + amount)) } }
+        ensures { self.new ≡ record self.old { selected = Some (further self.old.selected amount) } }
     {
-        let selected = self.selected.unwrap_or(0);
-        self.selected = Some(selected.saturating_add(usize::from(amount)));
+        self.selected = Some(further(self.selected, amount));
     }
 
     /// Selects the item so many places further up, counted from the first where none is selected. At the first it stops.
     pub fn scroll_up_by(&mut self, amount: u16)
-        ensures { self.new ≡ record self.old { selected = Some (unwrap_or self.old.selected 0 - amount) } }
+        ensures { self.new ≡ record self.old { selected = Some (back self.old.selected amount) } }
     {
-        let selected = self.selected.unwrap_or(0);
-        self.selected = Some(selected.saturating_sub(usize::from(amount)));
+        self.selected = Some(back(self.selected, amount));
     }
 }

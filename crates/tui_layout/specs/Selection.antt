@@ -1,0 +1,22 @@
+-- Where a selected place moves, counted from 0.
+use Rattle.std.specs.Prelude.{ℕ, ◌+◌, ◌-◌, ◌^◌, min, Option, Some, None, unwrap_or}
+
+abbrev pub greatest : ℕ
+greatest = 2 ^ 64 - 1
+
+-- one place further on, or the first one
+abbrev pub next_of : Option ℕ → ℕ
+next_of None = 0
+next_of (Some place) = min (place + 1) greatest
+
+-- one place back, or the greatest one
+abbrev pub previous_of : Option ℕ → ℕ
+previous_of None = greatest
+previous_of (Some place) = place - 1
+
+-- so many places further on, or back, from the first one where nothing is selected
+abbrev pub further : Option ℕ → ℕ → ℕ
+further selected amount = min (unwrap_or selected 0 + amount) greatest
+
+abbrev pub back : Option ℕ → ℕ → ℕ
+back selected amount = unwrap_or selected 0 - amount
