@@ -46,6 +46,7 @@ pub record Ready {I : Type 0} (can : I → Type 0) (left : I → Count) (i : I) 
   pub ends : IsFinite (left i)
 
 -- the same of an iterator over iterators, and of each of those that it may give
-pub record AllReady {O I : Type 0} (can : O → Type 0) (gives : O → Option (I × Alignment) → O → Type 0) (left : O → Count) (can_inner : I → Type 0) (left_inner : I → Count) (o : O) : Type 0 where
+pub record AllReady {O I : Type 0} (can : O → Type 0) (gives : O → Option (I × Alignment) → O → Type 0) (left : O → Count)
+    (can_inner : I → Type 0) (left_inner : I → Count) (o : O) : Type 0 where
   pub outer : Ready can left o
   pub inner : (xs : List (I × Alignment)) (t u : O) (x : I × Alignment) → Yields gives o xs t → gives t (Some x) u → Ready can_inner left_inner x.0

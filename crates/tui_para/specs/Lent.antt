@@ -9,8 +9,10 @@ abbrev pub glyph_line_of : WrappedLine → GlyphLine
 glyph_line_of line = record { glyphs = map glyph_of line.graphemes.now; alignment = line.alignment }
 
 module _ {S : Type 0} (can_lend : S → Type 0) (to_come awaits : S → List GlyphLine → Type 0) (has_failed : S → Bool) where
-  -- the first line is lent of those that may come and of those that must come, or none where there is none; a call that wants memory leaves a composer that wants it for good
+  -- the first line is lent of those that may come and of those that must come, or none where there is none; a call that
+  -- wants memory leaves a composer that wants it for good
   abbrev pub NextLine : S → Result (Option WrappedLine) NoMemory → S → Type 0
   NextLine old result new = can_lend new × MatchResult result
-      (λ found. (has_failed old ≡ false) × (has_failed new ≡ false) × LendsFirst (to_come old) (option_map glyph_line_of found) (to_come new) × TakesFirst (awaits old) (option_map glyph_line_of found) (awaits new))
+      (λ found. (has_failed old ≡ false) × (has_failed new ≡ false) × LendsFirst (to_come old) (option_map glyph_line_of found) (to_come new)
+      × TakesFirst (awaits old) (option_map glyph_line_of found) (awaits new))
       (λ _. has_failed new ≡ true)

@@ -17,7 +17,8 @@ glyph_line alignment glyphs = record { glyphs = glyphs; alignment = alignment }
 -- each line is cut into parts as R says, and these follow one another with its alignment
 abbrev pub CutAll : (GlyphLine → List (List Glyph) → Type 0) → List GlyphLine → List GlyphLine → Type 0
 CutAll R [] lines = lines ≡ []
-CutAll R (t ∷ ts) lines = (parts : List (List Glyph)) × R t parts × ((rest : List GlyphLine) × CutAll R ts rest × (lines ≡ map (glyph_line t.alignment) parts ++ rest))
+CutAll R (t ∷ ts) lines =
+    (parts : List (List Glyph)) × R t parts × ((rest : List GlyphLine) × CutAll R ts rest × (lines ≡ map (glyph_line t.alignment) parts ++ rest))
 
 -- the same where a function gives the parts
 abbrev pub cut_all : (GlyphLine → List (List Glyph)) → List GlyphLine → List GlyphLine
@@ -41,9 +42,11 @@ abbrev pub LinesOf : (List GlyphLine → Type 0) → (GlyphLine → List (List G
 LinesOf texts R w lines = ((w ≡ 0) × (lines ≡ [])) ⊎ ((0 < w) × ((ts : List GlyphLine) × texts ts × CutAll R ts lines))
 
 -- the same with the parts that are left of a text line that was begun, in front
-abbrev pub LinesLeft : (List GlyphLine → Type 0) → (GlyphLine → List (List Glyph) → Type 0) → (List (List Glyph) → Type 0) → ℕ → Alignment → List GlyphLine → Type 0
+abbrev pub LinesLeft : (List GlyphLine → Type 0) → (GlyphLine → List (List Glyph) → Type 0) → (List (List Glyph) → Type 0) → ℕ → Alignment →
+    List GlyphLine → Type 0
 LinesLeft texts R P w alignment lines = ((w ≡ 0) × (lines ≡ [])) ⊎
-    ((0 < w) × ((parts : List (List Glyph)) × P parts × ((ts : List GlyphLine) × texts ts × ((rest : List GlyphLine) × CutAll R ts rest × (lines ≡ map (glyph_line alignment) parts ++ rest)))))
+    ((0 < w) × ((parts : List (List Glyph)) × P parts × ((ts : List GlyphLine) × texts ts
+    × ((rest : List GlyphLine) × CutAll R ts rest × (lines ≡ map (glyph_line alignment) parts ++ rest)))))
 
 -- no list but the empty one, where there is no more
 abbrev pub UnlessDone : Bool → (List GlyphLine → Type 0) → List GlyphLine → Type 0

@@ -20,7 +20,8 @@ glyphs_from s place glyphs = drop place (glyphs_of s.line) ++ kept glyph_width s
 
 -- the lines of the graphemes that are left of a text line: one at least where none was lent
 abbrev pub LinesOfRest : Bool → ℕ → Bool → List Glyph → List (List Glyph) → Type 0
-LinesOfRest is_new w trim glyphs parts = ((is_new ≡ true) × WrapsKept glyph_blank glyph_width w trim glyphs parts) ⊎ ((is_new ≡ false) × HasLines glyph_blank glyph_width w trim glyphs parts)
+LinesOfRest is_new w trim glyphs parts = ((is_new ≡ true) × WrapsKept glyph_blank glyph_width w trim glyphs parts)
+    ⊎ ((is_new ≡ false) × HasLines glyph_blank glyph_width w trim glyphs parts)
 
 -- those that are not lent yet, where these graphemes are still to be read
 abbrev pub PartsWith : {I : Type 0} → TextLine I → List Glyph → List (List Glyph) → Type 0
@@ -38,20 +39,28 @@ abbrev pub PartsLeft : {I : Type 0} → (I → List Glyph → Type 0) → TextLi
 PartsLeft gives s parts = (glyphs : List Glyph) × SourceGives gives s.source glyphs × PartsWith s glyphs parts
 
 -- those of a wrapper, where `texts` tells which text lines its iterator gives, and `gives` which graphemes theirs give
-abbrev pub WrapperLines : {O I : Type 0} → (O → List GlyphLine → Type 0) → (I → List Glyph → Type 0) → O → TextLine I → Alignment → Bool → List GlyphLine → Type 0
-WrapperLines texts gives o current alignment done = LinesLeft (UnlessDone done (texts o)) (WrapsLine current.width current.trim) (PartsLeft gives current) current.width alignment
+abbrev pub WrapperLines : {O I : Type 0} → (O → List GlyphLine → Type 0) → (I → List Glyph → Type 0) → O → TextLine I → Alignment → Bool →
+    List GlyphLine → Type 0
+WrapperLines texts gives o current alignment done =
+    LinesLeft (UnlessDone done (texts o)) (WrapsLine current.width current.trim) (PartsLeft gives current) current.width alignment
 
 -- the lines that a wrapper may lend
-abbrev pub WrapperMayLend : {O I : Type 0} → (O → Option (I × Alignment) → O → Type 0) → (I → Option StyledGrapheme → I → Type 0) → WordWrapper O I → List GlyphLine → Type 0
-WrapperMayLend outer inner s = WrapperLines (MayGive outer (MayBe inner)) (MayGive inner IsGlyph) s.lines s.current s.alignment s.done
+abbrev pub WrapperMayLend : {O I : Type 0} → (O → Option (I × Alignment) → O → Type 0) → (I → Option StyledGrapheme → I → Type 0) →
+    WordWrapper O I → List GlyphLine → Type 0
+WrapperMayLend outer inner s =
+    WrapperLines (MayGive outer (MayBe inner)) (MayGive inner IsGlyph) s.lines s.current s.alignment s.done
 
 -- those that it lends in any case
-abbrev pub WrapperWillLend : {O I : Type 0} → (O → Option (I × Alignment) → O → Type 0) → (I → Option StyledGrapheme → I → Type 0) → WordWrapper O I → List GlyphLine → Type 0
-WrapperWillLend outer inner s = WrapperLines (WillGive outer (WillBe inner)) (WillGive inner IsGlyph) s.lines s.current s.alignment s.done
+abbrev pub WrapperWillLend : {O I : Type 0} → (O → Option (I × Alignment) → O → Type 0) → (I → Option StyledGrapheme → I → Type 0) →
+    WordWrapper O I → List GlyphLine → Type 0
+WrapperWillLend outer inner s =
+    WrapperLines (WillGive outer (WillBe inner)) (WillGive inner IsGlyph) s.lines s.current s.alignment s.done
 
 -- its iterators may be called, and end
-abbrev pub WrapperCanLend : {O I : Type 0} → (O → Type 0) → (O → Option (I × Alignment) → O → Type 0) → (O → Count) → (I → Type 0) → (I → Count) → WordWrapper O I → Type 0
-WrapperCanLend can gives left can_inner left_inner s = (s.done ≡ false → AllReady can gives left can_inner left_inner s.lines) × IfSome s.current.source (Ready can_inner left_inner)
+abbrev pub WrapperCanLend : {O I : Type 0} → (O → Type 0) → (O → Option (I × Alignment) → O → Type 0) → (O → Count) → (I → Type 0) → (I → Count) →
+    WordWrapper O I → Type 0
+WrapperCanLend can gives left can_inner left_inner s =
+    (s.done ≡ false → AllReady can gives left can_inner left_inner s.lines) × IfSome s.current.source (Ready can_inner left_inner)
 
 -- no text line is begun
 abbrev pub NoParts : List (List Glyph) → Type 0
@@ -61,12 +70,16 @@ NoParts parts = parts ≡ []
 abbrev pub TruncatorLines : {O : Type 0} → (O → List GlyphLine → Type 0) → O → ℕ → ℕ → Alignment → Bool → List GlyphLine → Type 0
 TruncatorLines texts o w offset alignment done = LinesLeft (UnlessDone done (texts o)) (TruncatesLine w offset) NoParts w alignment
 
-abbrev pub TruncatorMayLend : {O I : Type 0} → (O → Option (I × Alignment) → O → Type 0) → (I → Option StyledGrapheme → I → Type 0) → LineTruncator O I → List GlyphLine → Type 0
+abbrev pub TruncatorMayLend : {O I : Type 0} → (O → Option (I × Alignment) → O → Type 0) → (I → Option StyledGrapheme → I → Type 0) →
+    LineTruncator O I → List GlyphLine → Type 0
 TruncatorMayLend outer inner s = TruncatorLines (MayGive outer (MayBe inner)) s.lines s.width s.offset s.alignment s.done
 
-abbrev pub TruncatorWillLend : {O I : Type 0} → (O → Option (I × Alignment) → O → Type 0) → (I → Option StyledGrapheme → I → Type 0) → LineTruncator O I → List GlyphLine → Type 0
+abbrev pub TruncatorWillLend : {O I : Type 0} → (O → Option (I × Alignment) → O → Type 0) → (I → Option StyledGrapheme → I → Type 0) →
+    LineTruncator O I → List GlyphLine → Type 0
 TruncatorWillLend outer inner s = TruncatorLines (WillGive outer (WillBe inner)) s.lines s.width s.offset s.alignment s.done
 
 -- its iterators may be called, and end
-abbrev pub TruncatorCanLend : {O I : Type 0} → (O → Type 0) → (O → Option (I × Alignment) → O → Type 0) → (O → Count) → (I → Type 0) → (I → Count) → LineTruncator O I → Type 0
-TruncatorCanLend can gives left can_inner left_inner s = s.done ≡ false → AllReady can gives left can_inner left_inner s.lines
+abbrev pub TruncatorCanLend : {O I : Type 0} → (O → Type 0) → (O → Option (I × Alignment) → O → Type 0) → (O → Count) → (I → Type 0) → (I → Count) →
+    LineTruncator O I → Type 0
+TruncatorCanLend can gives left can_inner left_inner s =
+    s.done ≡ false → AllReady can gives left can_inner left_inner s.lines

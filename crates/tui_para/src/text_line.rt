@@ -1,6 +1,27 @@
 //! One text line, cut into lines.
 
-ghost use Rattle.std.specs.Prelude.{◌≡◌, ◌≤◌, ◌<◌, ◌++◌, List, [], None, Some, true, false, length, drop, map, All, IfOk, IfSome, IsSome, OnOk, option_map, sum_by};
+ghost use Rattle.std.specs.Prelude.{
+  ◌≡◌,
+  ◌≤◌,
+  ◌<◌,
+  ◌++◌,
+  List,
+  [],
+  None,
+  Some,
+  true,
+  false,
+  length,
+  drop,
+  map,
+  All,
+  IfOk,
+  IfSome,
+  IsSome,
+  OnOk,
+  option_map,
+  sum_by,
+};
 ghost use Rattle.std.specs.List.{between};
 ghost use Rattle.tui_text.specs.Grapheme.{Glyph, glyph_of, glyph_width};
 ghost use Rattle.tui_text.specs.declared.grapheme.StyledGrapheme.{StyledGrapheme};
@@ -66,7 +87,8 @@ impl<'a, I> TextLine<'a, I> {
 
     /// The next line, where it is this one whatever graphemes are still to be read.
     fn known_line(&self) -> Option<Place>
-        ensures order { IfSome result (λ p. (p.start ≤ p.end) × (p.end ≤ length (glyphs_of self.now.line)) × (p.next ≤ length (glyphs_of self.now.line))) }
+        ensures order { IfSome result (λ p. (p.start ≤ p.end) × (p.end ≤ length (glyphs_of self.now.line))
+            × (p.next ≤ length (glyphs_of self.now.line))) }
         ensures columns { IfSome result (λ p. p.width ≡ sum_by glyph_width (between p.start p.end (glyphs_of self.now.line))) }
         ensures first { IfSome result (λ p. (glyphs : List Glyph) → (self.now.source ≡ None → glyphs ≡ []) → FirstLine self.now p glyphs) }
         ensures none { result ≡ None → self.now.source ≡ None → (self.now.is_new ≡ false) × (drop self.now.place (glyphs_of self.now.line) ≡ []) }
@@ -90,7 +112,8 @@ impl<'a, I> TextLine<'a, I> {
 
     /// The one empty line of a text line without graphemes.
     fn empty_line(&self) -> Option<Place>
-        ensures some { IfSome result (λ p. (self.now.is_new ≡ true) × (self.now.source ≡ None) × (p ≡ record { start = self.now.place; end = self.now.place; next = self.now.place; width = 0 })) }
+        ensures some { IfSome result (λ p. (self.now.is_new ≡ true) × (self.now.source ≡ None)
+            × (p ≡ record { start = self.now.place; end = self.now.place; next = self.now.place; width = 0 })) }
         ensures none { result ≡ None → self.now.source ≡ None → self.now.is_new ≡ false }
     {
         if self.is_new && self.source.is_none() {
@@ -175,7 +198,8 @@ impl<'a, I: Iterator<Item = StyledGrapheme<'a>>> TextLine<'a, I> {
             (option_map (part_of (glyphs_of self.new.line)) found) (PartsLeft (MayGive I.next_gives IsGlyph) self.new)) }
         ensures takes { IfOk result (λ found. TakesFirst (PartsLeft (WillGive I.next_gives IsGlyph) self.old)
             (option_map (part_of (glyphs_of self.new.line)) found) (PartsLeft (WillGive I.next_gives IsGlyph) self.new)) }
-        ensures over { IfOk result (λ found. found ≡ None → (self.new.source ≡ None) × (self.new.is_new ≡ false) × (drop self.new.place (glyphs_of self.new.line) ≡ [])) }
+        ensures over { IfOk result (λ found. found ≡ None → (self.new.source ≡ None) × (self.new.is_new ≡ false)
+            × (drop self.new.place (glyphs_of self.new.line) ≡ [])) }
     {
         'lines: loop {
             if let Some(line) = self.known_line() {
@@ -193,8 +217,10 @@ impl<'a, I: Iterator<Item = StyledGrapheme<'a>>> TextLine<'a, I> {
         requires { IfSome self.old.source (Ready I.can_next I.remaining) }
         ensures ready { IfSome self.new.source (Ready I.can_next I.remaining) }
         ensures same { (self.new.is_new ≡ self.old.is_new) × (self.new.width ≡ self.old.width) × (self.new.trim ≡ self.old.trim) }
-        ensures read { OnOk result (IfSome self.old.source (λ source. (taken : List StyledGrapheme) × SourceReads I.next_gives source taken self.new.source
-            × (drop self.new.place (glyphs_of self.new.line) ≡ drop self.old.place (glyphs_of self.old.line) ++ kept glyph_width self.old.width (map glyph_of taken)))) }
+        ensures read { OnOk result (IfSome self.old.source (λ source. (taken : List StyledGrapheme)
+            × SourceReads I.next_gives source taken self.new.source
+            × (drop self.new.place (glyphs_of self.new.line)
+            ≡ drop self.old.place (glyphs_of self.old.line) ++ kept glyph_width self.old.width (map glyph_of taken)))) }
         ensures nearer { OnOk result (IsSome self.old.source → source_left I.remaining self.new.source < source_left I.remaining self.old.source) }
     {
         let Some(source) = self.source.take() else {

@@ -39,7 +39,8 @@ where
     pub fn new(alloc: Global, lines: O, max_line_width: u16) -> LineTruncator<'a, O, I>
         ensures failed { result.failed ≡ false }
         ensures offset { result.offset ≡ 0 }
-        ensures ready { AllReady O.can_next O.next_gives O.remaining I.can_next I.remaining lines → TruncatorCanLend O.can_next O.next_gives O.remaining I.can_next I.remaining result }
+        ensures ready { AllReady O.can_next O.next_gives O.remaining I.can_next I.remaining lines
+            → TruncatorCanLend O.can_next O.next_gives O.remaining I.can_next I.remaining result }
         ensures may { (offset : ℕ) (glyph_lines : List GlyphLine) → TruncatorMayLend O.next_gives I.next_gives (record result { offset = offset }) glyph_lines
             ↔ LinesOf (MayGive O.next_gives (MayBe I.next_gives) lines) (TruncatesLine max_line_width offset) max_line_width glyph_lines }
         ensures will { (offset : ℕ) (glyph_lines : List GlyphLine) → TruncatorWillLend O.next_gives I.next_gives (record result { offset = offset }) glyph_lines
@@ -71,9 +72,11 @@ where
         ensures columns { IfOk result (λ found. IfSome found (λ columns. columns ≡ sum_by glyph_width (map glyph_of self.new.shown.items))) }
         ensures failed { MatchResult result (λ _. (self.old.failed ≡ false) × (self.new.failed ≡ false)) (λ _. self.new.failed ≡ true) }
         ensures lends { IfOk result (λ found. LendsFirst (TruncatorMayLend O.next_gives I.next_gives self.old)
-            (option_map (λ _. glyph_line self.new.alignment (map glyph_of self.new.shown.items)) found) (TruncatorMayLend O.next_gives I.next_gives self.new)) }
+            (option_map (λ _. glyph_line self.new.alignment (map glyph_of self.new.shown.items)) found)
+            (TruncatorMayLend O.next_gives I.next_gives self.new)) }
         ensures takes { IfOk result (λ found. TakesFirst (TruncatorWillLend O.next_gives I.next_gives self.old)
-            (option_map (λ _. glyph_line self.new.alignment (map glyph_of self.new.shown.items)) found) (TruncatorWillLend O.next_gives I.next_gives self.new)) }
+            (option_map (λ _. glyph_line self.new.alignment (map glyph_of self.new.shown.items)) found)
+            (TruncatorWillLend O.next_gives I.next_gives self.new)) }
     {
         if self.failed {
             return Err(NoMemory);

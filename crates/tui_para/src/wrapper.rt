@@ -34,7 +34,8 @@ where
     /// its blanks.
     pub fn new(alloc: Global, lines: O, max_line_width: u16, trim: bool) -> WordWrapper<'a, O, I>
         ensures failed { result.failed ≡ false }
-        ensures ready { AllReady O.can_next O.next_gives O.remaining I.can_next I.remaining lines → WrapperCanLend O.can_next O.next_gives O.remaining I.can_next I.remaining result }
+        ensures ready { AllReady O.can_next O.next_gives O.remaining I.can_next I.remaining lines
+            → WrapperCanLend O.can_next O.next_gives O.remaining I.can_next I.remaining result }
         ensures may { (glyph_lines : List GlyphLine) → WrapperMayLend O.next_gives I.next_gives result glyph_lines
             ↔ LinesOf (MayGive O.next_gives (MayBe I.next_gives) lines) (WrapsLine max_line_width trim) max_line_width glyph_lines }
         ensures will { (glyph_lines : List GlyphLine) → WrapperWillLend O.next_gives I.next_gives result glyph_lines
@@ -57,9 +58,11 @@ where
         ensures columns { IfOk result (λ found. IfSome found (λ p. p.width ≡ sum_by glyph_width (part_of (glyphs_of self.new.current.line) p))) }
         ensures failed { MatchResult result (λ _. (self.old.failed ≡ false) × (self.new.failed ≡ false)) (λ _. self.new.failed ≡ true) }
         ensures lends { IfOk result (λ found. LendsFirst (WrapperMayLend O.next_gives I.next_gives self.old)
-            (option_map (λ p. glyph_line self.new.alignment (part_of (glyphs_of self.new.current.line) p)) found) (WrapperMayLend O.next_gives I.next_gives self.new)) }
+            (option_map (λ p. glyph_line self.new.alignment (part_of (glyphs_of self.new.current.line) p)) found)
+            (WrapperMayLend O.next_gives I.next_gives self.new)) }
         ensures takes { IfOk result (λ found. TakesFirst (WrapperWillLend O.next_gives I.next_gives self.old)
-            (option_map (λ p. glyph_line self.new.alignment (part_of (glyphs_of self.new.current.line) p)) found) (WrapperWillLend O.next_gives I.next_gives self.new)) }
+            (option_map (λ p. glyph_line self.new.alignment (part_of (glyphs_of self.new.current.line) p)) found)
+            (WrapperWillLend O.next_gives I.next_gives self.new)) }
     {
         if self.failed {
             return Err(NoMemory);
@@ -76,9 +79,11 @@ where
         ensures order { IfOk result (λ found. IfSome found (λ p. (p.start ≤ p.end) × (p.end ≤ length (glyphs_of self.new.current.line)))) }
         ensures columns { IfOk result (λ found. IfSome found (λ p. p.width ≡ sum_by glyph_width (part_of (glyphs_of self.new.current.line) p))) }
         ensures lends { IfOk result (λ found. LendsFirst (WrapperMayLend O.next_gives I.next_gives self.old)
-            (option_map (λ p. glyph_line self.new.alignment (part_of (glyphs_of self.new.current.line) p)) found) (WrapperMayLend O.next_gives I.next_gives self.new)) }
+            (option_map (λ p. glyph_line self.new.alignment (part_of (glyphs_of self.new.current.line) p)) found)
+            (WrapperMayLend O.next_gives I.next_gives self.new)) }
         ensures takes { IfOk result (λ found. TakesFirst (WrapperWillLend O.next_gives I.next_gives self.old)
-            (option_map (λ p. glyph_line self.new.alignment (part_of (glyphs_of self.new.current.line) p)) found) (WrapperWillLend O.next_gives I.next_gives self.new)) }
+            (option_map (λ p. glyph_line self.new.alignment (part_of (glyphs_of self.new.current.line) p)) found)
+            (WrapperWillLend O.next_gives I.next_gives self.new)) }
     {
         if self.current.width() == 0 {
             return Ok(None);
