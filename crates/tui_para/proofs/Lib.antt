@@ -4,6 +4,7 @@ mod Rows
 mod Mapped
 mod Parts
 mod Lending
+mod Answering
 mod TruncatedOnce
 mod Reading
 mod LineCounts
@@ -21,6 +22,7 @@ mod Extending
 mod FirstLines
 mod PartsRead
 mod Beginning
+mod CutLines
 mod TextLends
 mod LeftOut
 pub mod LogoLight

@@ -40,7 +40,7 @@ module _ {A B : Type 0} (f : A → B) (xs : List A) (ys : List B) (place : ℕ) 
 pub all_kept : {A : Type 0} (size : A → ℕ) (w : ℕ) (xs ys : List A) → ys ≡ kept size w xs → All (λ x. size x ≤ w) ys
 all_kept size w xs ys e = subst (All (λ x. size x ≤ w)) (sym e) (All-from_recursion (λ x. size x ≤ w) (kept size w xs) (all_fit-kept size w xs))
 
-no_cons : {A : Type 0} (x : A) (xs : List A) → [] ≡ x ∷ xs → ⊥
+pub no_cons : {A : Type 0} (x : A) (xs : List A) → [] ≡ x ∷ xs → ⊥
 no_cons x xs e = cc
 
 -- a text line has a line

@@ -7,10 +7,10 @@ use Rattle.std.proofs.lemmas.Bool.{cases_Bool, leb-true, leb-false}
 use Rattle.std.proofs.lemmas.List.{append_cancel_left}
 use Rattle.std.proofs.lemmas.Bool.Decides.{nat_tests}
 use Rattle.tui_text.specs.Grapheme.{Glyph, glyph_width}
-use Rattle.tui_para.specs.Lines.{GlyphLine, is_left, LendsFirst, TakesFirst, TruncatesLine}
-use Rattle.tui_para.specs.Wrapping.{NoParts}
+use Rattle.tui_para.specs.Lines.{GlyphLine, is_left, IsFirstOf, TruncatesLine}
 use Rattle.tui_para.specs.Truncated.{IsLongestPrefix, FitsIn, IsPassedBy, Truncated, fitting_prefix, left_by, truncate}
 use Rattle.tui_para.specs.Wrapped.{kept, IsTheOne}
+use Rattle.tui_para.proofs.Parts.{no_cons}
 use Rattle.tui_para.proofs.Unique.{cuts}
 
 no_shorter : {A : Type 0} (k m : List A) (y : A) (ys : List A) → k ≡ m ++ y ∷ ys → length k ≤ length m → ⊥
@@ -27,9 +27,6 @@ same_prefix P xs front after other more f g =
     (λ s. absurd (no_shorter front other s.0 s.1 s.2 (g.longest front after f.joined f.holds))))
     (cuts front after other more whole) in
     (same, append_cancel_left front after more (whole ∙ ap (λ t. t ++ more) (sym same)))
-
-no_cons : {A : Type 0} (x : A) (xs : List A) → [] ≡ x ∷ xs → ⊥
-no_cons x xs e = cc
 
 module _ {A : Type 0} (size : A → ℕ) where
   -- the graphemes that fit are the longest front that does
@@ -184,15 +181,11 @@ module _ {A : Type 0} (size : A → ℕ) where
   left_by_none [] = refl
   left_by_none (x ∷ xs) = refl
 
--- the one line of a text line lends itself
-module _ (w offset : ℕ) (t : GlyphLine) (line : List Glyph) (line_is_cut : line ≡ truncate glyph_width w (is_left t.alignment) offset t.glyphs) where
-  pub line_lends : LendsFirst (TruncatesLine w offset t) (Some line) NoParts
-  line_lends parts none =
-      (line, subst (Truncated glyph_width w (is_left t.alignment) offset t.glyphs) (sym line_is_cut) (truncate_is glyph_width w (is_left t.alignment) offset t.glyphs), ap (λ k. line ∷ k) none)
-
-  pub line_takes : TakesFirst (TruncatesLine w offset t) (Some line) NoParts
-  line_takes parts (other, h, e) =
-      ([], e ∙ ap (λ k. k ∷ []) ((truncates_once glyph_width w (is_left t.alignment) offset t.glyphs).alone other h ∙ sym line_is_cut), refl)
-
-pub truncates_some : (w offset : ℕ) (t : GlyphLine) → TruncatesLine w offset t [] → ⊥
-truncates_some w offset t (line, h, e) = no_cons line [] e
+-- the one line of a text line
+pub cut_first : (w offset : ℕ) (t : GlyphLine) (line : List Glyph) → line ≡ truncate glyph_width w (is_left t.alignment) offset t.glyphs → IsFirstOf (Some line) (TruncatesLine w offset t) (λ parts. parts ≡ [])
+cut_first w offset t line cut =
+    let is = truncates_once glyph_width w (is_left t.alignment) offset t.glyphs in
+    record {
+      lends = λ parts none. (line, subst (Truncated glyph_width w (is_left t.alignment) offset t.glyphs) (sym cut) is.meets, ap (λ k. line ∷ k) none);
+      takes = λ parts (other, h, e). ([], e ∙ ap (λ k. k ∷ []) (is.alone other h ∙ sym cut), refl);
+    }

@@ -2,7 +2,7 @@
 use Rattle.std.specs.Prelude.{◌≡◌, Bool, true, false, List, Option, option_map, Result, MatchResult, map}
 use Rattle.tui_cells.specs.declared.memory.NoMemory.{NoMemory}
 use Rattle.tui_text.specs.Grapheme.{glyph_of}
-use Rattle.tui_para.specs.Lines.{GlyphLine, LendsFirst, TakesFirst}
+use Rattle.tui_para.specs.Lines.{GlyphLine, IsFirst}
 use Rattle.tui_para.specs.declared.composer.WrappedLine.{WrappedLine}
 
 abbrev pub glyph_line_of : WrappedLine → GlyphLine
@@ -13,6 +13,6 @@ module _ {S : Type 0} (can_lend : S → Type 0) (to_come awaits : S → List Gly
   -- wants memory leaves a composer that wants it for good
   abbrev pub NextLine : S → Result (Option WrappedLine) NoMemory → S → Type 0
   NextLine old result new = can_lend new × MatchResult result
-      (λ found. (has_failed old ≡ false) × (has_failed new ≡ false) × LendsFirst (to_come old) (option_map glyph_line_of found) (to_come new)
-      × TakesFirst (awaits old) (option_map glyph_line_of found) (awaits new))
+      (λ found. (has_failed old ≡ false) × (has_failed new ≡ false)
+      × IsFirst (option_map glyph_line_of found) (to_come old) (awaits old) (to_come new) (awaits new))
       (λ _. has_failed new ≡ true)

@@ -54,7 +54,7 @@ pub fn wrapper_lends_some<'a, O, I>(wrapper: WordWrapper<'a, O, I>)
 where
     O: Iterator<Item = (I, Alignment)>,
     I: Iterator<Item = StyledGrapheme<'a>>,
-    requires { WrapperCanLend O.can_next O.next_gives O.remaining I.can_next I.remaining wrapper }
+    requires { WrapperCanLend O.Iterator I.Iterator wrapper }
     ensures some { (lines : List GlyphLine) × WrapperMayLend O.next_gives I.next_gives wrapper.entry lines }
     ensures known { (known : List GlyphLine) → WrapperWillLend O.next_gives I.next_gives wrapper.entry known
         → IsTheOne (WrapperMayLend O.next_gives I.next_gives wrapper.entry) known }
@@ -88,7 +88,7 @@ pub fn truncator_lends_some<'a, O, I>(truncator: LineTruncator<'a, O, I>)
 where
     O: Iterator<Item = (I, Alignment)>,
     I: Iterator<Item = StyledGrapheme<'a>>,
-    requires { TruncatorCanLend O.can_next O.next_gives O.remaining I.can_next I.remaining truncator }
+    requires { TruncatorCanLend O.Iterator I.Iterator truncator }
     ensures some { (lines : List GlyphLine) × TruncatorMayLend O.next_gives I.next_gives truncator.entry lines }
     ensures known { (known : List GlyphLine) → TruncatorWillLend O.next_gives I.next_gives truncator.entry known
         → IsTheOne (TruncatorMayLend O.next_gives I.next_gives truncator.entry) known }
