@@ -6,20 +6,8 @@ use Rattle.std.specs.declared.iter.Iterator.{Ghosts}
 use Rattle.tui_text.specs.Grapheme.{Glyph, glyph_of}
 use Rattle.tui_text.specs.declared.alignment.Alignment.{Alignment}
 use Rattle.tui_text.specs.declared.grapheme.StyledGrapheme.{StyledGrapheme}
-use Rattle.tui_para.specs.Given.{
-  AllReady,
-  Answers,
-  MayBe,
-  MayGive,
-  Ready,
-  SourceGives,
-  SourceReads,
-  WillBe,
-  WillGive,
-  both,
-  line_answers,
-  source_answers,
-}
+use Rattle.tui_para.specs.Answers.{Answers, both}
+use Rattle.tui_para.specs.Given.{AllReady, MayBe, MayGive, Ready, SourceGives, SourceReads, WillBe, WillGive, line_answers, source_answers}
 use Rattle.tui_para.specs.Lines.{GlyphLine, glyph_line, UnlessDone}
 
 -- readiness, a call on

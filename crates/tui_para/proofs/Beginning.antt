@@ -6,7 +6,8 @@ use Rattle.std.specs.Prelude.{◌↔◌, ◌⊎◌, IfOk, Result, Ok, Err}
 use Rattle.tui_text.specs.Grapheme.{Glyph, glyph_of, glyph_blank, glyph_width}
 use Rattle.tui_text.specs.declared.alignment.Alignment.{Alignment}
 use Rattle.tui_text.specs.declared.grapheme.StyledGrapheme.{StyledGrapheme}
-use Rattle.tui_para.specs.Given.{IsGlyph, MayBe, MayGive, WillBe, WillGive, SourceGives, SourceReads, line_answers, source_answers, both}
+use Rattle.tui_para.specs.Answers.{both}
+use Rattle.tui_para.specs.Given.{IsGlyph, MayBe, MayGive, WillBe, WillGive, SourceGives, SourceReads, line_answers, source_answers}
 use Rattle.tui_para.specs.Lines.{GlyphLine, glyph_line, CutAll, IsFirstOf, LinesAfter, LinesFrom, LinesOf, UnlessDone, WrapsLine}
 use Rattle.tui_para.specs.Marked.{glyphs_of, part_of}
 use Rattle.tui_para.specs.Wrapped.{WrapsKept, kept}

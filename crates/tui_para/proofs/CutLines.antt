@@ -6,10 +6,11 @@ use Rattle.tui_text.specs.Grapheme.{Glyph, glyph_of, glyph_width}
 use Rattle.tui_text.specs.declared.alignment.Alignment.{Alignment}
 use Rattle.tui_text.specs.declared.grapheme.StyledGrapheme.{StyledGrapheme}
 use Rattle.std.specs.Prelude.{Option}
-use Rattle.tui_para.specs.Given.{MayBe, MayGive, WillBe, WillGive, both, line_answers, source_answers}
-use Rattle.tui_para.specs.Lines.{GlyphLine, glyph_line, is_left, CutAll, IsFirst, IsFirstOf, LinesAfter, LinesFrom, TruncatesLine}
+use Rattle.tui_para.specs.Answers.{both}
+use Rattle.tui_para.specs.Given.{MayBe, MayGive, WillBe, WillGive, line_answers, source_answers}
+use Rattle.tui_para.specs.Lines.{GlyphLine, glyph_line, is_left, CutAll, IsFirst, IsFirstOf, LinesAfter, lines_from, TruncatesLine}
 use Rattle.tui_para.specs.Truncated.{truncate}
-use Rattle.tui_para.specs.Wrapping.{TruncatorMayLend, TruncatorWillLend, truncator_answers}
+use Rattle.tui_para.specs.Wrapping.{truncator_answers, truncator_lends}
 use Rattle.tui_para.specs.declared.truncator.LineTruncator.{LineTruncator}
 use Rattle.tui_para.proofs.Answering.{Gave, Gave-beside, Gave-none, Gave-then, all_may, all_will, line_gave, will_stop}
 use Rattle.tui_para.proofs.Lending.{first_along, first_from, none_before, part_first, same_lists}
@@ -21,7 +22,7 @@ module _ {O I : Type 0} (outer : O → Option (I × Alignment) → O → Type 0)
 
   -- no text line is left
   pub none_left : (u : O) (later : Bool) → Gave (line_answers outer inner s.done s.lines) (λ ts. ts) (line_answers outer inner later u) → later ≡ true →
-      IsFirst None (TruncatorMayLend outer inner s) (TruncatorWillLend outer inner s) (LinesFrom (line_answers outer inner later u).may (CutAll cuts) s.width) (LinesFrom (line_answers outer inner later u).will (CutAll cuts) s.width)
+      IsFirst None (truncator_lends outer inner s) (lines_from (line_answers outer inner later u) (CutAll cuts) s.width)
   none_left u later gave over =
       first_from (truncator_answers outer inner s) (line_answers outer inner later u) (λ ts. ts) gave (CutAll cuts) (CutAll cuts) s.width s.width some refl None
       (λ ts comes. subst (λ k. IsFirstOf None (CutAll cuts k) (CutAll cuts k)) (sym (⊎_elim (λ h. will_stop (MayGive outer (MayBe inner) u) later over ts h) (λ h. will_stop (WillGive outer (WillBe inner) u) later over ts h) comes))
@@ -30,7 +31,7 @@ module _ {O I : Type 0} (outer : O → Option (I × Alignment) → O → Type 0)
 
   -- one is cut
   pub line_cut : (u : O) (i : I) (a : Alignment) (all : List StyledGrapheme) (shown : List Glyph) → s.done ≡ false → outer s.lines (Some (i, a)) u → Drains inner i all → shown ≡ truncate glyph_width s.width (is_left a) s.offset (map glyph_of all) →
-      IsFirst (Some (glyph_line a shown)) (TruncatorMayLend outer inner s) (TruncatorWillLend outer inner s) (LinesFrom (line_answers outer inner s.done u).may (CutAll cuts) s.width) (LinesFrom (line_answers outer inner s.done u).will (CutAll cuts) s.width)
+      IsFirst (Some (glyph_line a shown)) (truncator_lends outer inner s) (lines_from (line_answers outer inner s.done u) (CutAll cuts) s.width)
   line_cut u i a all shown going step drains cut =
       let texts = line_answers outer inner s.done s.lines in
       let rest = line_answers outer inner s.done u in

@@ -11,6 +11,7 @@ use Rattle.tui_para.specs.Wrapping.{FirstLine, glyphs_from}
 use Rattle.tui_para.specs.declared.breaking.Place.{Place}
 use Rattle.tui_para.specs.declared.text_line.TextLine.{TextLine}
 use Rattle.tui_para.proofs.Extending.{next-append}
+use Rattle.tui_para.proofs.Filled.{some_append}
 use Rattle.tui_para.proofs.Parts.{between-drop, between-nil, no_lines}
 use Rattle.tui_para.proofs.Unique.{same_next}
 
@@ -33,10 +34,6 @@ next_of_all blank size w trim xs line ys next known n = ⊎_elim
     (λ l. next-append blank size w trim xs line (drop next xs) ys n (λ e. (let z = ap length e in let t = length-drop next xs in absurd (omega arith))))
     (λ e. rw e (rw (append-nil xs, append-nil (drop next xs)) n))
     known
-
-append_some : {A : Type 0} (xs ys : List A) → xs ≢ [] → xs ++ ys ≢ []
-append_some [] ys some e = some refl
-append_some (x ∷ xs) ys some e = cc
 
 module _ {I : Type 0} (s : TextLine I) (glyphs : List Glyph) where
   pub first_empty : (p : Place) → p ≡ record { start = s.place; end = s.place; next = s.place; width = 0 } → s.is_new ≡ true → glyphs ≡ [] → drop s.place (glyphs_of s.line) ≡ [] → FirstLine s p glyphs
@@ -71,7 +68,7 @@ module _ {I : Type 0} (s : TextLine I) (glyphs : List Glyph) where
         let first : IsNextLine glyph_blank glyph_width s.width s.trim (xs ++ ys) line (drop next xs ++ ys) =
         next_of_all glyph_blank glyph_width s.width s.trim xs line ys next (⊎_elim (λ k. inl k) (λ e. inr (ap (kept glyph_width s.width) e)) known) n in
         let some : xs ≢ [] = λ e. (let z = ap length e in let t = length-drop s.place all in absurd (omega arith)) in
-        let more : xs ++ ys ≢ [] = append_some xs ys some in
+        let more : xs ++ ys ≢ [] = some_append xs ys some in
         let at : between (s.place + start) (s.place + end) all ≡ line = sym (between-drop s.place start end all) in
         let after : drop (s.place + next) all ++ ys ≡ drop next xs ++ ys = ap (λ k. k ++ ys) (sym (drop-drop next s.place all)) in
         record {

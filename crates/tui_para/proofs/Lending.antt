@@ -4,8 +4,8 @@ use Rattle.std.proofs.lemmas.Bool.{cases_lt}
 use Rattle.std.specs.Prelude.{◌↔◌, ◌⊎◌}
 use Rattle.tui_text.specs.Grapheme.{Glyph}
 use Rattle.tui_text.specs.declared.alignment.Alignment.{Alignment}
-use Rattle.tui_para.specs.Given.{Answers}
-use Rattle.tui_para.specs.Lines.{GlyphLine, glyph_line, CutAll, IsFirst, IsFirstOf, LinesAfter, LinesFrom}
+use Rattle.tui_para.specs.Answers.{Answers}
+use Rattle.tui_para.specs.Lines.{GlyphLine, glyph_line, CutAll, IsFirst, IsFirstOf, LinesAfter, LinesFrom, lines_from}
 use Rattle.tui_para.proofs.Answering.{Gave}
 
 -- what holds of the same lists
@@ -51,32 +51,31 @@ module _ {X Y : Type 0} (k : Answers X) (l : Answers Y) (back : Y → X) (gave :
   some_later : 0 < v
   some_later = omega arith
 
-  pub first_from : (first : Option GlyphLine) → ((y : Y) → (l.may y ⊎ l.will y) → IsFirstOf first (cuts (back y)) (later y)) → (first ≡ None → (y : Y) × l.may y) →
-      IsFirst first (LinesFrom k.may cuts w) (LinesFrom k.will cuts w) (LinesFrom l.may later v) (LinesFrom l.will later v)
+  came : (lines : List GlyphLine) → LinesFrom k.will cuts w lines → (y : Y) × l.will y × cuts (back y) lines
+  came lines h = ⊎_elim
+      (λ z. let e = z.0 in absurd (omega arith))
+      (λ (p, (x, will, cut)). let (y, e, after) = gave.will x will in (y, after, subst (λ c. cuts c lines) e cut))
+      h
+
+  pub first_from : (first : Option GlyphLine) → ((y : Y) → (l.may y ⊎ l.will y) → IsFirstOf first (cuts (back y)) (later y)) → (first ≡ None → (y : Y) × l.may y) → IsFirst first (lines_from k cuts w) (lines_from l later v)
   first_from None is ends =
       let (y, may) = ends refl in
       record {
         lends = inr (some, (back y, gave.may y may, (is y (inl may)).lends));
-        takes = λ lines h. ⊎_elim
-            (λ z. let e = z.0 in absurd (omega arith))
-            (λ (p, (x, will, cut)).
-            let (u, e, after) = gave.will x will in
-            let none = (is u (inr after)).takes lines (subst (λ c. cuts c lines) e cut) in
-            (none.0, inr (some_later, (u, after, none.1))))
-            h;
+        takes = λ lines h.
+            let (u, after, cut) = came lines h in
+            let none = (is u (inr after)).takes lines cut in
+            (none.0, inr (some_later, (u, after, none.1)));
       }
   first_from (Some line) is ends = record {
     lends = λ lines h. ⊎_elim
         (λ z. let e = z.0 in absurd (omega arith))
         (λ (p, (y, may, cut)). inr (some, (back y, gave.may y may, (is y (inl may)).lends lines cut)))
         h;
-    takes = λ lines h. ⊎_elim
-        (λ z. let e = z.0 in absurd (omega arith))
-        (λ (p, (x, will, cut)).
-        let (u, e, after) = gave.will x will in
-        let on = (is u (inr after)).takes lines (subst (λ c. cuts c lines) e cut) in
-        (on.0, on.1, inr (some_later, (u, after, on.2))))
-        h;
+    takes = λ lines h.
+        let (u, after, cut) = came lines h in
+        let on = (is u (inr after)).takes lines cut in
+        (on.0, on.1, inr (some_later, (u, after, on.2)));
   }
 
 pub positive : (n m : ℕ) → n ≡ m → (n ≡ 0 → ⊥) → 0 < m

@@ -2,6 +2,7 @@ mod Unique
 mod Greedy
 mod Rows
 mod Mapped
+mod Filled
 mod Parts
 mod Lending
 mod Answering

@@ -4,7 +4,8 @@ use Rattle.std.proofs.lemmas.Bool.{false≢true}
 use Rattle.tui_text.specs.Grapheme.{Glyph, glyph_blank, glyph_width}
 use Rattle.tui_text.specs.declared.alignment.Alignment.{Alignment}
 use Rattle.tui_text.specs.declared.grapheme.StyledGrapheme.{StyledGrapheme}
-use Rattle.tui_para.specs.Given.{Answers, MayGive, WillGive, IsGlyph, MayBe, WillBe, SourceGives}
+use Rattle.tui_para.specs.Answers.{Answers}
+use Rattle.tui_para.specs.Given.{MayGive, WillGive, IsGlyph, MayBe, WillBe, SourceGives}
 use Rattle.tui_para.specs.Lines.{GlyphLine, glyph_line, is_left, LinesFrom, TruncatesLine, UnlessDone, WrapsLine}
 use Rattle.tui_para.specs.Places.{wrap}
 use Rattle.tui_para.specs.Truncated.{truncate}

@@ -12,8 +12,9 @@ use Rattle.tui_para.specs.Wrapping.{LinesOfRest, PartsWith, TruncatorCuts, Wrapp
 use Rattle.tui_para.specs.declared.text_line.TextLine.{TextLine}
 use Rattle.tui_para.specs.declared.truncator.LineTruncator.{LineTruncator}
 use Rattle.tui_para.specs.declared.wrapper.WordWrapper.{WordWrapper}
+use Rattle.tui_para.proofs.Filled.{no_cons}
 use Rattle.tui_para.proofs.Greedy.{AllFit, lines_are}
-use Rattle.tui_para.proofs.Parts.{all_kept, no_cons}
+use Rattle.tui_para.proofs.Parts.{all_kept}
 use Rattle.tui_para.proofs.TextCut.{cut_is, truncates_to, wraps_to}
 
 -- what is given is cut into lines

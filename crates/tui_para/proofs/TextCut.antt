@@ -21,7 +21,7 @@ use Rattle.tui_para.specs.WrappedText.{WrappedText, TruncatedText, wrap_text, tr
 use Rattle.tui_para.specs.declared.text_lines.TextLines.{TextLines}
 use Rattle.tui_para.specs.declared.wrap.Wrap.{Wrap}
 use Rattle.tui_para.proofs.Greedy.{wrap_is}
-use Rattle.tui_para.proofs.Parts.{no_cons}
+use Rattle.tui_para.proofs.Filled.{no_cons}
 use Rattle.tui_para.proofs.TruncatedOnce.{truncate_is, truncates_once}
 use Rattle.tui_para.proofs.Unique.{wrapped_once}
 

@@ -10,7 +10,7 @@ use Rattle.tui_text.specs.Grapheme.{Glyph, glyph_width}
 use Rattle.tui_para.specs.Lines.{GlyphLine, is_left, IsFirstOf, TruncatesLine}
 use Rattle.tui_para.specs.Truncated.{IsLongestPrefix, FitsIn, IsPassedBy, Truncated, fitting_prefix, left_by, truncate}
 use Rattle.tui_para.specs.Wrapped.{kept, IsTheOne}
-use Rattle.tui_para.proofs.Parts.{no_cons}
+use Rattle.tui_para.proofs.Filled.{no_cons}
 use Rattle.tui_para.proofs.Unique.{cuts}
 
 no_shorter : {A : Type 0} (k m : List A) (y : A) (ys : List A) → k ≡ m ++ y ∷ ys → length k ≤ length m → ⊥
@@ -28,14 +28,21 @@ same_prefix P xs front after other more f g =
     (cuts front after other more whole) in
     (same, append_cancel_left front after more (whole ∙ ap (λ t. t ++ more) (sym same)))
 
+nothing : {A : Type 0} (other more : List A) → [] ≡ other ++ more → length other ≤ 0
+nothing [] more e = omega arith
+nothing (y ∷ o) more e = absurd (no_cons y (o ++ more) e)
+
 module _ {A : Type 0} (size : A → ℕ) where
+  nothing_passed : (offset : ℕ) → IsPassedBy size offset []
+  nothing_passed offset = record { fits = omega arith; needed = needed }
+    where
+      needed : (shorter more : List A) → [] ≡ shorter ++ more → more ≢ [] → sum_by size shorter < offset
+      needed [] more e n = absurd (n (sym e))
+      needed (y ∷ o) more e n = absurd (no_cons y (o ++ more) e)
+
   -- the graphemes that fit are the longest front that does
   fitting_is : (room : ℕ) (xs : List A) → (rest : List A) × IsLongestPrefix (FitsIn size room) xs (fitting_prefix size room xs) rest
   fitting_is room [] = ([], record { joined = refl; holds = omega arith; longest = λ other more e h. nothing other more e })
-    where
-      nothing : (other more : List A) → [] ≡ other ++ more → length other ≤ 0
-      nothing [] more e = omega arith
-      nothing (y ∷ o) more e = absurd (no_cons y (o ++ more) e)
   fitting_is room (x ∷ xs) = ⊎_elim
       (λ b.
       let fits = leb-true (size x) room b in
@@ -74,17 +81,6 @@ module _ {A : Type 0} (size : A → ℕ) where
   -- the graphemes that the offset passes are the longest front that it does
   passed_is : (offset : ℕ) (xs : List A) → (passed : List A) × IsLongestPrefix (IsPassedBy size offset) xs passed (left_by size offset xs)
   passed_is offset [] = ([], record { joined = refl; holds = nothing_passed offset; longest = λ other more e h. nothing other more e })
-    where
-      nothing_passed : (offset : ℕ) → IsPassedBy size offset []
-      nothing_passed offset = record { fits = omega arith; needed = needed }
-        where
-          needed : (shorter more : List A) → [] ≡ shorter ++ more → more ≢ [] → sum_by size shorter < offset
-          needed [] more e n = absurd (n (sym e))
-          needed (y ∷ o) more e n = absurd (no_cons y (o ++ more) e)
-
-      nothing : (other more : List A) → [] ≡ other ++ more → length other ≤ 0
-      nothing [] more e = omega arith
-      nothing (y ∷ o) more e = absurd (no_cons y (o ++ more) e)
   passed_is offset (x ∷ xs) = ⊎_elim
       (λ b.
       let (passed, h) = passed_is (offset - size x) xs in
@@ -135,12 +131,8 @@ module _ {A : Type 0} (size : A → ℕ) where
               omega arith
 
       none : (offset : ℕ) (x : A) (xs : List A) → (offset ≡ 0) ⊎ (offset < size x) → IsLongestPrefix (IsPassedBy size offset) (x ∷ xs) [] (x ∷ xs)
-      none offset x xs stop = record { joined = refl; holds = record { fits = omega arith; needed = needed }; longest = longest }
+      none offset x xs stop = record { joined = refl; holds = nothing_passed offset; longest = longest }
         where
-          needed : (shorter more : List A) → [] ≡ shorter ++ more → more ≢ [] → sum_by size shorter < offset
-          needed [] more e n = absurd (n (sym e))
-          needed (y ∷ o) more e n = absurd (no_cons y (o ++ more) e)
-
           longest : (other more : List A) → x ∷ xs ≡ other ++ more → IsPassedBy size offset other → length other ≤ 0
           longest [] more e l = omega arith
           longest (y ∷ o) more e l =

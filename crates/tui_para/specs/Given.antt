@@ -6,6 +6,7 @@ use Rattle.std.specs.declared.iter.Iterator.{Ghosts}
 use Rattle.tui_text.specs.Grapheme.{Glyph, glyph_of}
 use Rattle.tui_text.specs.declared.alignment.Alignment.{Alignment}
 use Rattle.tui_text.specs.declared.grapheme.StyledGrapheme.{StyledGrapheme}
+use Rattle.tui_para.specs.Answers.{Answers}
 use Rattle.tui_para.specs.Lines.{GlyphLine, UnlessDone}
 
 -- there is a way in which the iterator gives items that R relates to these values, and then ends
@@ -29,11 +30,6 @@ MayBe gives x line = MayGive gives IsGlyph x.0 line.glyphs × (x.1 ≡ line.alig
 abbrev pub WillBe : {I : Type 0} → (I → Option StyledGrapheme → I → Type 0) → I × Alignment → GlyphLine → Type 0
 WillBe gives x line = WillGive gives IsGlyph x.0 line.glyphs × (x.1 ≡ line.alignment)
 
--- the answers of iterators: those that they may give, and those that they give in any case
-pub record Answers (X : Type 0) : Type 1 where
-  pub may : X → Type 0
-  pub will : X → Type 0
-
 -- what an iterator over graphemes gives: nothing once it has ended
 abbrev pub SourceGives : {I : Type 0} → (I → List Glyph → Type 0) → Option I → List Glyph → Type 0
 SourceGives gives source glyphs = MatchOption source (glyphs ≡ []) (λ i. gives i glyphs)
@@ -48,10 +44,6 @@ line_answers outer inner done o = record {
   may = UnlessDone done (MayGive outer (MayBe inner) o);
   will = UnlessDone done (WillGive outer (WillBe inner) o);
 }
-
--- the answers of two
-abbrev pub both : {X Y : Type 0} → Answers X → Answers Y → Answers (X × Y)
-both k l = record { may = λ x. k.may x.0 × l.may x.1; will = λ x. k.will x.0 × l.will x.1 }
 
 -- an iterator gave these graphemes and became the other, or ended; one that has ended gave none
 abbrev pub SourceReads : {I : Type 0} → (I → Option StyledGrapheme → I → Type 0) → Option I → List StyledGrapheme → Option I → Type 0

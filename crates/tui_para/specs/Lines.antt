@@ -3,6 +3,7 @@ use Rattle.std.specs.Prelude.{◌≡◌, ◌⊎◌, ◌<◌, ℕ, Bool, true, fa
 use Rattle.tui_text.specs.Grapheme.{Glyph, glyph_blank, glyph_width}
 use Rattle.tui_text.specs.declared.alignment.Alignment.{Alignment}
 use Rattle.tui_text.specs.declared.alignment.Alignment.TheVariants.{Left, Center, Right}
+use Rattle.tui_para.specs.Answers.{Answers}
 use Rattle.tui_para.specs.Truncated.{Truncated}
 use Rattle.tui_para.specs.Wrapped.{Wrapped}
 
@@ -41,6 +42,10 @@ TruncatesLine w offset t parts = (line : List Glyph) × Truncated glyph_width w 
 abbrev pub LinesFrom : {X : Type 0} → (X → Type 0) → (X → List GlyphLine → Type 0) → ℕ → List GlyphLine → Type 0
 LinesFrom {X} given cuts w lines = ((w ≡ 0) × (lines ≡ [])) ⊎ ((0 < w) × ((x : X) × given x × cuts x lines))
 
+-- those that may come, and those that come in any case, where something of `given` comes
+abbrev pub lines_from : {X : Type 0} → Answers X → (X → List GlyphLine → Type 0) → ℕ → Answers (List GlyphLine)
+lines_from given cuts w = record { may = LinesFrom given.may cuts w; will = LinesFrom given.will cuts w }
+
 -- those into which one of the lists of text lines is cut
 abbrev pub LinesOf : (List GlyphLine → Type 0) → (GlyphLine → List (List Glyph) → Type 0) → ℕ → List GlyphLine → Type 0
 LinesOf texts R w lines = LinesFrom texts (CutAll R) w lines
@@ -64,11 +69,11 @@ abbrev pub TakesFirst : {A : Type 0} → (List A → Type 0) → Option A → (L
 TakesFirst {A} P None Q = (xs : List A) → P xs → (xs ≡ []) × Q []
 TakesFirst {A} P (Some x) Q = (xs : List A) → P xs → (rest : List A) × (xs ≡ x ∷ rest) × Q rest
 
--- one is taken, or none is left, of the lists that may come and of those that come in any case, and these are left
-pub record IsFirst {A : Type 0} (first : Option A) (may will may_after will_after : List A → Type 0) : Type 0 where
-  pub lends : LendsFirst may first may_after
-  pub takes : TakesFirst will first will_after
+-- one is taken from the lists that may come and from those that come in any case, or none is left
+pub record IsFirst {A : Type 0} (first : Option A) (before after : Answers (List A)) : Type 0 where
+  pub lends : LendsFirst before.may first after.may
+  pub takes : TakesFirst before.will first after.will
 
--- the same where one list comes
+-- the same where these lists come, and no others
 abbrev pub IsFirstOf : {A : Type 0} → Option A → (List A → Type 0) → (List A → Type 0) → Type 0
-IsFirstOf first P Q = IsFirst first P P Q Q
+IsFirstOf first P Q = IsFirst first (record { may = P; will = P }) (record { may = Q; will = Q })

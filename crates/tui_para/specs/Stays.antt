@@ -20,7 +20,7 @@ use Rattle.tui_para.specs.Rendering.{content_layers, paragraph_layers, paragraph
 use Rattle.tui_para.specs.Strokes.{run_layers, start_of, glyph_line_layers, glyph_lines_layers}
 
 -- a position inside is none outside
-at_outside : (clip : Rect) (x y a b : ℕ) → covers clip x y ≡ true → covers clip a b ≡ false → at_place x y a b ≡ false
+pub at_outside : (clip : Rect) (x y a b : ℕ) → covers clip x y ≡ true → covers clip a b ≡ false → at_place x y a b ≡ false
 at_outside clip x y a b inside out = false_from_ne_true (at_place x y a b)
     (λ t. false≢true (sym out ∙ (ap (λ n. covers clip n b) (eqb-true a x (and_parts (a == x) (b == y) t).0)
     ∙ (ap (λ n. covers clip x n) (eqb-true b y (and_parts (a == x) (b == y) t).1) ∙ inside))))

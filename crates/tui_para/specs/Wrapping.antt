@@ -1,22 +1,13 @@
 -- What composers may still lend.
-use Rattle.std.specs.Prelude.{◌≡◌, ◌⊎◌, ℕ, Bool, true, false, List, [], ◌++◌, drop, map, Option, Some, None, option_map, IfSome}
+use Rattle.std.specs.Prelude.{◌≡◌, ◌⊎◌, ℕ, Bool, true, false, List, [], ◌++◌, drop, map, Option, Some, None, option_map, IfSome, sum_by}
 use Rattle.std.specs.List.{between}
 use Rattle.std.specs.declared.iter.Iterator.{Ghosts}
 use Rattle.tui_text.specs.Grapheme.{Glyph, glyph_of, glyph_blank, glyph_width}
 use Rattle.tui_text.specs.declared.alignment.Alignment.{Alignment}
 use Rattle.tui_text.specs.declared.grapheme.StyledGrapheme.{StyledGrapheme}
-use Rattle.tui_para.specs.Given.{AllReady, Answers, Ready, SourceReads, both, line_answers, source_answers}
-use Rattle.tui_para.specs.Lines.{
-  GlyphLine,
-  IsFirst,
-  IsFirstOf,
-  LinesAfter,
-  LinesFrom,
-  CutAll,
-  TruncatesLine,
-  WrapsLine,
-  glyph_line,
-}
+use Rattle.tui_para.specs.Answers.{Answers, both}
+use Rattle.tui_para.specs.Given.{AllReady, Ready, SourceReads, line_answers, source_answers}
+use Rattle.tui_para.specs.Lines.{GlyphLine, glyph_line, CutAll, IsFirst, IsFirstOf, LinesAfter, TruncatesLine, WrapsLine, lines_from}
 use Rattle.tui_para.specs.Marked.{IsPart, glyphs_of, part_of}
 use Rattle.tui_para.specs.Wrapped.{HasLines, WrapsKept, kept}
 use Rattle.tui_para.specs.declared.breaking.Place.{Place}
@@ -66,43 +57,46 @@ pub record FindsPart {I : Type 0} (gives : I → Option StyledGrapheme → I →
 abbrev pub WrapperCuts : {O I : Type 0} → WordWrapper O I → List Glyph × List GlyphLine → List GlyphLine → Type 0
 WrapperCuts s x = LinesAfter (PartsWith s.current x.0) s.alignment (WrapsLine s.current.width s.current.trim) x.1
 
--- those of a truncator
+-- those of a truncator, where these text lines are still given
 abbrev pub TruncatorCuts : {O I : Type 0} → LineTruncator O I → List GlyphLine → List GlyphLine → Type 0
 TruncatorCuts s = CutAll (TruncatesLine s.width s.offset)
 
 module _ {O I : Type 0} (outer : O → Option (I × Alignment) → O → Type 0) (inner : I → Option StyledGrapheme → I → Type 0) where
+  -- what their iterators still give
   abbrev pub wrapper_answers : WordWrapper O I → Answers (List Glyph × List GlyphLine)
   wrapper_answers s = both (source_answers inner s.current.source) (line_answers outer inner s.done s.lines)
-
-  -- the lines that a wrapper may lend
-  abbrev pub WrapperMayLend : WordWrapper O I → List GlyphLine → Type 0
-  WrapperMayLend s = LinesFrom (wrapper_answers s).may (WrapperCuts s) s.current.width
-
-  -- those that it lends in any case
-  abbrev pub WrapperWillLend : WordWrapper O I → List GlyphLine → Type 0
-  WrapperWillLend s = LinesFrom (wrapper_answers s).will (WrapperCuts s) s.current.width
-
-  -- a wrapper found its next line, which is a part of the graphemes that it holds, or that there is none
-  pub record FindsLine (old new : WordWrapper O I) (found : Option Part) : Type 0 where
-    pub is_part : IfSome found (IsPart (glyphs_of new.current.line))
-    pub first : IsFirst (option_map (λ p. glyph_line new.alignment (part_of (glyphs_of new.current.line) p)) found)
-        (WrapperMayLend old) (WrapperWillLend old) (WrapperMayLend new) (WrapperWillLend new)
 
   abbrev pub truncator_answers : LineTruncator O I → Answers (List GlyphLine)
   truncator_answers s = line_answers outer inner s.done s.lines
 
-  -- the lines that a truncator may lend
+  -- and so the lines that they may lend, and those that they lend in any case
+  abbrev pub wrapper_lends : WordWrapper O I → Answers (List GlyphLine)
+  wrapper_lends s = lines_from (wrapper_answers s) (WrapperCuts s) s.current.width
+
+  abbrev pub truncator_lends : LineTruncator O I → Answers (List GlyphLine)
+  truncator_lends s = lines_from (truncator_answers s) (TruncatorCuts s) s.width
+
+  abbrev pub WrapperMayLend : WordWrapper O I → List GlyphLine → Type 0
+  WrapperMayLend s = (wrapper_lends s).may
+
+  abbrev pub WrapperWillLend : WordWrapper O I → List GlyphLine → Type 0
+  WrapperWillLend s = (wrapper_lends s).will
+
   abbrev pub TruncatorMayLend : LineTruncator O I → List GlyphLine → Type 0
-  TruncatorMayLend s = LinesFrom (truncator_answers s).may (TruncatorCuts s) s.width
+  TruncatorMayLend s = (truncator_lends s).may
 
-  -- those that it lends in any case
   abbrev pub TruncatorWillLend : LineTruncator O I → List GlyphLine → Type 0
-  TruncatorWillLend s = LinesFrom (truncator_answers s).will (TruncatorCuts s) s.width
+  TruncatorWillLend s = (truncator_lends s).will
 
-  -- a truncator found its next line, which is what it keeps, or that there is none
-  abbrev pub FindsCut : LineTruncator O I → LineTruncator O I → Option ℕ → Type 0
-  FindsCut old new found = IsFirst (option_map (λ _. glyph_line new.alignment (map glyph_of new.shown.items)) found)
-      (TruncatorMayLend old) (TruncatorWillLend old) (TruncatorMayLend new) (TruncatorWillLend new)
+  -- a wrapper found its next line, which is a part of the graphemes that it holds, or that there is none
+  pub record FindsLine (old new : WordWrapper O I) (found : Option Part) : Type 0 where
+    pub is_part : IfSome found (IsPart (glyphs_of new.current.line))
+    pub first : IsFirst (option_map (λ p. glyph_line new.alignment (part_of (glyphs_of new.current.line) p)) found) (wrapper_lends old) (wrapper_lends new)
+
+  -- a truncator found its next line, which is what it keeps and has so many columns, or that there is none
+  pub record FindsCut (old new : LineTruncator O I) (found : Option ℕ) : Type 0 where
+    pub columns : IfSome found (λ n. n ≡ sum_by glyph_width (map glyph_of new.shown.items))
+    pub first : IsFirst (option_map (λ _. glyph_line new.alignment (map glyph_of new.shown.items)) found) (truncator_lends old) (truncator_lends new)
 
 -- their iterators may be called, and end
 module _ {O I : Type 0} (outer : Ghosts O (I × Alignment)) (inner : Ghosts I StyledGrapheme) where

@@ -1,7 +1,6 @@
 //! Text lines that are cut.
 
-ghost use Rattle.std.specs.Prelude.{◌≡◌, ◌↔◌, ℕ, List, false, true, IfOk, IfSome, MatchResult, map, sum_by};
-ghost use Rattle.tui_text.specs.Grapheme.{glyph_of, glyph_width};
+ghost use Rattle.std.specs.Prelude.{◌≡◌, ◌↔◌, ℕ, List, false, true, IfOk, MatchResult};
 ghost use Rattle.tui_para.specs.Given.{AllReady, MayGive, MayBe, WillGive, WillBe};
 ghost use Rattle.tui_para.specs.Lines.{GlyphLine, LinesOf, TruncatesLine, UnlessDone};
 ghost use Rattle.tui_para.specs.Wrapping.{FindsCut, TruncatorCanLend, TruncatorMayLend, TruncatorWillLend};
@@ -68,7 +67,6 @@ where
     fn advance(&mut self) -> Mem<Option<u16>>
         requires { TruncatorCanLend O.Iterator I.Iterator self.old }
         ensures ready { TruncatorCanLend O.Iterator I.Iterator self.new }
-        ensures columns { IfOk result (λ found. IfSome found (λ columns. columns ≡ sum_by glyph_width (map glyph_of self.new.shown.items))) }
         ensures failed { MatchResult result (λ _. (self.old.failed ≡ false) × (self.new.failed ≡ false)) (λ _. self.new.failed ≡ true) }
         ensures found { IfOk result (FindsCut O.next_gives I.next_gives self.old self.new) }
     {

@@ -17,11 +17,17 @@ returns-in-Ok-clause-ready g c = λ e. AllReady-step _ _ (c.in-Some.line, c.in-S
 pub returns-in-None-clause-found : goal.returns-in-None-clause-found
 returns-in-None-clause-found g c =
     let s = c.args.self.now in
-    none_left g.O.Iterator.next_gives g.I.Iterator.next_gives s (positive _ _ refl c.if-self-eq0.false) c.next.new.self _
-    (line_ended g.O.Iterator.next_gives g.I.Iterator.next_gives s.lines c.next.new.self s.done c.if-self-2.false c.in-None.ensures.steps) refl
+    record {
+      columns = tt;
+      first = none_left g.O.Iterator.next_gives g.I.Iterator.next_gives s (positive _ _ refl c.if-self-eq0.false) c.next.new.self _
+          (line_ended g.O.Iterator.next_gives g.I.Iterator.next_gives s.lines c.next.new.self s.done c.if-self-2.false c.in-None.ensures.steps) refl;
+    }
 
 pub returns-in-Ok-clause-found : goal.returns-in-Ok-clause-found
 returns-in-Ok-clause-found g c =
     let (all, drains, read) = c.in-Ok.ensures.line in
-    line_cut g.O.Iterator.next_gives g.I.Iterator.next_gives c.args.self.now (positive _ _ refl c.if-self-eq0.false) c.next.new.self c.in-Some.line c.in-Some.alignment all (map glyph_of c.refill.new.shown.items)
-    c.if-self-2.false c.in-Some.ensures.steps drains (read ∙ c.new-cut.ensures (map glyph_of all))
+    record {
+      columns = c.in-Ok.ensures.columns;
+      first = line_cut g.O.Iterator.next_gives g.I.Iterator.next_gives c.args.self.now (positive _ _ refl c.if-self-eq0.false) c.next.new.self c.in-Some.line c.in-Some.alignment all (map glyph_of c.refill.new.shown.items)
+          c.if-self-2.false c.in-Some.ensures.steps drains (read ∙ c.new-cut.ensures (map glyph_of all));
+    }
