@@ -1,86 +1,145 @@
--- The lines of a text line that is begun, in front of those of the text lines after it.
+-- The next line of a wrapper: of the text line that was begun, or of one that is begun.
 use Rattle.std.proofs.Common.{◌≡◌, ◌<◌, ℕ, Bool, true, false, List, [], ◌∷◌, ◌++◌, Option, Some, None, drop, map, refl, sym, ap, ◌∙◌, inl, inr, ⊎_elim, subst, arith}
 use Rattle.std.proofs.lemmas.Bool.{false≢true}
 use Rattle.std.proofs.lemmas.List.{drop_all}
-use Rattle.std.specs.Prelude.{option_map, IfOk, Result, Ok, Err}
-use Rattle.tui_text.specs.Grapheme.{Glyph, glyph_blank, glyph_width}
+use Rattle.std.specs.Prelude.{◌↔◌, ◌⊎◌, IfOk, Result, Ok, Err}
+use Rattle.tui_text.specs.Grapheme.{Glyph, glyph_of, glyph_blank, glyph_width}
 use Rattle.tui_text.specs.declared.alignment.Alignment.{Alignment}
 use Rattle.tui_text.specs.declared.grapheme.StyledGrapheme.{StyledGrapheme}
-use Rattle.tui_para.specs.Given.{MayGive, WillGive, IsGlyph, MayBe, WillBe, SourceGives}
-use Rattle.tui_para.specs.Lines.{GlyphLine, glyph_line, CutAll, LinesLeft, UnlessDone, LendsFirst, TakesFirst, WrapsLine}
-use Rattle.tui_para.specs.Marked.{glyphs_of}
-use Rattle.tui_para.specs.Wrapped.{Wrapped, kept}
-use Rattle.tui_para.specs.Wrapping.{PartsLeft, glyphs_from}
+use Rattle.tui_para.specs.Answers.{both}
+use Rattle.tui_para.specs.Given.{IsGlyph, MayBe, MayGive, WillBe, WillGive, SourceGives, SourceReads, line_answers, source_answers}
+use Rattle.tui_para.specs.Lines.{GlyphLine, glyph_line, CutAll, IsFirstOf, LinesAfter, LinesFrom, LinesOf, UnlessDone, WrapsLine}
+use Rattle.tui_para.specs.Marked.{glyphs_of, part_of}
+use Rattle.tui_para.specs.Wrapped.{WrapsKept, kept}
+use Rattle.tui_para.specs.Wrapping.{FindsLine, FindsPart, PartsWith, WrapperCuts, glyphs_from, wrapper_answers}
+use Rattle.tui_para.specs.declared.part.Part.{Part}
 use Rattle.tui_para.specs.declared.text_line.TextLine.{TextLine}
+use Rattle.tui_para.specs.declared.wrapper.WordWrapper.{WordWrapper}
+use Rattle.tui_para.proofs.Answering.{Gave, Gave-beside, Gave-both, Gave-none, Gave-then, all_may, all_will, line_gave, source_ended, source_gave, will_stop}
+use Rattle.tui_para.proofs.Lending.{end_first, first_along, first_from, none_before, part_first, same_lists}
+use Rattle.tui_para.proofs.Parts.{wraps_some}
+use Rattle.tui_para.proofs.PartsRead.{no_parts}
 
 pub if_ok : {A E : Type 0} (P Q : A → Type 0) (r : Result A E) → ((x : A) → P x → Q x) → IfOk r P → IfOk r Q
 if_ok P Q (Ok x) f h = f x h
 if_ok P Q (Err e) f h = h
 
+-- what holds at a width and trim holds at equal ones
+at_size : (K : ℕ → Bool → Type 0) (v w : ℕ) (s t : Bool) → v ≡ w → s ≡ t → K w t → K v s
+at_size K v w s t e f k = subst (λ b. K v b) (sym f) (subst (λ n. K n t) (sym e) k)
+
 -- the lines of a text line of which nothing was read
-module _ {I : Type 0} (G : I → List Glyph → Type 0) (s : TextLine I) (i : I) (w : ℕ) (trim : Bool) (a : Alignment)
-    (source : s.source ≡ Some i) (empty : glyphs_of s.line ≡ []) (new : s.is_new ≡ true) (width : s.width ≡ w) (trims : s.trim ≡ trim) where
-  unread : (glyphs : List Glyph) → glyphs_from s s.place glyphs ≡ kept glyph_width s.width glyphs
-  unread glyphs = ap (λ k. drop s.place k ++ kept glyph_width s.width glyphs) empty ∙ ap (λ k. k ++ kept glyph_width s.width glyphs) (drop_all s.place [] (omega arith))
+module _ {I : Type 0} (s : TextLine I) (w : ℕ) (trim : Bool) (a : Alignment) (empty : glyphs_of s.line ≡ []) (new : s.is_new ≡ true) (width : s.width ≡ w) (trims : s.trim ≡ trim) (glyphs : List Glyph) where
+  unread : glyphs_from s s.place glyphs ≡ kept glyph_width s.width glyphs
+  unread = ap (λ k. drop s.place k ++ kept glyph_width s.width glyphs) empty ∙ ap (λ k. k ++ kept glyph_width s.width glyphs) (drop_all s.place [] (omega arith))
 
-  wraps : (glyphs : List Glyph) (parts : List (List Glyph)) → Wrapped glyph_blank glyph_width s.width s.trim glyphs parts → WrapsLine w trim (glyph_line a glyphs) parts
-  wraps glyphs parts h = subst (λ n. Wrapped glyph_blank glyph_width n trim glyphs parts) width (subst (λ b. Wrapped glyph_blank glyph_width s.width b glyphs parts) trims h)
+  pub begun_wraps : (parts : List (List Glyph)) → PartsWith s glyphs parts ↔ WrapsLine w trim (glyph_line a glyphs) parts
+  begun_wraps parts =
+      let wraps = WrapsKept glyph_blank glyph_width in (
+        λ h. ⊎_elim
+            (λ e. subst (λ n. wraps n trim (kept glyph_width n glyphs) parts) width (subst (λ b. wraps s.width b (kept glyph_width s.width glyphs) parts) trims (subst (λ k. wraps s.width s.trim k parts) unread e.1)))
+            (λ e. absurd (false≢true (sym e.0 ∙ new)))
+            h,
+        λ h. inl (new, subst (λ k. wraps s.width s.trim k parts) (sym unread) (at_size (λ n b. wraps n b (kept glyph_width n glyphs) parts) s.width w s.trim trim width trims h)),
+      )
 
-  wraps_back : (glyphs : List Glyph) (parts : List (List Glyph)) → WrapsLine w trim (glyph_line a glyphs) parts → Wrapped glyph_blank glyph_width s.width s.trim glyphs parts
-  wraps_back glyphs parts h = subst (λ n. Wrapped glyph_blank glyph_width n s.trim glyphs parts) (sym width) (subst (λ b. Wrapped glyph_blank glyph_width w b glyphs parts) (sym trims) h)
+-- what a source gives that has ended
+ended : {I : Type 0} (inner : I → Option StyledGrapheme → I → Type 0) (t : TextLine I) (glyphs : List Glyph) → ((source_answers inner t.source).may glyphs ⊎ (source_answers inner t.source).will glyphs) → t.source ≡ None → glyphs ≡ []
+ended inner t glyphs h e = ⊎_elim (λ m. source_ended (MayGive inner IsGlyph) t.source glyphs m e) (λ w. source_ended (WillGive inner IsGlyph) t.source glyphs w e) h
 
-  pub begun_wraps : (parts : List (List Glyph)) → PartsLeft G s parts → (glyphs : List Glyph) × G i glyphs × WrapsLine w trim (glyph_line a glyphs) parts
-  begun_wraps parts (glyphs, gives, h) = ⊎_elim
-      (λ e. (glyphs, subst (λ o. SourceGives G o glyphs) source gives, wraps glyphs parts (rw (unread glyphs) at e.1)))
-      (λ e. absurd (false≢true (sym e.0 ∙ new)))
-      h
+module _ {O I : Type 0} (outer : O → Option (I × Alignment) → O → Type 0) (inner : I → Option StyledGrapheme → I → Type 0) (s : WordWrapper O I) (some : 0 < s.current.width) where
+  abbrev wraps : GlyphLine → List (List Glyph) → Type 0
+  wraps = WrapsLine s.current.width s.current.trim
 
-  pub wraps_begun : (parts : List (List Glyph)) (glyphs : List Glyph) → G i glyphs → WrapsLine w trim (glyph_line a glyphs) parts → PartsLeft G s parts
-  wraps_begun parts glyphs gives h = (glyphs, subst (λ o. SourceGives G o glyphs) (sym source) gives, inl (new, rw (unread glyphs) (wraps_back glyphs parts h)))
+  -- a part of the text line that was begun
+  module _ (t : TextLine I) (width : t.width ≡ s.current.width) (trim : t.trim ≡ s.current.trim) where
+    pub line_found : (part : Part) → FindsPart inner s.current t (Some part) → FindsLine outer inner s (record s { current = t }) (Some part)
+    line_found part f =
+        let n : WordWrapper O I = record s { current = t } in
+        let shown = part_of (glyphs_of t.line) part in
+        let texts = line_answers outer inner s.done s.lines in
+        record {
+          is_part = f.is_part;
+          first = first_from (wrapper_answers outer inner s) (wrapper_answers outer inner n) (λ x. (map glyph_of f.taken ++ x.0, x.1))
+              (Gave-both (source_answers inner s.current.source) texts (source_answers inner t.source) texts (λ glyphs. map glyph_of f.taken ++ glyphs) (λ ts. ts) (source_gave inner s.current.source t.source f.taken f.reads) (Gave-none texts))
+              (WrapperCuts s) (WrapperCuts n) s.current.width t.width some width (Some (glyph_line s.alignment shown))
+              (λ x comes. at_size (λ v b. IsFirstOf (Some (glyph_line s.alignment shown)) (WrapperCuts s (map glyph_of f.taken ++ x.0, x.1)) (LinesAfter (PartsWith t x.0) s.alignment (WrapsLine v b) x.1))
+              t.width s.current.width t.trim s.current.trim width trim
+              (part_first wraps (PartsWith s.current (map glyph_of f.taken ++ x.0)) (PartsWith t x.0) s.alignment shown x.1 (f.first x.0 (ended inner t x.0 (⊎_elim (λ h. inl h.0) (λ h. inr h.0) comes)))))
+              (λ e. cc);
+        }
 
--- the text lines that are given after one of them
-module _ {O I : Type 0} (outer : O → Option (I × Alignment) → O → Type 0) (inner : I → Option StyledGrapheme → I → Type 0) (o u : O) (done : Bool) (i : I) (a : Alignment) (going : done ≡ false) (step : outer o (Some (i, a)) u) where
-  pub may_begin : (glyphs : List Glyph) → MayGive inner IsGlyph i glyphs → (ts : List GlyphLine) → UnlessDone done (MayGive outer (MayBe inner) u) ts → UnlessDone done (MayGive outer (MayBe inner) o) (glyph_line a glyphs ∷ ts)
-  may_begin glyphs gives ts h = ⊎_elim (λ z. absurd (false≢true (sym going ∙ z.0))) (λ z. inr (going, ((i, a), u, step, (gives, refl), z.1))) h
+    -- no part of it, and no text line after it
+    pub none_found : (u : O) (later : Bool) → FindsPart inner s.current t None → Gave (line_answers outer inner s.done s.lines) (λ ts. ts) (line_answers outer inner later u) → later ≡ true →
+        FindsLine outer inner s (record s { lines = u; current = t; done = later }) None
+    none_found u later f gave over =
+        let n : WordWrapper O I = record s { lines = u; current = t; done = later } in
+        let ends = f.ends refl in
+        record {
+          is_part = tt;
+          first = first_from (wrapper_answers outer inner s) (wrapper_answers outer inner n) (λ x. (map glyph_of f.taken ++ x.0, x.1))
+              (Gave-both (source_answers inner s.current.source) (line_answers outer inner s.done s.lines) (source_answers inner t.source) (line_answers outer inner later u) (λ glyphs. map glyph_of f.taken ++ glyphs) (λ ts. ts)
+              (source_gave inner s.current.source t.source f.taken f.reads) gave)
+              (WrapperCuts s) (WrapperCuts n) s.current.width t.width some width None
+              (λ x comes. at_size (λ v b. IsFirstOf None (WrapperCuts s (map glyph_of f.taken ++ x.0, x.1)) (LinesAfter (PartsWith t x.0) s.alignment (WrapsLine v b) x.1))
+              t.width s.current.width t.trim s.current.trim width trim
+              (subst (λ ts. IsFirstOf None (LinesAfter (PartsWith s.current (map glyph_of f.taken ++ x.0)) s.alignment wraps ts) (LinesAfter (PartsWith t x.0) s.alignment wraps ts)) (sym (⊎_elim (λ h. will_stop (MayGive outer (MayBe inner) u) later over x.1 h.1) (λ h. will_stop (WillGive outer (WillBe inner) u) later over x.1 h.1) comes))
+              (end_first wraps (PartsWith s.current (map glyph_of f.taken ++ x.0)) (PartsWith t x.0) s.alignment s.alignment (f.first x.0 (ended inner t x.0 (⊎_elim (λ h. inl h.0) (λ h. inr h.0) comes))))))
+              (λ e. (([], []), (subst (λ o. (source_answers inner o).may []) (sym ends) refl, inl (over, refl))));
+        }
 
-  pub will_begin : (ts : List GlyphLine) → UnlessDone done (WillGive outer (WillBe inner) o) ts → (glyphs : List Glyph) × (us : List GlyphLine) × (ts ≡ glyph_line a glyphs ∷ us) × WillGive inner IsGlyph i glyphs × UnlessDone done (WillGive outer (WillBe inner) u) us
-  will_begin [] h = ⊎_elim (λ z. absurd (false≢true (sym going ∙ z.0))) (λ z. absurd (z.1 (i, a) u step)) h
-  will_begin (t ∷ ts) h = ⊎_elim
-      (λ z. absurd (false≢true (sym going ∙ z.0)))
-      (λ z. (let on = z.1.1 (i, a) u step in (t.glyphs, ts, ap (λ (b : Alignment). glyph_line b t.glyphs ∷ ts) (sym on.0.1), on.0.0, inr (going, on.1))))
-      h
+  -- the first part of a text line that is begun where the one before is over
+  module _ (t b n : TextLine I) (u : O) (i : I) (a : Alignment) (over : FindsPart inner s.current t None) (source : b.source ≡ Some i) (empty : glyphs_of b.line ≡ []) (new : b.is_new ≡ true)
+      (b_width : b.width ≡ s.current.width) (b_trim : b.trim ≡ s.current.trim) (width : n.width ≡ s.current.width) (trim : n.trim ≡ s.current.trim) (going : s.done ≡ false) (step : outer s.lines (Some (i, a)) u) where
+    abbrev before : List Glyph
+    before = map glyph_of over.taken ++ []
 
--- the first part of a text line that one of the lists of text lines begins with
-module _ {X : Type 0} (R : GlyphLine → List (List Glyph) → Type 0) (w : ℕ) (some : 0 < w) (never : (t : GlyphLine) → R t [] → ⊥) (T U : List GlyphLine → Type 0) (P Q S : List (List Glyph) → Type 0) (given : List Glyph → Type 0) (old a : Alignment) (f : X → List Glyph) where
-  pub begun_lent : (found : Option X) → P [] → ((glyphs : List Glyph) → given glyphs → (ts : List GlyphLine) → U ts → T (glyph_line a glyphs ∷ ts)) →
-      ((parts : List (List Glyph)) → S parts → (glyphs : List Glyph) × given glyphs × R (glyph_line a glyphs) parts) → LendsFirst S (option_map f found) Q →
-      LendsFirst (LinesLeft T R P w old) (option_map (λ x. glyph_line a (f x)) found) (LinesLeft U R Q w a)
-  begun_lent None p first wraps lends = let h = wraps [] lends in absurd (never (glyph_line a h.0) h.2)
-  begun_lent (Some x) p first wraps lends = λ lines h. ⊎_elim
-      (λ z. let e = z.0 in absurd (omega arith))
-      (λ (l, (parts, q, (ts, u, (rest, cut, e)))).
-      let (glyphs, gives, r) = wraps (f x ∷ parts) (lends parts q) in
-      inr (l, ([], p, (glyph_line a glyphs ∷ ts, first glyphs gives ts u, (glyph_line a (f x) ∷ lines, (f x ∷ parts, r, (rest, cut, ap (λ k. glyph_line a (f x) ∷ k) e)), refl)))))
-      h
+    none_left : (parts : List (List Glyph)) → PartsWith s.current before parts ↔ (parts ≡ [])
+    none_left parts = let h = over.first [] (λ e. refl) in (λ p. (h.takes parts p).0, λ e. subst (PartsWith s.current before) (sym e) h.lends)
 
-  pub begun_taken : (found : Option X) → ((parts : List (List Glyph)) → P parts → parts ≡ []) → ((ts : List GlyphLine) → T ts → (glyphs : List Glyph) × (us : List GlyphLine) × (ts ≡ glyph_line a glyphs ∷ us) × given glyphs × U us) →
-      ((parts : List (List Glyph)) (glyphs : List Glyph) → given glyphs → R (glyph_line a glyphs) parts → S parts) → TakesFirst S (option_map f found) Q →
-      TakesFirst (LinesLeft T R P w old) (option_map (λ x. glyph_line a (f x)) found) (LinesLeft U R Q w a)
-  begun_taken None none first wraps takes = λ lines h. ⊎_elim
-      (λ z. let e = z.0 in absurd (omega arith))
-      (λ (l, (parts, p, (ts, k, (rest, cut, e)))).
-      let (glyphs, us, begins, gives, u) = first ts k in
-      let (first_cut, r, others) = subst (λ k. CutAll R k rest) begins cut in
-      absurd (never (glyph_line a glyphs) (subst (R (glyph_line a glyphs)) (takes first_cut (wraps first_cut glyphs gives r)).0 r)))
-      h
-  begun_taken (Some x) none first wraps takes = λ lines h. ⊎_elim
-      (λ z. let e = z.0 in absurd (omega arith))
-      (λ (l, (parts, p, (ts, k, (rest, cut, e)))).
-      let (glyphs, us, begins, gives, u) = first ts k in
-      let (first_cut, r, (others, cut_others, d)) = subst (λ k. CutAll R k rest) begins cut in
-      let on = takes first_cut (wraps first_cut glyphs gives r) in (
-        map (glyph_line a) on.0 ++ others,
-        e ∙ (ap (λ ps. map (glyph_line old) ps ++ rest) (none parts p) ∙ (d ∙ ap (λ ps. map (glyph_line a) ps ++ others) on.1)),
-        inr (l, (on.0, on.2, (us, u, (others, cut_others, refl)))),
-      ))
-      h
+    begun : (glyphs : List Glyph) (parts : List (List Glyph)) → PartsWith b glyphs parts ↔ wraps (glyph_line a glyphs) parts
+    begun = begun_wraps b s.current.width s.current.trim a empty new b_width b_trim
+
+    pub line_begun : (found : Option Part) → FindsPart inner b n found → FindsLine outer inner s (record s { lines = u; current = n; alignment = a }) found
+    line_begun None f = absurd (wraps_some glyph_blank glyph_width s.current.width s.current.trim _ ((begun (map glyph_of f.taken ++ []) []).0 (f.first [] (λ e. refl)).lends))
+    line_begun (Some part) f =
+        let m : WordWrapper O I = record s { lines = u; current = n; alignment = a } in
+        let shown = part_of (glyphs_of n.line) part in
+        let reads = subst (λ o. SourceReads inner o f.taken n.source) source f.reads in
+        let line : List Glyph → GlyphLine = λ glyphs. glyph_line a (map glyph_of f.taken ++ glyphs) in
+        let now = source_answers inner s.current.source in
+        let later = source_answers inner n.source in
+        let texts = line_answers outer inner s.done s.lines in
+        let rest = line_answers outer inner s.done u in
+        record {
+          is_part = f.is_part;
+          first = first_from (wrapper_answers outer inner s) (wrapper_answers outer inner m) (λ x. (before, line x.0 ∷ x.1))
+              (Gave-beside now texts (both later rest) before (λ x. line x.0 ∷ x.1) (all_may inner s.current.source t.source over.taken over.reads (over.ends refl)) (all_will inner s.current.source t.source over.taken over.reads (over.ends refl))
+              (Gave-then texts (both (source_answers inner (Some i)) rest) (both later rest) (λ z. glyph_line a z.0 ∷ z.1) (λ x. (map glyph_of f.taken ++ x.0, x.1)) (line_gave outer inner s.lines u s.done going i a step)
+              (Gave-both (source_answers inner (Some i)) rest later rest (λ glyphs. map glyph_of f.taken ++ glyphs) (λ ts. ts) (source_gave inner (Some i) n.source f.taken reads) (Gave-none rest))))
+              (WrapperCuts s) (WrapperCuts m) s.current.width n.width some width (Some (glyph_line a shown))
+              (λ x comes. at_size (λ v d. IsFirstOf (Some (glyph_line a shown)) (WrapperCuts s (before, line x.0 ∷ x.1)) (LinesAfter (PartsWith n x.0) a (WrapsLine v d) x.1))
+              n.width s.current.width n.trim s.current.trim width trim
+              (first_along (Some (glyph_line a shown)) (CutAll wraps (line x.0 ∷ x.1)) (WrapperCuts s (before, line x.0 ∷ x.1)) (LinesAfter (PartsWith n x.0) a wraps x.1) (LinesAfter (PartsWith n x.0) a wraps x.1)
+              (λ lines. let e = none_before wraps (PartsWith s.current before) s.alignment none_left (line x.0 ∷ x.1) lines in (e.1, e.0)) (same_lists (LinesAfter (PartsWith n x.0) a wraps x.1))
+              (part_first wraps (wraps (line x.0)) (PartsWith n x.0) a shown x.1
+              (first_along (Some shown) (PartsWith b (map glyph_of f.taken ++ x.0)) (wraps (line x.0)) (PartsWith n x.0) (PartsWith n x.0) (begun (map glyph_of f.taken ++ x.0)) (same_lists (PartsWith n x.0))
+              (f.first x.0 (ended inner n x.0 (⊎_elim (λ h. inl h.0) (λ h. inr h.0) comes)))))))
+              (λ e. cc);
+        }
+
+-- a wrapper that was just made
+pub fresh_wrapper : {I : Type 0} (s : TextLine I) (G : I → List Glyph → Type 0) (T : List GlyphLine → Type 0) (a : Alignment) (w : ℕ) (trim : Bool) → s.source ≡ None → s.is_new ≡ false → glyphs_of s.line ≡ [] → s.width ≡ w → s.trim ≡ trim → (lines : List GlyphLine) →
+    LinesFrom (λ (x : List Glyph × List GlyphLine). SourceGives G s.source x.0 × UnlessDone false T x.1) (λ x. LinesAfter (PartsWith s x.0) a (WrapsLine s.width s.trim) x.1) s.width lines ↔ LinesOf T (WrapsLine w trim) w lines
+fresh_wrapper s G T a w trim source old empty width trims lines =
+    at_size (λ v b. LinesFrom (λ (x : List Glyph × List GlyphLine). SourceGives G s.source x.0 × UnlessDone false T x.1) (λ x. LinesAfter (PartsWith s x.0) a (WrapsLine v b) x.1) v lines ↔ LinesOf T (WrapsLine w trim) w lines)
+    s.width w s.trim trim width trims (
+      λ h. ⊎_elim
+          (λ z. inl z)
+          (λ (some, (x, (gives, t), cut)). inr (some, (x.1, ⊎_elim (λ z. absurd (false≢true z.0)) (λ z. z.1) t, (none x.0 (source_ended G s.source x.0 gives source) x.1).0 cut)))
+          h,
+      λ h. ⊎_elim (λ z. inl z) (λ (some, (ts, t, cut)). inr (some, (([], ts), (subst (λ o. SourceGives G o []) (sym source) refl, inr (refl, t)), (none [] refl ts).1 cut))) h,
+    )
+  where
+    none : (glyphs : List Glyph) → glyphs ≡ [] → (ts : List GlyphLine) → LinesAfter (PartsWith s glyphs) a (WrapsLine w trim) ts lines ↔ CutAll (WrapsLine w trim) ts lines
+    none glyphs e ts = none_before (WrapsLine w trim) (PartsWith s glyphs) a (no_parts s old empty glyphs e) ts lines

@@ -4,6 +4,7 @@ use Rattle.std.specs.Prelude.{◌≢◌, sum_by}
 use Rattle.std.proofs.lemmas.List.{append_assoc}
 use Rattle.std.proofs.lemmas.List.Sums.{sum_by-cons}
 use Rattle.tui_para.specs.Wrapped.{word, next_word, without_blanks, after_break, begins_blank, line_start, IsNextWider, IsLine, IsNextLine}
+use Rattle.tui_para.proofs.Filled.{append_some}
 
 module _ {A : Type 0} (blank : A → Bool) (size : A → ℕ) where
   word-longer : (xs ys : List A) → sum_by size (word blank xs) ≤ sum_by size (word blank (xs ++ ys))
@@ -48,10 +49,6 @@ module _ {A : Type 0} (blank : A → Bool) (size : A → ℕ) where
         h.breaks;
   }
 
-  append-some : (xs ys : List A) → ys ≢ [] → xs ++ ys ≢ []
-  append-some [] ys some e = some e
-  append-some (x ∷ xs) ys some e = cc
-
   break_leaves : (room : ℕ) (xs : List A) → after_break blank size room xs ≢ [] → xs ≢ []
   break_leaves room xs some e = some (rw e refl)
 
@@ -60,7 +57,7 @@ module _ {A : Type 0} (blank : A → Bool) (size : A → ℕ) where
       let room = w - sum_by size line in
       let left : after_break blank size room h.after ≢ [] = λ e. some (h.rest_is ∙ e) in
       let after = break_leaves room h.after left in
-      let begun : line_start blank trim xs ≢ [] = λ e. append-some line h.after after (sym h.joined ∙ e) in
+      let begun : line_start blank trim xs ≢ [] = λ e. append_some line h.after after (sym h.joined ∙ e) in
       record {
         after = h.after ++ ys;
         joined = line_start-append trim xs ys begun ∙ (ap (λ k. k ++ ys) h.joined ∙ append_assoc line h.after ys);

@@ -11,6 +11,7 @@ use Rattle.tui_para.specs.Wrapping.{FirstLine, glyphs_from}
 use Rattle.tui_para.specs.declared.breaking.Place.{Place}
 use Rattle.tui_para.specs.declared.text_line.TextLine.{TextLine}
 use Rattle.tui_para.proofs.Extending.{next-append}
+use Rattle.tui_para.proofs.Filled.{some_append}
 use Rattle.tui_para.proofs.Parts.{between-drop, between-nil, no_lines}
 use Rattle.tui_para.proofs.Unique.{same_next}
 
@@ -34,26 +35,22 @@ next_of_all blank size w trim xs line ys next known n = ⊎_elim
     (λ e. rw e (rw (append-nil xs, append-nil (drop next xs)) n))
     known
 
-append_some : {A : Type 0} (xs ys : List A) → xs ≢ [] → xs ++ ys ≢ []
-append_some [] ys some e = some refl
-append_some (x ∷ xs) ys some e = cc
-
 module _ {I : Type 0} (s : TextLine I) (glyphs : List Glyph) where
   pub first_empty : (p : Place) → p ≡ record { start = s.place; end = s.place; next = s.place; width = 0 } → s.is_new ≡ true → glyphs ≡ [] → drop s.place (glyphs_of s.line) ≡ [] → FirstLine s p glyphs
   first_empty p at new none gone =
       let empty : glyphs_from s s.place glyphs ≡ [] = ap (λ k. k ++ kept glyph_width s.width glyphs) gone ∙ ap (kept glyph_width s.width) none in
-      rw at (
-        λ rest h.
+      rw at (record {
+        lends = λ rest h.
             let ends = no_lines glyph_blank glyph_width s.width s.trim _ rest empty h in
-            inl (new, inl (empty, ap (λ k. k ∷ rest) (between-nil s.place (glyphs_of s.line)) ∙ ap (λ ks. [] ∷ ks) ends)),
-        λ parts h. ⊎_elim
+            inl (new, inl (empty, ap (λ k. k ∷ rest) (between-nil s.place (glyphs_of s.line)) ∙ ap (λ ks. [] ∷ ks) ends));
+        takes = λ parts h. ⊎_elim
             (λ t. ⊎_elim
             (λ k. ([], k.1 ∙ sym (ap (λ l. l ∷ []) (between-nil s.place (glyphs_of s.line))), empty))
             (λ k. absurd (k.0 empty))
             t.1)
             (λ t. absurd (no_new t.0))
-            h,
-      )
+            h;
+      })
     where
       no_new : s.is_new ≡ false → ⊥
       no_new e = cc
@@ -71,15 +68,16 @@ module _ {I : Type 0} (s : TextLine I) (glyphs : List Glyph) where
         let first : IsNextLine glyph_blank glyph_width s.width s.trim (xs ++ ys) line (drop next xs ++ ys) =
         next_of_all glyph_blank glyph_width s.width s.trim xs line ys next (⊎_elim (λ k. inl k) (λ e. inr (ap (kept glyph_width s.width) e)) known) n in
         let some : xs ≢ [] = λ e. (let z = ap length e in let t = length-drop s.place all in absurd (omega arith)) in
-        let more : xs ++ ys ≢ [] = append_some xs ys some in
+        let more : xs ++ ys ≢ [] = some_append xs ys some in
         let at : between (s.place + start) (s.place + end) all ≡ line = sym (between-drop s.place start end all) in
-        let after : drop (s.place + next) all ++ ys ≡ drop next xs ++ ys = ap (λ k. k ++ ys) (sym (drop-drop next s.place all)) in (
-          λ rest h.
+        let after : drop (s.place + next) all ++ ys ≡ drop next xs ++ ys = ap (λ k. k ++ ys) (sym (drop-drop next s.place all)) in
+        record {
+          lends = λ rest h.
               let lines : has (xs ++ ys) (between (s.place + start) (s.place + end) all ∷ rest) =
               rw at (more, drop next xs ++ ys, first, subst (λ k. has k rest) after h) in
-              ⊎_elim (λ e. inl (e, inr (more, lines))) (λ e. inr (e, lines)) (cases_Bool s.is_new),
-          λ parts h.
+              ⊎_elim (λ e. inl (e, inr (more, lines))) (λ e. inr (e, lines)) (cases_Bool s.is_new);
+          takes = λ parts h.
               let lines : has (xs ++ ys) parts = ⊎_elim (λ t. ⊎_elim (λ k. absurd (more k.0)) (λ k. k.1) t.1) (λ t. t.1) h in
               let taken = line_taken glyph_blank glyph_width s.width s.trim (xs ++ ys) line (drop next xs ++ ys) more first parts lines in
-              (taken.0, taken.1 ∙ ap (λ k. k ∷ taken.0) (sym at), subst (λ k. has k taken.0) (sym after) taken.2),
-        )
+              (taken.0, taken.1 ∙ ap (λ k. k ∷ taken.0) (sym at), subst (λ k. has k taken.0) (sym after) taken.2);
+        }

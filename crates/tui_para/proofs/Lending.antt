@@ -1,78 +1,82 @@
--- Lines lent one after another by a composer over iterators.
-use Rattle.std.proofs.Common.{◌≡◌, ◌<◌, ℕ, Bool, true, false, List, [], ◌∷◌, ◌++◌, Option, Some, None, map, refl, sym, ap, ◌∙◌, inl, inr, ⊎_elim, subst, arith}
-use Rattle.std.proofs.lemmas.Bool.{cases_lt, false≢true}
-use Rattle.std.specs.Iterator.{Count, MakesProgress}
-use Rattle.std.specs.Prelude.{◌↔◌}
+-- Lines that are lent one after another, whatever the iterators of a composer give.
+use Rattle.std.proofs.Common.{◌≡◌, ◌<◌, ℕ, List, [], ◌∷◌, ◌++◌, Option, Some, None, map, refl, sym, ap, ◌∙◌, inl, inr, ⊎_elim, subst, arith}
+use Rattle.std.proofs.lemmas.Bool.{cases_lt}
+use Rattle.std.specs.Prelude.{◌↔◌, ◌⊎◌}
 use Rattle.tui_text.specs.Grapheme.{Glyph}
 use Rattle.tui_text.specs.declared.alignment.Alignment.{Alignment}
-use Rattle.tui_text.specs.declared.grapheme.StyledGrapheme.{StyledGrapheme}
-use Rattle.tui_para.specs.Given.{WillGive, WillBe, Ready, AllReady}
-use Rattle.tui_para.specs.Lines.{GlyphLine, glyph_line, CutAll, LinesOf, LinesLeft, UnlessDone, LendsFirst, TakesFirst}
+use Rattle.tui_para.specs.Answers.{Answers}
+use Rattle.tui_para.specs.Lines.{GlyphLine, glyph_line, CutAll, IsFirst, IsFirstOf, LinesAfter, LinesFrom, lines_from}
+use Rattle.tui_para.proofs.Answering.{Gave}
 
--- readiness, a call on
-module _ {O I : Type 0} {can : O → Type 0} {gives : O → Option (I × Alignment) → O → Type 0} {left : O → Count} {can_inner : I → Type 0} {left_inner : I → Count} (o u : O) (x : I × Alignment) (r : AllReady can gives left can_inner left_inner o) (g : gives o (Some x) u) where
-  pub AllReady-step : MakesProgress can left o (Some x) u → AllReady can gives left can_inner left_inner u
-  AllReady-step p = let on = p.on r.outer.ends in record {
-    outer = record { can_next = on.0; ends = on.1 };
-    inner = λ xs t v y ys h. r.inner (x ∷ xs) t v y (u, g, ys) h;
-  }
+-- what holds of the same lists
+pub first_along : {A : Type 0} (first : Option A) (P P' Q Q' : List A → Type 0) → ((xs : List A) → P xs ↔ P' xs) → ((xs : List A) → Q xs ↔ Q' xs) → IsFirstOf first P Q → IsFirstOf first P' Q'
+first_along None P P' Q Q' p q h = record {
+  lends = (p []).0 h.lends;
+  takes = λ xs k. let none = h.takes xs ((p xs).1 k) in (none.0, (q []).0 none.1);
+}
+first_along (Some x) P P' Q Q' p q h = record {
+  lends = λ xs k. (p (x ∷ xs)).0 (h.lends xs ((q xs).1 k));
+  takes = λ xs k. let on = h.takes xs ((p xs).1 k) in (on.0, on.1, (q on.0).0 on.2);
+}
 
-  pub AllReady-first : Ready can_inner left_inner x.0
-  AllReady-first = r.inner [] o u x refl g
+pub same_lists : {A : Type 0} (P : List A → Type 0) (xs : List A) → P xs ↔ P xs
+same_lists P xs = (λ h. h, λ h. h)
 
--- after the last text line none is given
-pub lines_end : {O I : Type 0} (outer : O → Option (I × Alignment) → O → Type 0) (inner : I → Option StyledGrapheme → I → Type 0) (o u : O) → outer o None u → (ts : List GlyphLine) → UnlessDone false (WillGive outer (WillBe inner) o) ts → ts ≡ []
-lines_end outer inner o u g [] h = refl
-lines_end outer inner o u g (t ∷ ts) h = ⊎_elim (λ z. absurd (false≢true z.0)) (λ z. absurd (z.1.0 u g)) h
-
-pub will_stop : (T : List GlyphLine → Type 0) (done : Bool) → done ≡ true → (ts : List GlyphLine) → UnlessDone done T ts → ts ≡ []
-will_stop T done e ts h = ⊎_elim (λ z. z.1) (λ z. absurd (false≢true (sym z.0 ∙ e))) h
-
-module _ (R : GlyphLine → List (List Glyph) → Type 0) (w : ℕ) where
-  -- a composer that was just made
-  pub fresh : (T : List GlyphLine → Type 0) (P : List (List Glyph) → Type 0) (a : Alignment) → ((parts : List (List Glyph)) → P parts ↔ (parts ≡ [])) → (lines : List GlyphLine) →
-      LinesLeft (UnlessDone false T) R P w a lines ↔ LinesOf T R w lines
-  fresh T P a none lines = (
-    λ h. ⊎_elim
-        (λ z. inl z)
-        (λ (l, (parts, p, (ts, t, (rest, cut, e)))). inr (l, (ts, ⊎_elim (λ z. absurd (false≢true z.0)) (λ z. z.1) t, subst (CutAll R ts) (sym (e ∙ ap (λ ps. map (glyph_line a) ps ++ rest) ((none parts).0 p))) cut)))
-        h,
-    λ h. ⊎_elim (λ z. inl z) (λ (l, (ts, t, cut)). inr (l, ([], (none []).1 refl, (ts, inr (refl, t), (lines, cut, refl))))) h,
+module _ (R : GlyphLine → List (List Glyph) → Type 0) where
+  -- where no part is left of the text line that was begun
+  pub none_before : (P : List (List Glyph) → Type 0) (a : Alignment) → ((parts : List (List Glyph)) → P parts ↔ (parts ≡ [])) → (ts lines : List GlyphLine) → LinesAfter P a R ts lines ↔ CutAll R ts lines
+  none_before P a none ts lines = (
+    λ (parts, p, (rest, cut, e)). subst (CutAll R ts) (sym (e ∙ ap (λ ps. map (glyph_line a) ps ++ rest) ((none parts).0 p))) cut,
+    λ cut. ([], (none []).1 refl, (lines, cut, refl)),
   )
 
-  module _ (some : 0 < w) where
-    -- one more part of the text line that was begun
-    pub part_lent : (T : List GlyphLine → Type 0) (P Q : List (List Glyph) → Type 0) (a : Alignment) (part : List Glyph) → LendsFirst P (Some part) Q →
-        LendsFirst (LinesLeft T R P w a) (Some (glyph_line a part)) (LinesLeft T R Q w a)
-    part_lent T P Q a part more lines h = ⊎_elim
-        (λ z. let e = z.0 in absurd (omega arith))
-        (λ (l, (parts, q, (ts, t, (rest, cut, e)))). inr (l, (part ∷ parts, more parts q, (ts, t, (rest, cut, ap (λ k. glyph_line a part ∷ k) e)))))
-        h
+  -- one more part of it
+  pub part_first : (P Q : List (List Glyph) → Type 0) (a : Alignment) (part : List Glyph) (ts : List GlyphLine) → IsFirstOf (Some part) P Q → IsFirstOf (Some (glyph_line a part)) (LinesAfter P a R ts) (LinesAfter Q a R ts)
+  part_first P Q a part ts h = record {
+    lends = λ lines (parts, q, (rest, cut, e)). (part ∷ parts, h.lends parts q, (rest, cut, ap (λ k. glyph_line a part ∷ k) e));
+    takes = λ lines (parts, p, (rest, cut, e)).
+        let k = h.takes parts p in
+        (map (glyph_line a) k.0 ++ rest, e ∙ ap (λ ps. map (glyph_line a) ps ++ rest) k.1, (k.0, k.2, (rest, cut, refl)));
+  }
 
-    pub part_taken : (T : List GlyphLine → Type 0) (P Q : List (List Glyph) → Type 0) (a : Alignment) (part : List Glyph) → TakesFirst P (Some part) Q →
-        TakesFirst (LinesLeft T R P w a) (Some (glyph_line a part)) (LinesLeft T R Q w a)
-    part_taken T P Q a part takes lines h = ⊎_elim
-        (λ z. let e = z.0 in absurd (omega arith))
-        (λ (l, (parts, p, (ts, t, (rest, cut, e)))).
-        let k = takes parts p in
-        (map (glyph_line a) k.0 ++ rest, e ∙ ap (λ ps. map (glyph_line a) ps ++ rest) k.1, inr (l, (k.0, k.2, (ts, t, (rest, cut, refl))))))
-        h
+  -- its end, where no text line comes after it
+  pub end_first : (P Q : List (List Glyph) → Type 0) (a b : Alignment) → IsFirstOf None P Q → IsFirstOf None (LinesAfter P a R []) (LinesAfter Q b R [])
+  end_first P Q a b h = record {
+    lends = ([], h.lends, ([], refl, refl));
+    takes = λ lines (parts, p, (rest, cut, e)). (let k = h.takes parts p in (e ∙ (ap (λ ps. map (glyph_line a) ps ++ rest) k.0 ∙ cut), ([], k.1, ([], refl, refl))));
+  }
 
-    -- the end
-    pub none_lent : (T : List GlyphLine → Type 0) (P : List (List Glyph) → Type 0) (a : Alignment) → P [] → T [] → LinesLeft T R P w a []
-    none_lent T P a p t = inr (some, ([], p, ([], t, ([], refl, refl))))
+-- a line that is the first whatever the iterators give later is the first of what may come and of what comes in any case
+module _ {X Y : Type 0} (k : Answers X) (l : Answers Y) (back : Y → X) (gave : Gave k back l) (cuts : X → List GlyphLine → Type 0) (later : Y → List GlyphLine → Type 0) (w v : ℕ) (some : 0 < w) (same : v ≡ w) where
+  some_later : 0 < v
+  some_later = omega arith
 
-    pub none_taken : (T U : List GlyphLine → Type 0) (P Q : List (List Glyph) → Type 0) (a : Alignment) → ((parts : List (List Glyph)) → P parts → parts ≡ []) → ((ts : List GlyphLine) → T ts → ts ≡ []) → Q [] → U [] →
-        TakesFirst (LinesLeft T R P w a) None (LinesLeft U R Q w a)
-    none_taken T U P Q a none stop no_parts no_lines lines h = ⊎_elim
+  came : (lines : List GlyphLine) → LinesFrom k.will cuts w lines → (y : Y) × l.will y × cuts (back y) lines
+  came lines h = ⊎_elim
+      (λ z. let e = z.0 in absurd (omega arith))
+      (λ (p, (x, will, cut)). let (y, e, after) = gave.will x will in (y, after, subst (λ c. cuts c lines) e cut))
+      h
+
+  pub first_from : (first : Option GlyphLine) → ((y : Y) → (l.may y ⊎ l.will y) → IsFirstOf first (cuts (back y)) (later y)) → (first ≡ None → (y : Y) × l.may y) → IsFirst first (lines_from k cuts w) (lines_from l later v)
+  first_from None is ends =
+      let (y, may) = ends refl in
+      record {
+        lends = inr (some, (back y, gave.may y may, (is y (inl may)).lends));
+        takes = λ lines h.
+            let (u, after, cut) = came lines h in
+            let none = (is u (inr after)).takes lines cut in
+            (none.0, inr (some_later, (u, after, none.1)));
+      }
+  first_from (Some line) is ends = record {
+    lends = λ lines h. ⊎_elim
         (λ z. let e = z.0 in absurd (omega arith))
-        (λ (l, (parts, p, (ts, t, (rest, cut, e)))).
-        (e ∙ (ap (λ ps. map (glyph_line a) ps ++ rest) (none parts p) ∙ subst (λ k. CutAll R k rest) (stop ts t) cut), none_lent U Q a no_parts no_lines))
-        h
+        (λ (p, (y, may, cut)). inr (some, (back y, gave.may y may, (is y (inl may)).lends lines cut)))
+        h;
+    takes = λ lines h.
+        let (u, after, cut) = came lines h in
+        let on = (is u (inr after)).takes lines cut in
+        (on.0, on.1, inr (some_later, (u, after, on.2)));
+  }
 
 pub positive : (n m : ℕ) → n ≡ m → (n ≡ 0 → ⊥) → 0 < m
 positive n m e nonzero = ⊎_elim (λ l. l) (λ l. absurd (nonzero (omega arith))) (cases_lt 0 m)
-
--- what holds at a width and trim holds at equal ones
-pub at_size : (K : ℕ → Bool → Type 0) (v w : ℕ) (s t : Bool) → v ≡ w → s ≡ t → K w t → K v s
-at_size K v w s t e f k = subst (λ b. K v b) (sym f) (subst (λ n. K n t) (sym e) k)

@@ -2,8 +2,10 @@ mod Unique
 mod Greedy
 mod Rows
 mod Mapped
+mod Filled
 mod Parts
 mod Lending
+mod Answering
 mod TruncatedOnce
 mod Reading
 mod LineCounts
@@ -21,6 +23,7 @@ mod Extending
 mod FirstLines
 mod PartsRead
 mod Beginning
+mod CutLines
 mod TextLends
 mod LeftOut
 pub mod LogoLight

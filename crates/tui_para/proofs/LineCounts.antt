@@ -11,6 +11,7 @@ use Rattle.tui_para.specs.Counting.{end_word, end_line, take_word_along, add_bla
 use Rattle.tui_para.proofs.Reading.{to_come, Counts, fresh, going, to_letter, untrimmed, word_ended, blank_goes, letter_stays, blank_is_next, letters_are_next, soft_line, hard_line, line_ends, here_some, letter_added, blank_added, blank_skipped}
 use Rattle.tui_para.proofs.Greedy.{all_fit-kept}
 use Rattle.tui_para.proofs.Unique.{same_lines}
+use Rattle.tui_para.proofs.Filled.{append_cons}
 
 -- a line ends at a blank
 ended_at_blank : {A : Type 0} (blank : A → Bool) (size : A → ℕ) (w : ℕ) (trim : Bool) (c : Counter) (x : A) (zs : List A) (n : ℕ) → blank x ≡ true → c.in_word ≡ false → w < c.line + c.blanks + c.word + size x → to_come blank trim c (x ∷ zs) ≡ x ∷ zs → Counts blank size w trim c (x ∷ zs) n → Counts blank size w trim (end_line c) zs n
@@ -98,15 +99,11 @@ ended_before_word blank size w trim c x zs n b y o h =
         letters = r.letters;
         begun = inr (refl, refl);
         in_word = r.in_word;
-        some = inl (refl, append_some r.part x zs);
+        some = inl (refl, append_cons r.part x zs);
         fits = omega arith;
       };
       lines = line_ends blank size w trim c.lines n h.here r.front here some (subst (IsNextLine blank size w trim h.here r.front) rest l) h.lines;
     }
-  where
-    append_some : {B : Type 0} (ys : List B) (y : B) (zs : List B) → ys ++ y ∷ zs ≢ []
-    append_some [] y zs = λ e. cc
-    append_some (z ∷ ys) y zs = λ e. cc
 
 -- a line ends within a word
 ended_in_word : {A : Type 0} (blank : A → Bool) (size : A → ℕ) (w : ℕ) (trim : Bool) (c : Counter) (x : A) (zs : List A) (n : ℕ) → blank x ≡ false → c.begun ≡ false → w < c.line + c.blanks + c.word + size x → Counts blank size w trim c (x ∷ zs) n → Counts blank size w trim (end_line c) (x ∷ zs) n

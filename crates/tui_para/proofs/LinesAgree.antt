@@ -4,13 +4,13 @@ use Rattle.std.proofs.lemmas.Bool.{false≢true}
 use Rattle.tui_text.specs.Grapheme.{Glyph, glyph_blank, glyph_width}
 use Rattle.tui_text.specs.declared.alignment.Alignment.{Alignment}
 use Rattle.tui_text.specs.declared.grapheme.StyledGrapheme.{StyledGrapheme}
+use Rattle.tui_para.specs.Answers.{Answers}
 use Rattle.tui_para.specs.Given.{MayGive, WillGive, IsGlyph, MayBe, WillBe, SourceGives}
-use Rattle.tui_para.specs.Lines.{GlyphLine, glyph_line, cut_all, is_left, LinesLeft, TruncatesLine, UnlessDone, WrapsLine}
+use Rattle.tui_para.specs.Lines.{GlyphLine, glyph_line, is_left, LinesFrom, TruncatesLine, UnlessDone, WrapsLine}
 use Rattle.tui_para.specs.Places.{wrap}
 use Rattle.tui_para.specs.Truncated.{truncate}
 use Rattle.tui_para.specs.Wrapped.{IsTheOne}
-use Rattle.tui_para.specs.Wrapping.{LinesOfRest, NoParts, PartsLeft, glyphs_from, TruncatorMayLend, TruncatorWillLend, WrapperMayLend, WrapperWillLend}
-use Rattle.tui_para.specs.declared.text_line.TextLine.{TextLine}
+use Rattle.tui_para.specs.Wrapping.{LinesOfRest, TruncatorCuts, TruncatorMayLend, TruncatorWillLend, WrapperCuts, WrapperMayLend, WrapperWillLend, truncator_answers, wrapper_answers}
 use Rattle.tui_para.specs.declared.truncator.LineTruncator.{LineTruncator}
 use Rattle.tui_para.specs.declared.wrapper.WordWrapper.{WordWrapper}
 use Rattle.tui_para.proofs.TextCut.{cut_once, truncates_only_to, wraps_only_to}
@@ -38,21 +38,6 @@ module _ {O I : Type 0} (outer : O → Option (I × Alignment) → O → Type 0)
       (λ a. ⊎_elim (λ b. absurd (false≢true (sym a.0 ∙ b.0))) (λ b. items_agree outer (MayBe inner) (WillBe inner) line_agrees o ts us a.1 b.1) w)
       m
 
-  pub lines_agree : (R : GlyphLine → List (List Glyph) → Type 0) (f : GlyphLine → List (List Glyph)) → ((t : GlyphLine) (parts : List (List Glyph)) → R t parts → parts ≡ f t) →
-      (P Q : List (List Glyph) → Type 0) → ((parts others : List (List Glyph)) → P parts → Q others → parts ≡ others) → (w : ℕ) (a : Alignment) (done : Bool) (o : O) (lines others : List GlyphLine) →
-      LinesLeft (UnlessDone done (MayGive outer (MayBe inner) o)) R P w a lines → LinesLeft (UnlessDone done (WillGive outer (WillBe inner) o)) R Q w a others → lines ≡ others
-  lines_agree R f one P Q once w a done o lines others m v = ⊎_elim
-      (λ z. ⊎_elim (λ y. z.1 ∙ sym y.1) (λ y. let e = z.0 in let l = y.0 in absurd (omega arith)) v)
-      (λ (l, (parts, p, (ts, t, (rest, cut, e)))). ⊎_elim
-      (λ y. let n = y.0 in absurd (omega arith))
-      (λ (k, (pieces, q, (us, u, (more, sliced, d)))).
-      let same : parts ≡ pieces = once parts pieces p q in
-      let texts : ts ≡ us = texts_agree done o ts us t u in
-      let tail : rest ≡ more = cut_once R f one ts rest cut ∙ (ap (cut_all f) texts ∙ sym (cut_once R f one us more sliced)) in
-      e ∙ (ap (λ ps. map (glyph_line a) ps ++ rest) same ∙ (ap (λ ls. map (glyph_line a) pieces ++ ls) tail ∙ sym d)))
-      v)
-      m
-
 -- the graphemes that a source may give are those that it gives in any case
 source_agrees : {I : Type 0} (inner : I → Option StyledGrapheme → I → Type 0) (source : Option I) (glyphs others : List Glyph) → SourceGives (MayGive inner IsGlyph) source glyphs → SourceGives (WillGive inner IsGlyph) source others → glyphs ≡ others
 source_agrees inner None glyphs others m w = m ∙ sym w
@@ -64,22 +49,37 @@ rest_agrees is_new w trim xs parts others h g = ⊎_elim
     (λ a. ⊎_elim (λ b. absurd (false≢true (sym a.0 ∙ b.0))) (λ b. same_lines glyph_blank glyph_width w trim parts others xs xs refl a.1 b.1) g)
     h
 
-pub parts_agree : {I : Type 0} (inner : I → Option StyledGrapheme → I → Type 0) (s : TextLine I) (parts others : List (List Glyph)) → PartsLeft (MayGive inner IsGlyph) s parts → PartsLeft (WillGive inner IsGlyph) s others → parts ≡ others
-parts_agree inner s parts others (glyphs, may, h) (known, will, g) =
-    let same = source_agrees inner s.source glyphs known may will in
-    rest_agrees s.is_new s.width s.trim (glyphs_from s s.place known) parts others (subst (λ k. LinesOfRest s.is_new s.width s.trim (glyphs_from s s.place k) parts) same h) g
+-- lines that may come are those that come in any case, where this holds of what the iterators give, and that has one cut
+lines_agree : {X : Type 0} (k : Answers X) (cuts : X → List GlyphLine → Type 0) → ((x y : X) → k.may x → k.will y → x ≡ y) → ((x : X) (lines others : List GlyphLine) → cuts x lines → cuts x others → lines ≡ others) →
+    (w : ℕ) (lines others : List GlyphLine) → LinesFrom k.may cuts w lines → LinesFrom k.will cuts w others → lines ≡ others
+lines_agree k cuts agree once w lines others m v = ⊎_elim
+    (λ z. ⊎_elim (λ y. z.1 ∙ sym y.1) (λ y. let e = z.0 in let l = y.0 in absurd (omega arith)) v)
+    (λ (l, (x, may, cut)). ⊎_elim
+    (λ y. let n = y.0 in absurd (omega arith))
+    (λ (p, (y, will, sliced)). once y lines others (subst (λ z. cuts z lines) (agree x y may will) cut) sliced)
+    v)
+    m
 
-pub wrapper_agrees : {O I : Type 0} (outer : O → Option (I × Alignment) → O → Type 0) (inner : I → Option StyledGrapheme → I → Type 0) (s : WordWrapper O I) (lines known : List GlyphLine) →
-    WrapperMayLend outer inner s lines → WrapperWillLend outer inner s known → lines ≡ known
-wrapper_agrees outer inner s lines known may will =
-    lines_agree outer inner (WrapsLine s.current.width s.current.trim) (λ t. wrap glyph_blank glyph_width s.current.width s.current.trim t.glyphs) (wraps_only_to s.current.width s.current.trim)
-    (PartsLeft (MayGive inner IsGlyph) s.current) (PartsLeft (WillGive inner IsGlyph) s.current) (parts_agree inner s.current) s.current.width s.alignment s.done s.lines lines known may will
+module _ {O I : Type 0} (outer : O → Option (I × Alignment) → O → Type 0) (inner : I → Option StyledGrapheme → I → Type 0) where
+  pub wrapper_agrees : (s : WordWrapper O I) (lines known : List GlyphLine) → WrapperMayLend outer inner s lines → WrapperWillLend outer inner s known → lines ≡ known
+  wrapper_agrees s = lines_agree (wrapper_answers outer inner s) (WrapperCuts s)
+      (λ x y may will. ap (λ k. (k, x.1)) (source_agrees inner s.current.source x.0 y.0 may.0 will.0) ∙ ap (λ k. (y.0, k)) (texts_agree outer inner s.done s.lines x.1 y.1 may.1 will.1))
+      once s.current.width
+    where
+      once : (x : List Glyph × List GlyphLine) (lines others : List GlyphLine) → WrapperCuts s x lines → WrapperCuts s x others → lines ≡ others
+      once x lines others (parts, p, (rest, cut, e)) (pieces, q, (more, sliced, d)) =
+          let w = s.current.width in
+          let trim = s.current.trim in
+          let only = cut_once (WrapsLine w trim) (λ t. wrap glyph_blank glyph_width w trim t.glyphs) (wraps_only_to w trim) x.1 in
+          e ∙ (ap (λ ps. map (glyph_line s.alignment) ps ++ rest) (rest_agrees s.current.is_new w trim _ parts pieces p q)
+          ∙ (ap (λ ls. map (glyph_line s.alignment) pieces ++ ls) (only rest cut ∙ sym (only more sliced)) ∙ sym d))
 
-pub truncator_agrees : {O I : Type 0} (outer : O → Option (I × Alignment) → O → Type 0) (inner : I → Option StyledGrapheme → I → Type 0) (s : LineTruncator O I) (lines known : List GlyphLine) →
-    TruncatorMayLend outer inner s lines → TruncatorWillLend outer inner s known → lines ≡ known
-truncator_agrees outer inner s lines known may will =
-    lines_agree outer inner (TruncatesLine s.width s.offset) (λ t. truncate glyph_width s.width (is_left t.alignment) s.offset t.glyphs ∷ []) (truncates_only_to s.width s.offset)
-    NoParts NoParts (λ parts others p q. p ∙ sym q) s.width s.alignment s.done s.lines lines known may will
+  pub truncator_agrees : (s : LineTruncator O I) (lines known : List GlyphLine) → TruncatorMayLend outer inner s lines → TruncatorWillLend outer inner s known → lines ≡ known
+  truncator_agrees s = lines_agree (truncator_answers outer inner s) (TruncatorCuts s) (texts_agree outer inner s.done s.lines)
+      (λ ts lines others cut sliced.
+      let only = cut_once (TruncatesLine s.width s.offset) (λ t. truncate glyph_width s.width (is_left t.alignment) s.offset t.glyphs ∷ []) (truncates_only_to s.width s.offset) ts in
+      only lines cut ∙ sym (only others sliced))
+      s.width
 
 -- what some list meets, and no list but the known one, is met by the known one alone
 pub the_known : (P : List GlyphLine → Type 0) (known : List GlyphLine) → ((lines : List GlyphLine) → P lines → lines ≡ known) → (lines : List GlyphLine) × P lines → IsTheOne P known

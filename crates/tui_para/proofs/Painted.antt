@@ -6,7 +6,7 @@ use Rattle.tui_cells.specs.declared.rect.Rect.{Rect}
 use Rattle.tui_cells.specs.Rect.{covers, right_of, bottom_of}
 use Rattle.tui_cells.specs.Buffer.{Screen, cell_at}
 use Rattle.tui_cells.specs.Cell.{Look, Edit, edited}
-use Rattle.tui_cells.specs.Layers.{Layer, Painted, KeptOutside, at_place, stroke}
+use Rattle.tui_cells.specs.Layers.{Layer, Painted, KeptOutside, stroke}
 use Rattle.tui_cells.proofs.Painting.{Painted-then, Painted-none}
 use Rattle.tui_text.specs.Grapheme.{Glyph, glyph_of, glyph_width}
 use Rattle.tui_text.specs.declared.grapheme.StyledGrapheme.{StyledGrapheme}
@@ -63,9 +63,6 @@ stroke_kept R S e a b inside p = record { area = p.area; cells = λ x y out. p.c
     same_cell : (r : Bool) (e : Edit) (o : Option Look) → r ≡ false → option_map (λ c. if r then edited e c else c) o ≡ o
     same_cell r e None f = refl
     same_cell r e (Some c) f = rw f refl
-
-pub at_outside : (clip : Rect) (x y a b : ℕ) → covers clip x y ≡ true → covers clip a b ≡ false → at_place x y a b ≡ false
-at_outside clip x y a b inside out = grind (arith, nat_tests)
 
 pub cell_outside : (clip : Rect) (x y a b : ℕ) → covers clip x y ≡ true → covers clip a b ≡ false → covers (record { x = x; y = y; width = 1; height = 1 }) a b ≡ false
 cell_outside clip x y a b inside out = grind (arith, nat_tests)

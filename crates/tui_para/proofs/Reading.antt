@@ -8,6 +8,7 @@ use Rattle.tui_para.specs.declared.counter.Counter.{Counter}
 use Rattle.tui_para.specs.Wrapped.{word, next_word, without_blanks, after_break, ends_in, no_blank, begins_blank, IsNextLine, HasLines, line_start}
 use Rattle.tui_para.specs.Counting.{end_word, add_blank, skip_blank, add_letter}
 use Rattle.tui_para.proofs.Unique.{ends_in-append}
+use Rattle.tui_para.proofs.Filled.{append_cons}
 
 -- all blanks
 abbrev pub AllBlank : {A : Type 0} → (A → Bool) → List A → Type 0
@@ -237,14 +238,10 @@ letter_added blank size w trim c here x zs b o r =
       blanks = r.blanks;
       letters = word_push blank r.part x r.letters b;
       begun = ⊎_elim (λ q. inl (q.0, q.1, ap (λ y. begins_blank blank (r.gap ++ y)) (sym e) ∙ q.2)) (λ q. inr q) r.begun;
-      in_word = inl (refl, push_some r.part x);
+      in_word = inl (refl, append_cons r.part x []);
       some = inl (refl, here_some blank size w trim c here x zs r);
       fits = omega arith;
     }
-  where
-    push_some : {B : Type 0} (ys : List B) (y : B) → ys ++ y ∷ [] ≢ []
-    push_some [] y = λ e. cc
-    push_some (z ∷ ys) y = λ e. cc
 
 pub blank_added : {A : Type 0} (blank : A → Bool) (size : A → ℕ) (w : ℕ) (trim : Bool) (c : Counter) (here : List A) (x : A) (zs : List A) → blank x ≡ true → c.in_word ≡ false → c.line + c.blanks + c.word + size x ≤ w → to_come blank trim c (x ∷ zs) ≡ x ∷ zs → to_come blank trim (add_blank c (size x)) zs ≡ zs → Reads blank size w trim c here (x ∷ zs) → Reads blank size w trim (add_blank c (size x)) here zs
 blank_added blank size w trim c here x zs b i o t u r =

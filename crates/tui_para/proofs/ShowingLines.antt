@@ -1,5 +1,5 @@
 -- Lines below one another, cell by cell.
-use Rattle.std.proofs.Common.{drop, ◌≡◌, ℕ, suc, ◌+◌, ◌-◌, ◌≤◌, ◌<◌, List, [], ◌∷◌, ◌++◌, Bool, true, false, ◌&&◌, ◌==◌, if◌then◌else◌, Option, Some, None, option_map, slice_get, refl, subst, ◌∙◌, ap, sym, arith, ⊎_elim}
+use Rattle.std.proofs.Common.{drop, ◌≡◌, ℕ, suc, ◌+◌, ◌-◌, ◌≤◌, ◌<◌, List, [], ◌∷◌, Bool, true, false, ◌&&◌, ◌==◌, if◌then◌else◌, Option, Some, None, option_map, slice_get, refl, subst, ◌∙◌, ap, sym, arith, ⊎_elim}
 use Rattle.std.proofs.lemmas.Bool.{cases_lt}
 use Rattle.std.proofs.lemmas.Bool.Decides.{nat_tests}
 use Rattle.std.specs.Prelude.{sum_by, OnOk, Result, Ok, Err}
@@ -20,7 +20,7 @@ use Rattle.tui_frames.specs.Strokes.{block_layers}
 use Rattle.tui_frames.proofs.Inside.{Fits, in_clip, inside}
 use Rattle.tui_para.specs.Rendering.{ParagraphShows, base_of, content_layers, paragraph_lines, paragraph_layers, under_layers}
 use Rattle.tui_para.proofs.TextCut.{lines_are}
-use Rattle.tui_para.specs.Shows.{with_line, Shows}
+use Rattle.tui_para.specs.Shows.{with_line}
 use Rattle.tui_para.proofs.ShowingRuns.{run_at, same_both}
 
 glyph_line_at : (rect : Rect) (y0 : ℕ) (s : GlyphLine) (x y : ℕ) (c : Look) →

@@ -21,6 +21,7 @@ use Rattle.tui_para.specs.WrappedText.{WrappedText, TruncatedText, wrap_text, tr
 use Rattle.tui_para.specs.declared.text_lines.TextLines.{TextLines}
 use Rattle.tui_para.specs.declared.wrap.Wrap.{Wrap}
 use Rattle.tui_para.proofs.Greedy.{wrap_is}
+use Rattle.tui_para.proofs.Filled.{no_cons}
 use Rattle.tui_para.proofs.TruncatedOnce.{truncate_is, truncates_once}
 use Rattle.tui_para.proofs.Unique.{wrapped_once}
 
@@ -66,9 +67,6 @@ text_truncates_once w offset a text = record {
   meets = cut_is (TruncatesLine w offset) (λ t. truncate glyph_width w (is_left t.alignment) offset t.glyphs ∷ []) (truncates_to w offset) (text_glyph_lines text a);
   alone = λ lines h. cut_once (TruncatesLine w offset) (λ t. truncate glyph_width w (is_left t.alignment) offset t.glyphs ∷ []) (truncates_only_to w offset) (text_glyph_lines text a) lines h;
 }
-
-no_cons : {A : Type 0} (x : A) (xs : List A) → [] ≡ x ∷ xs → ⊥
-no_cons x xs e = cc
 
 -- an iterator of which the items left are known gives them
 will_give : {S A B : Type 0} (view : A → B) (rest : S → List B) (R : A → B → Type 0) → ((x : A) (y : B) → view x ≡ y → R x y) → (s : S) (ys : List B) → rest s ≡ ys →

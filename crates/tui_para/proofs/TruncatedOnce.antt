@@ -7,10 +7,10 @@ use Rattle.std.proofs.lemmas.Bool.{cases_Bool, leb-true, leb-false}
 use Rattle.std.proofs.lemmas.List.{append_cancel_left}
 use Rattle.std.proofs.lemmas.Bool.Decides.{nat_tests}
 use Rattle.tui_text.specs.Grapheme.{Glyph, glyph_width}
-use Rattle.tui_para.specs.Lines.{GlyphLine, is_left, LendsFirst, TakesFirst, TruncatesLine}
-use Rattle.tui_para.specs.Wrapping.{NoParts}
+use Rattle.tui_para.specs.Lines.{GlyphLine, is_left, IsFirstOf, TruncatesLine}
 use Rattle.tui_para.specs.Truncated.{IsLongestPrefix, FitsIn, IsPassedBy, Truncated, fitting_prefix, left_by, truncate}
 use Rattle.tui_para.specs.Wrapped.{kept, IsTheOne}
+use Rattle.tui_para.proofs.Filled.{no_cons}
 use Rattle.tui_para.proofs.Unique.{cuts}
 
 no_shorter : {A : Type 0} (k m : List A) (y : A) (ys : List A) → k ≡ m ++ y ∷ ys → length k ≤ length m → ⊥
@@ -28,17 +28,21 @@ same_prefix P xs front after other more f g =
     (cuts front after other more whole) in
     (same, append_cancel_left front after more (whole ∙ ap (λ t. t ++ more) (sym same)))
 
-no_cons : {A : Type 0} (x : A) (xs : List A) → [] ≡ x ∷ xs → ⊥
-no_cons x xs e = cc
+nothing : {A : Type 0} (other more : List A) → [] ≡ other ++ more → length other ≤ 0
+nothing [] more e = omega arith
+nothing (y ∷ o) more e = absurd (no_cons y (o ++ more) e)
 
 module _ {A : Type 0} (size : A → ℕ) where
+  nothing_passed : (offset : ℕ) → IsPassedBy size offset []
+  nothing_passed offset = record { fits = omega arith; needed = needed }
+    where
+      needed : (shorter more : List A) → [] ≡ shorter ++ more → more ≢ [] → sum_by size shorter < offset
+      needed [] more e n = absurd (n (sym e))
+      needed (y ∷ o) more e n = absurd (no_cons y (o ++ more) e)
+
   -- the graphemes that fit are the longest front that does
   fitting_is : (room : ℕ) (xs : List A) → (rest : List A) × IsLongestPrefix (FitsIn size room) xs (fitting_prefix size room xs) rest
   fitting_is room [] = ([], record { joined = refl; holds = omega arith; longest = λ other more e h. nothing other more e })
-    where
-      nothing : (other more : List A) → [] ≡ other ++ more → length other ≤ 0
-      nothing [] more e = omega arith
-      nothing (y ∷ o) more e = absurd (no_cons y (o ++ more) e)
   fitting_is room (x ∷ xs) = ⊎_elim
       (λ b.
       let fits = leb-true (size x) room b in
@@ -77,17 +81,6 @@ module _ {A : Type 0} (size : A → ℕ) where
   -- the graphemes that the offset passes are the longest front that it does
   passed_is : (offset : ℕ) (xs : List A) → (passed : List A) × IsLongestPrefix (IsPassedBy size offset) xs passed (left_by size offset xs)
   passed_is offset [] = ([], record { joined = refl; holds = nothing_passed offset; longest = λ other more e h. nothing other more e })
-    where
-      nothing_passed : (offset : ℕ) → IsPassedBy size offset []
-      nothing_passed offset = record { fits = omega arith; needed = needed }
-        where
-          needed : (shorter more : List A) → [] ≡ shorter ++ more → more ≢ [] → sum_by size shorter < offset
-          needed [] more e n = absurd (n (sym e))
-          needed (y ∷ o) more e n = absurd (no_cons y (o ++ more) e)
-
-      nothing : (other more : List A) → [] ≡ other ++ more → length other ≤ 0
-      nothing [] more e = omega arith
-      nothing (y ∷ o) more e = absurd (no_cons y (o ++ more) e)
   passed_is offset (x ∷ xs) = ⊎_elim
       (λ b.
       let (passed, h) = passed_is (offset - size x) xs in
@@ -138,12 +131,8 @@ module _ {A : Type 0} (size : A → ℕ) where
               omega arith
 
       none : (offset : ℕ) (x : A) (xs : List A) → (offset ≡ 0) ⊎ (offset < size x) → IsLongestPrefix (IsPassedBy size offset) (x ∷ xs) [] (x ∷ xs)
-      none offset x xs stop = record { joined = refl; holds = record { fits = omega arith; needed = needed }; longest = longest }
+      none offset x xs stop = record { joined = refl; holds = nothing_passed offset; longest = longest }
         where
-          needed : (shorter more : List A) → [] ≡ shorter ++ more → more ≢ [] → sum_by size shorter < offset
-          needed [] more e n = absurd (n (sym e))
-          needed (y ∷ o) more e n = absurd (no_cons y (o ++ more) e)
-
           longest : (other more : List A) → x ∷ xs ≡ other ++ more → IsPassedBy size offset other → length other ≤ 0
           longest [] more e l = omega arith
           longest (y ∷ o) more e l =
@@ -184,15 +173,11 @@ module _ {A : Type 0} (size : A → ℕ) where
   left_by_none [] = refl
   left_by_none (x ∷ xs) = refl
 
--- the one line of a text line lends itself
-module _ (w offset : ℕ) (t : GlyphLine) (line : List Glyph) (line_is_cut : line ≡ truncate glyph_width w (is_left t.alignment) offset t.glyphs) where
-  pub line_lends : LendsFirst (TruncatesLine w offset t) (Some line) NoParts
-  line_lends parts none =
-      (line, subst (Truncated glyph_width w (is_left t.alignment) offset t.glyphs) (sym line_is_cut) (truncate_is glyph_width w (is_left t.alignment) offset t.glyphs), ap (λ k. line ∷ k) none)
-
-  pub line_takes : TakesFirst (TruncatesLine w offset t) (Some line) NoParts
-  line_takes parts (other, h, e) =
-      ([], e ∙ ap (λ k. k ∷ []) ((truncates_once glyph_width w (is_left t.alignment) offset t.glyphs).alone other h ∙ sym line_is_cut), refl)
-
-pub truncates_some : (w offset : ℕ) (t : GlyphLine) → TruncatesLine w offset t [] → ⊥
-truncates_some w offset t (line, h, e) = no_cons line [] e
+-- the one line of a text line
+pub cut_first : (w offset : ℕ) (t : GlyphLine) (line : List Glyph) → line ≡ truncate glyph_width w (is_left t.alignment) offset t.glyphs → IsFirstOf (Some line) (TruncatesLine w offset t) (λ parts. parts ≡ [])
+cut_first w offset t line cut =
+    let is = truncates_once glyph_width w (is_left t.alignment) offset t.glyphs in
+    record {
+      lends = λ parts none. (line, subst (Truncated glyph_width w (is_left t.alignment) offset t.glyphs) (sym cut) is.meets, ap (λ k. line ∷ k) none);
+      takes = λ parts (other, h, e). ([], e ∙ ap (λ k. k ∷ []) (is.alone other h ∙ sym cut), refl);
+    }

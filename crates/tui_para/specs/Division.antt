@@ -29,7 +29,8 @@ IsWord blank v = (v ≢ []) × (word blank v ≡ v)
 abbrev pub Spaced : {A : Type 0} → (A → Bool) → (A → ℕ) → List (List A) → List A → Type 0
 Spaced blank size [] xs = xs ≡ []
 Spaced blank size (v ∷ []) xs = IsWord blank v × (xs ≡ v)
-Spaced {A} blank size (v ∷ u ∷ vs) xs = IsWord blank v × (b : A) × (rest : List A) × (xs ≡ v ++ b ∷ rest) × (blank b ≡ true) × (size b ≡ 1) × Spaced blank size (u ∷ vs) rest
+Spaced {A} blank size (v ∷ u ∷ vs) xs =
+    IsWord blank v × (b : A) × (rest : List A) × (xs ≡ v ++ b ∷ rest) × (blank b ≡ true) × (size b ≡ 1) × Spaced blank size (u ∷ vs) rest
 
 -- the same, and none of the words is wider than w
 pub record SpacedWithin {A : Type 0} (blank : A → Bool) (size : A → ℕ) (w : ℕ) (words : List (List A)) (xs : List A) : Type 0 where

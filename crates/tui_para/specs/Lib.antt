@@ -6,6 +6,7 @@ pub mod Counting
 pub mod Division
 pub mod Mark
 pub mod Marked
+pub mod Answers
 pub mod Lines
 pub mod WrappedText
 pub mod Given

@@ -1,7 +1,7 @@
 -- The graphemes that a list with their marks holds.
-use Rattle.std.specs.Prelude.{List, map}
+use Rattle.std.specs.Prelude.{◌≡◌, ◌≤◌, List, length, map, sum_by}
 use Rattle.std.specs.List.{between}
-use Rattle.tui_text.specs.Grapheme.{Glyph, glyph_of}
+use Rattle.tui_text.specs.Grapheme.{Glyph, glyph_of, glyph_width}
 use Rattle.tui_para.specs.declared.marked.Marked.{Marked}
 use Rattle.tui_para.specs.declared.part.Part.{Part}
 
@@ -11,3 +11,9 @@ glyphs_of m = map glyph_of m.graphemes.items
 -- those of a part
 abbrev pub part_of : List Glyph → Part → List Glyph
 part_of glyphs p = between p.start p.end glyphs
+
+-- the part stands among the graphemes, and has their columns
+pub record IsPart (glyphs : List Glyph) (p : Part) : Type 0 where
+  pub order : p.start ≤ p.end
+  pub within : p.end ≤ length glyphs
+  pub columns : p.width ≡ sum_by glyph_width (part_of glyphs p)

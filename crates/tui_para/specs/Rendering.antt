@@ -39,9 +39,13 @@ abbrev pub under_layers : Option BlockData → Style → Rect → List Layer
 under_layers None style clip = []
 under_layers (Some b) style clip = stroke (covers clip) (dress style) ++ block_layers b clip
 
--- the style on an area, then the lines from the scroll line on, one a row
+-- the lines from the scroll line on, one a row
+abbrev pub scrolled_layers : ParagraphData → Rect → List Layer
+scrolled_layers p rect = glyph_lines_layers rect rect.y (drop p.scroll_y (paragraph_lines p rect.width))
+
+-- the style on an area, then these lines
 unfoldable pub content_layers : ParagraphData → Rect → List Layer
-content_layers p rect = stroke (covers rect) (dress p.style) ++ glyph_lines_layers rect rect.y (drop p.scroll_y (paragraph_lines p rect.width))
+content_layers p rect = stroke (covers rect) (dress p.style) ++ scrolled_layers p rect
 
 -- the strokes of a paragraph
 abbrev pub paragraph_layers : ParagraphData → Rect → List Layer

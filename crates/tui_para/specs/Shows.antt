@@ -26,4 +26,5 @@ with_line rect (Some s) x c = with_grapheme (stands_in (rect.x + start_of s.alig
 -- each cell of the area is the base of the cell before, under the line of its row: line r stands in row r
 pub record Shows (rect : Rect) (base : Look → Look) (lines : List GlyphLine) (before after : Screen) : Type 0 where
   pub area : after.area ≡ before.area
-  pub cells : (x y : ℕ) → covers rect x y ≡ true → cell_at after x y ≡ option_map (λ c. with_line rect (slice_get lines (y - rect.y)) x (base c)) (cell_at before x y)
+  pub cells : (x y : ℕ) → covers rect x y ≡ true →
+      cell_at after x y ≡ option_map (λ c. with_line rect (slice_get lines (y - rect.y)) x (base c)) (cell_at before x y)

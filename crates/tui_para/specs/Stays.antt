@@ -20,16 +20,18 @@ use Rattle.tui_para.specs.Rendering.{content_layers, paragraph_layers, paragraph
 use Rattle.tui_para.specs.Strokes.{run_layers, start_of, glyph_line_layers, glyph_lines_layers}
 
 -- a position inside is none outside
-at_outside : (clip : Rect) (x y a b : ℕ) → covers clip x y ≡ true → covers clip a b ≡ false → at_place x y a b ≡ false
+pub at_outside : (clip : Rect) (x y a b : ℕ) → covers clip x y ≡ true → covers clip a b ≡ false → at_place x y a b ≡ false
 at_outside clip x y a b inside out = false_from_ne_true (at_place x y a b)
-    (λ t. false≢true (sym out ∙ (ap (λ n. covers clip n b) (eqb-true a x (and_parts (a == x) (b == y) t).0) ∙ (ap (λ n. covers clip x n) (eqb-true b y (and_parts (a == x) (b == y) t).1) ∙ inside))))
+    (λ t. false≢true (sym out ∙ (ap (λ n. covers clip n b) (eqb-true a x (and_parts (a == x) (b == y) t).0)
+    ∙ (ap (λ n. covers clip x n) (eqb-true b y (and_parts (a == x) (b == y) t).1) ∙ inside))))
 
 one_stays : (clip : Rect) (x y : ℕ) (g : Glyph) (wide inside : Bool) → covers clip x y ≡ inside →
     StayIn (covers clip) (if wide && inside then stroke (at_place x y) (put g.text) ++ stroke (at_place x y) (dress g.style) else [])
 one_stays clip x y g false inside e = StayIn-none
 one_stays clip x y g true false e = StayIn-none
 one_stays clip x y g true true e =
-    StayIn-append (StayIn-stroke (at_place x y) (put g.text) (λ a b. at_outside clip x y a b e)) (StayIn-stroke (at_place x y) (dress g.style) (λ a b. at_outside clip x y a b e))
+    StayIn-append (StayIn-stroke (at_place x y) (put g.text) (λ a b. at_outside clip x y a b e))
+    (StayIn-stroke (at_place x y) (dress g.style) (λ a b. at_outside clip x y a b e))
 
 run_stays : (clip : Rect) (x y : ℕ) (gs : List Glyph) → StayIn (covers clip) (run_layers clip x y gs)
 unfolding run_layers
@@ -46,7 +48,9 @@ glyph_lines_stay rect y (s ∷ ss) = StayIn-append (glyph_line_stays rect y s) (
 
 pub content_stays : (p : ParagraphData) (rect : Rect) → StayIn (covers rect) (content_layers p rect)
 unfolding content_layers
-content_stays p rect = StayIn-append (StayIn-stroke (covers rect) (dress p.style) (λ x y out. out)) (glyph_lines_stay rect rect.y (drop p.scroll_y (paragraph_lines p rect.width)))
+content_stays p rect =
+    StayIn-append (StayIn-stroke (covers rect) (dress p.style) (λ x y out. out))
+    (glyph_lines_stay rect rect.y (drop p.scroll_y (paragraph_lines p rect.width)))
 
 under_stays : (o : Option BlockData) (style : Style) (clip : Rect) → StayIn (footprint_if o clip) (under_layers o style clip)
 under_stays None style clip = StayIn-none

@@ -69,7 +69,8 @@ pub record IsNextLine {A : Type 0} (blank : A → Bool) (size : A → ℕ) (w : 
 -- the graphemes have these lines: a further line exactly where something is left
 abbrev pub HasLines : {A : Type 0} → (A → Bool) → (A → ℕ) → ℕ → Bool → List A → List (List A) → Type 0
 HasLines blank size w trim xs [] = xs ≡ []
-HasLines {A} blank size w trim xs (line ∷ lines) = (xs ≢ []) × (rest : List A) × IsNextLine blank size w trim xs line rest × HasLines blank size w trim rest lines
+HasLines {A} blank size w trim xs (line ∷ lines) =
+    (xs ≢ []) × (rest : List A) × IsNextLine blank size w trim xs line rest × HasLines blank size w trim rest lines
 
 -- without the graphemes that are wider than w
 abbrev pub kept : {A : Type 0} → (A → ℕ) → ℕ → List A → List A
@@ -87,7 +88,8 @@ Wrapped blank size w trim xs lines = WrapsKept blank size w trim (kept size w xs
 abbrev pub LeavesOutBlanks : {A : Type 0} → (A → Bool) → List A → List (List A) → Type 0
 LeavesOutBlanks blank xs [] = xs ≡ []
 LeavesOutBlanks {A} blank xs (line ∷ lines) =
-    (before behind rest : List A) × All (λ x. blank x ≡ true) before × All (λ x. blank x ≡ true) behind × (xs ≡ before ++ (line ++ (behind ++ rest))) × LeavesOutBlanks blank rest lines
+    (before behind rest : List A) × All (λ x. blank x ≡ true) before × All (λ x. blank x ≡ true) behind
+    × (xs ≡ before ++ (line ++ (behind ++ rest))) × LeavesOutBlanks blank rest lines
 
 -- the value meets the relation, and no other does
 pub record IsTheOne {A : Type 0} (R : A → Type 0) (x : A) : Type 0 where

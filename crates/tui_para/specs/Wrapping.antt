@@ -1,15 +1,17 @@
 -- What composers may still lend.
-use Rattle.std.specs.Prelude.{◌≡◌, ◌⊎◌, ℕ, Bool, true, false, List, [], ◌++◌, drop, Option, Some, IfSome}
-use Rattle.std.specs.Iterator.{Count}
+use Rattle.std.specs.Prelude.{◌≡◌, ◌⊎◌, ℕ, Bool, true, false, List, [], ◌++◌, drop, map, Option, Some, None, option_map, IfSome, sum_by}
 use Rattle.std.specs.List.{between}
-use Rattle.tui_text.specs.Grapheme.{Glyph, glyph_blank, glyph_width}
+use Rattle.std.specs.declared.iter.Iterator.{Ghosts}
+use Rattle.tui_text.specs.Grapheme.{Glyph, glyph_of, glyph_blank, glyph_width}
 use Rattle.tui_text.specs.declared.alignment.Alignment.{Alignment}
 use Rattle.tui_text.specs.declared.grapheme.StyledGrapheme.{StyledGrapheme}
-use Rattle.tui_para.specs.Given.{AllReady, IsGlyph, MayGive, MayBe, Ready, SourceGives, WillGive, WillBe}
-use Rattle.tui_para.specs.Lines.{GlyphLine, WrapsLine, TruncatesLine, LendsFirst, TakesFirst, LinesLeft, UnlessDone}
-use Rattle.tui_para.specs.Marked.{glyphs_of}
+use Rattle.tui_para.specs.Answers.{Answers, both}
+use Rattle.tui_para.specs.Given.{AllReady, Ready, SourceReads, line_answers, source_answers}
+use Rattle.tui_para.specs.Lines.{GlyphLine, glyph_line, CutAll, IsFirst, IsFirstOf, LinesAfter, TruncatesLine, WrapsLine, lines_from}
+use Rattle.tui_para.specs.Marked.{IsPart, glyphs_of, part_of}
 use Rattle.tui_para.specs.Wrapped.{HasLines, WrapsKept, kept}
 use Rattle.tui_para.specs.declared.breaking.Place.{Place}
+use Rattle.tui_para.specs.declared.part.Part.{Part}
 use Rattle.tui_para.specs.declared.text_line.TextLine.{TextLine}
 use Rattle.tui_para.specs.declared.truncator.LineTruncator.{LineTruncator}
 use Rattle.tui_para.specs.declared.wrapper.WordWrapper.{WordWrapper}
@@ -20,7 +22,8 @@ glyphs_from s place glyphs = drop place (glyphs_of s.line) ++ kept glyph_width s
 
 -- the lines of the graphemes that are left of a text line: one at least where none was lent
 abbrev pub LinesOfRest : Bool → ℕ → Bool → List Glyph → List (List Glyph) → Type 0
-LinesOfRest is_new w trim glyphs parts = ((is_new ≡ true) × WrapsKept glyph_blank glyph_width w trim glyphs parts) ⊎ ((is_new ≡ false) × HasLines glyph_blank glyph_width w trim glyphs parts)
+LinesOfRest is_new w trim glyphs parts = ((is_new ≡ true) × WrapsKept glyph_blank glyph_width w trim glyphs parts)
+    ⊎ ((is_new ≡ false) × HasLines glyph_blank glyph_width w trim glyphs parts)
 
 -- those that are not lent yet, where these graphemes are still to be read
 abbrev pub PartsWith : {I : Type 0} → TextLine I → List Glyph → List (List Glyph) → Type 0
@@ -28,45 +31,77 @@ PartsWith s glyphs = LinesOfRest s.is_new s.width s.trim (glyphs_from s s.place 
 
 -- the first of them is what stands at this place, and those after it begin at the next
 abbrev pub FirstLine : {I : Type 0} → TextLine I → Place → List Glyph → Type 0
-FirstLine s p glyphs =
-    let first = Some (between p.start p.end (glyphs_of s.line)) in
-    let rest = HasLines glyph_blank glyph_width s.width s.trim (glyphs_from s p.next glyphs) in
-    LendsFirst (PartsWith s glyphs) first rest × TakesFirst (PartsWith s glyphs) first rest
+FirstLine s p glyphs = IsFirstOf (Some (between p.start p.end (glyphs_of s.line))) (PartsWith s glyphs)
+    (HasLines glyph_blank glyph_width s.width s.trim (glyphs_from s p.next glyphs))
 
--- the lines of a text line that are not lent yet
-abbrev pub PartsLeft : {I : Type 0} → (I → List Glyph → Type 0) → TextLine I → List (List Glyph) → Type 0
-PartsLeft gives s parts = (glyphs : List Glyph) × SourceGives gives s.source glyphs × PartsWith s glyphs parts
+-- more of a text line was read, and no part of it was lent
+pub record HasRead {I : Type 0} (gives : I → Option StyledGrapheme → I → Type 0) (old new : TextLine I) : Type 0 where
+  pub taken : List StyledGrapheme
+  pub reads : SourceReads gives old.source taken new.source
+  pub behind : drop new.place (glyphs_of new.line) ≡ drop old.place (glyphs_of old.line) ++ kept glyph_width old.width (map glyph_of taken)
+  pub is_new : new.is_new ≡ old.is_new
+  pub width : new.width ≡ old.width
+  pub trim : new.trim ≡ old.trim
 
--- those of a wrapper, where `texts` tells which text lines its iterator gives, and `gives` which graphemes theirs give
-abbrev pub WrapperLines : {O I : Type 0} → (O → List GlyphLine → Type 0) → (I → List Glyph → Type 0) → O → TextLine I → Alignment → Bool → List GlyphLine → Type 0
-WrapperLines texts gives o current alignment done = LinesLeft (UnlessDone done (texts o)) (WrapsLine current.width current.trim) (PartsLeft gives current) current.width alignment
+-- a text line read some graphemes and found its next part, or that there is none: this part is the first of those that
+-- are left, whatever is still to be read
+pub record FindsPart {I : Type 0} (gives : I → Option StyledGrapheme → I → Type 0) (old new : TextLine I) (found : Option Part) : Type 0 where
+  pub is_part : IfSome found (IsPart (glyphs_of new.line))
+  pub taken : List StyledGrapheme
+  pub reads : SourceReads gives old.source taken new.source
+  pub first : (glyphs : List Glyph) → (new.source ≡ None → glyphs ≡ []) →
+      IsFirstOf (option_map (part_of (glyphs_of new.line)) found) (PartsWith old (map glyph_of taken ++ glyphs)) (PartsWith new glyphs)
+  pub ends : found ≡ None → new.source ≡ None
 
--- the lines that a wrapper may lend
-abbrev pub WrapperMayLend : {O I : Type 0} → (O → Option (I × Alignment) → O → Type 0) → (I → Option StyledGrapheme → I → Type 0) → WordWrapper O I → List GlyphLine → Type 0
-WrapperMayLend outer inner s = WrapperLines (MayGive outer (MayBe inner)) (MayGive inner IsGlyph) s.lines s.current s.alignment s.done
+-- the lines of a wrapper, where these are the graphemes and the text lines that its iterators still give
+abbrev pub WrapperCuts : {O I : Type 0} → WordWrapper O I → List Glyph × List GlyphLine → List GlyphLine → Type 0
+WrapperCuts s x = LinesAfter (PartsWith s.current x.0) s.alignment (WrapsLine s.current.width s.current.trim) x.1
 
--- those that it lends in any case
-abbrev pub WrapperWillLend : {O I : Type 0} → (O → Option (I × Alignment) → O → Type 0) → (I → Option StyledGrapheme → I → Type 0) → WordWrapper O I → List GlyphLine → Type 0
-WrapperWillLend outer inner s = WrapperLines (WillGive outer (WillBe inner)) (WillGive inner IsGlyph) s.lines s.current s.alignment s.done
+-- those of a truncator, where these text lines are still given
+abbrev pub TruncatorCuts : {O I : Type 0} → LineTruncator O I → List GlyphLine → List GlyphLine → Type 0
+TruncatorCuts s = CutAll (TruncatesLine s.width s.offset)
 
--- its iterators may be called, and end
-abbrev pub WrapperCanLend : {O I : Type 0} → (O → Type 0) → (O → Option (I × Alignment) → O → Type 0) → (O → Count) → (I → Type 0) → (I → Count) → WordWrapper O I → Type 0
-WrapperCanLend can gives left can_inner left_inner s = (s.done ≡ false → AllReady can gives left can_inner left_inner s.lines) × IfSome s.current.source (Ready can_inner left_inner)
+module _ {O I : Type 0} (outer : O → Option (I × Alignment) → O → Type 0) (inner : I → Option StyledGrapheme → I → Type 0) where
+  -- what their iterators still give
+  abbrev pub wrapper_answers : WordWrapper O I → Answers (List Glyph × List GlyphLine)
+  wrapper_answers s = both (source_answers inner s.current.source) (line_answers outer inner s.done s.lines)
 
--- no text line is begun
-abbrev pub NoParts : List (List Glyph) → Type 0
-NoParts parts = parts ≡ []
+  abbrev pub truncator_answers : LineTruncator O I → Answers (List GlyphLine)
+  truncator_answers s = line_answers outer inner s.done s.lines
 
--- those of a truncator
-abbrev pub TruncatorLines : {O : Type 0} → (O → List GlyphLine → Type 0) → O → ℕ → ℕ → Alignment → Bool → List GlyphLine → Type 0
-TruncatorLines texts o w offset alignment done = LinesLeft (UnlessDone done (texts o)) (TruncatesLine w offset) NoParts w alignment
+  -- and so the lines that they may lend, and those that they lend in any case
+  abbrev pub wrapper_lends : WordWrapper O I → Answers (List GlyphLine)
+  wrapper_lends s = lines_from (wrapper_answers s) (WrapperCuts s) s.current.width
 
-abbrev pub TruncatorMayLend : {O I : Type 0} → (O → Option (I × Alignment) → O → Type 0) → (I → Option StyledGrapheme → I → Type 0) → LineTruncator O I → List GlyphLine → Type 0
-TruncatorMayLend outer inner s = TruncatorLines (MayGive outer (MayBe inner)) s.lines s.width s.offset s.alignment s.done
+  abbrev pub truncator_lends : LineTruncator O I → Answers (List GlyphLine)
+  truncator_lends s = lines_from (truncator_answers s) (TruncatorCuts s) s.width
 
-abbrev pub TruncatorWillLend : {O I : Type 0} → (O → Option (I × Alignment) → O → Type 0) → (I → Option StyledGrapheme → I → Type 0) → LineTruncator O I → List GlyphLine → Type 0
-TruncatorWillLend outer inner s = TruncatorLines (WillGive outer (WillBe inner)) s.lines s.width s.offset s.alignment s.done
+  abbrev pub WrapperMayLend : WordWrapper O I → List GlyphLine → Type 0
+  WrapperMayLend s = (wrapper_lends s).may
 
--- its iterators may be called, and end
-abbrev pub TruncatorCanLend : {O I : Type 0} → (O → Type 0) → (O → Option (I × Alignment) → O → Type 0) → (O → Count) → (I → Type 0) → (I → Count) → LineTruncator O I → Type 0
-TruncatorCanLend can gives left can_inner left_inner s = s.done ≡ false → AllReady can gives left can_inner left_inner s.lines
+  abbrev pub WrapperWillLend : WordWrapper O I → List GlyphLine → Type 0
+  WrapperWillLend s = (wrapper_lends s).will
+
+  abbrev pub TruncatorMayLend : LineTruncator O I → List GlyphLine → Type 0
+  TruncatorMayLend s = (truncator_lends s).may
+
+  abbrev pub TruncatorWillLend : LineTruncator O I → List GlyphLine → Type 0
+  TruncatorWillLend s = (truncator_lends s).will
+
+  -- a wrapper found its next line, which is a part of the graphemes that it holds, or that there is none
+  pub record FindsLine (old new : WordWrapper O I) (found : Option Part) : Type 0 where
+    pub is_part : IfSome found (IsPart (glyphs_of new.current.line))
+    pub first : IsFirst (option_map (λ p. glyph_line new.alignment (part_of (glyphs_of new.current.line) p)) found) (wrapper_lends old) (wrapper_lends new)
+
+  -- a truncator found its next line, which is what it keeps and has so many columns, or that there is none
+  pub record FindsCut (old new : LineTruncator O I) (found : Option ℕ) : Type 0 where
+    pub columns : IfSome found (λ n. n ≡ sum_by glyph_width (map glyph_of new.shown.items))
+    pub first : IsFirst (option_map (λ _. glyph_line new.alignment (map glyph_of new.shown.items)) found) (truncator_lends old) (truncator_lends new)
+
+-- their iterators may be called, and end
+module _ {O I : Type 0} (outer : Ghosts O (I × Alignment)) (inner : Ghosts I StyledGrapheme) where
+  abbrev pub WrapperCanLend : WordWrapper O I → Type 0
+  WrapperCanLend s = (s.done ≡ false → AllReady outer inner s.lines) × IfSome s.current.source (Ready inner)
+
+  abbrev pub TruncatorCanLend : LineTruncator O I → Type 0
+  TruncatorCanLend s = s.done ≡ false → AllReady outer inner s.lines

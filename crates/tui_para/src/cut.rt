@@ -40,7 +40,8 @@ impl Cut {
 
     /// Reads the next grapheme, and answers whether it is shown.
     pub(crate) fn shows(&mut self, grapheme: &StyledGrapheme<'_>) -> bool
-        ensures line { (rest : List Glyph) → shown_of self.old (glyph_of grapheme.now ∷ rest) ≡ cond result (glyph_of grapheme.now ∷ []) [] ++ shown_of self.new rest }
+        ensures line { (rest : List Glyph) → shown_of self.old (glyph_of grapheme.now ∷ rest)
+            ≡ cond result (glyph_of grapheme.now ∷ []) [] ++ shown_of self.new rest }
         ensures room { self.new.room + cond result (glyph_width (glyph_of grapheme.now)) 0 ≡ self.old.room }
     {
         if self.full {

@@ -10,7 +10,7 @@ use tui_text::{Alignment, StyledGrapheme};
 
 /// Reads the graphemes of a line.
 pub(crate) fn read_line<'a, I: Iterator<Item = StyledGrapheme<'a>>>(line: I)
-    requires { Ready I.can_next I.remaining line }
+    requires { Ready I.Iterator line }
     ensures { (all : List StyledGrapheme) × Drains I.next_gives line all }
 {
     for _grapheme in line {}
@@ -21,7 +21,7 @@ pub(crate) fn read_lines<'a, O, I>(lines: O)
 where
     O: Iterator<Item = (I, Alignment)>,
     I: Iterator<Item = StyledGrapheme<'a>>,
-    requires { AllReady O.can_next O.next_gives O.remaining I.can_next I.remaining lines }
+    requires { AllReady O.Iterator I.Iterator lines }
     ensures { (glyph_lines : List GlyphLine) × MayGive O.next_gives (MayBe I.next_gives) lines glyph_lines }
 {
     'lines: for (line, _alignment) in lines {

@@ -54,9 +54,10 @@ pub fn wrapper_lends_some<'a, O, I>(wrapper: WordWrapper<'a, O, I>)
 where
     O: Iterator<Item = (I, Alignment)>,
     I: Iterator<Item = StyledGrapheme<'a>>,
-    requires { WrapperCanLend O.can_next O.next_gives O.remaining I.can_next I.remaining wrapper }
+    requires { WrapperCanLend O.Iterator I.Iterator wrapper }
     ensures some { (lines : List GlyphLine) × WrapperMayLend O.next_gives I.next_gives wrapper.entry lines }
-    ensures known { (known : List GlyphLine) → WrapperWillLend O.next_gives I.next_gives wrapper.entry known → IsTheOne (WrapperMayLend O.next_gives I.next_gives wrapper.entry) known }
+    ensures known { (known : List GlyphLine) → WrapperWillLend O.next_gives I.next_gives wrapper.entry known
+        → IsTheOne (WrapperMayLend O.next_gives I.next_gives wrapper.entry) known }
 {
     wrapper.read_to_end();
 }
@@ -66,7 +67,8 @@ where
 pub fn text_wrapper_lends_one<'s, 'a>(
     wrapper: WordWrapper<'a, TextLines<'s, 'a>, Graphemes<'s, 'a>>,
 )
-    ensures { (lines : List GlyphLine) × WrapperWillLend gives_lines gives_graphemes wrapper.entry lines × IsTheOne (WrapperMayLend gives_lines gives_graphemes wrapper.entry) lines }
+    ensures { (lines : List GlyphLine) × WrapperWillLend gives_lines gives_graphemes wrapper.entry lines
+        × IsTheOne (WrapperMayLend gives_lines gives_graphemes wrapper.entry) lines }
 {
     wrapper_lends_some(wrapper);
 }
@@ -76,7 +78,8 @@ pub fn wrapper_lends_what_is_known<'a, O, I>(wrapper: &WordWrapper<'a, O, I>)
 where
     O: Iterator<Item = (I, Alignment)>,
     I: Iterator<Item = StyledGrapheme<'a>>,
-    ensures { (lines known : List GlyphLine) → WrapperMayLend O.next_gives I.next_gives wrapper.now lines → WrapperWillLend O.next_gives I.next_gives wrapper.now known → lines ≡ known }
+    ensures { (lines known : List GlyphLine) → WrapperMayLend O.next_gives I.next_gives wrapper.now lines
+        → WrapperWillLend O.next_gives I.next_gives wrapper.now known → lines ≡ known }
 {}
 
 /// A truncator over iterators that end may always lend some list of lines, and where they give known text lines only
@@ -85,9 +88,10 @@ pub fn truncator_lends_some<'a, O, I>(truncator: LineTruncator<'a, O, I>)
 where
     O: Iterator<Item = (I, Alignment)>,
     I: Iterator<Item = StyledGrapheme<'a>>,
-    requires { TruncatorCanLend O.can_next O.next_gives O.remaining I.can_next I.remaining truncator }
+    requires { TruncatorCanLend O.Iterator I.Iterator truncator }
     ensures some { (lines : List GlyphLine) × TruncatorMayLend O.next_gives I.next_gives truncator.entry lines }
-    ensures known { (known : List GlyphLine) → TruncatorWillLend O.next_gives I.next_gives truncator.entry known → IsTheOne (TruncatorMayLend O.next_gives I.next_gives truncator.entry) known }
+    ensures known { (known : List GlyphLine) → TruncatorWillLend O.next_gives I.next_gives truncator.entry known
+        → IsTheOne (TruncatorMayLend O.next_gives I.next_gives truncator.entry) known }
 {
     truncator.read_to_end();
 }
@@ -97,7 +101,8 @@ where
 pub fn text_truncator_lends_one<'s, 'a>(
     truncator: LineTruncator<'a, TextLines<'s, 'a>, Graphemes<'s, 'a>>,
 )
-    ensures { (lines : List GlyphLine) × TruncatorWillLend gives_lines gives_graphemes truncator.entry lines × IsTheOne (TruncatorMayLend gives_lines gives_graphemes truncator.entry) lines }
+    ensures { (lines : List GlyphLine) × TruncatorWillLend gives_lines gives_graphemes truncator.entry lines
+        × IsTheOne (TruncatorMayLend gives_lines gives_graphemes truncator.entry) lines }
 {
     truncator_lends_some(truncator);
 }
@@ -107,5 +112,6 @@ pub fn truncator_lends_what_is_known<'a, O, I>(truncator: &LineTruncator<'a, O, 
 where
     O: Iterator<Item = (I, Alignment)>,
     I: Iterator<Item = StyledGrapheme<'a>>,
-    ensures { (lines known : List GlyphLine) → TruncatorMayLend O.next_gives I.next_gives truncator.now lines → TruncatorWillLend O.next_gives I.next_gives truncator.now known → lines ≡ known }
+    ensures { (lines known : List GlyphLine) → TruncatorMayLend O.next_gives I.next_gives truncator.now lines
+        → TruncatorWillLend O.next_gives I.next_gives truncator.now known → lines ≡ known }
 {}

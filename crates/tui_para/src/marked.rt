@@ -1,6 +1,6 @@
 //! The graphemes of one text line.
 
-ghost use Rattle.std.specs.Prelude.{◌≡◌, ◌≤◌, ◌+◌, List, [], ◌∷◌, ◌++◌, true, false, length, drop, map, IfOk, IfSome, OnOk, OnErr, vec_len};
+ghost use Rattle.std.specs.Prelude.{◌≡◌, ◌≤◌, ◌+◌, Some, List, [], ◌∷◌, ◌++◌, true, false, length, drop, map, IfOk, IfSome, OnOk, OnErr, vec_len};
 ghost use Rattle.std.specs.Iterator.{size};
 ghost use Rattle.std.specs.List.{between};
 ghost use Rattle.tui_text.specs.Grapheme.{glyph_of, glyph_width};
@@ -106,11 +106,11 @@ impl<'a> Marked<'a> {
         count: usize,
         width: u16,
     ) -> Mem<Option<I>>
-        requires { Ready I.can_next I.remaining source }
+        requires { Ready I.Iterator source }
         ensures fit { (taken : List StyledGrapheme) × (glyphs_of self.new ≡ glyphs_of self.old ++ kept glyph_width width (map glyph_of taken)) }
-        ensures read { IfOk result (λ left. (taken : List StyledGrapheme) × SourceReads I.next_gives source taken left
+        ensures read { IfOk result (λ left. (taken : List StyledGrapheme) × SourceReads I.next_gives (Some source) taken left
             × (glyphs_of self.new ≡ glyphs_of self.old ++ kept glyph_width width (map glyph_of taken))) }
-        ensures ready { IfOk result (λ left. IfSome left (λ i. Ready I.can_next I.remaining i × (size (I.remaining i) + count ≤ size (I.remaining source)))) }
+        ensures ready { IfOk result (λ left. IfSome left (λ i. Ready I.Iterator i × (size (I.remaining i) + count ≤ size (I.remaining source)))) }
     {
         'graphemes: for _read in 0..count {
             let Some(grapheme) = source.next() else {

@@ -99,7 +99,8 @@ pub(crate) fn paint_lines<'a, C: LineComposer<'a>>(
     skipped: u16,
 ) -> Mem<()>
     requires { C.can_lend composer.old }
-    ensures ok { OnOk result ((lines : List GlyphLine) → C.awaits composer.old lines → Painted (glyph_lines_layers rect rect.y (drop skipped lines)) buf.old buf.new) }
+    ensures ok { OnOk result ((lines : List GlyphLine) → C.awaits composer.old lines
+        → Painted (glyph_lines_layers rect rect.y (drop skipped lines)) buf.old buf.new) }
     ensures kept { KeptOutside (covers rect) buf.old buf.new }
 {
     skip_lines(composer, skipped)?;

@@ -1,13 +1,10 @@
 //! One text line, cut into lines.
 
-ghost use Rattle.std.specs.Prelude.{◌≡◌, ◌≤◌, ◌<◌, ◌++◌, List, [], None, Some, true, false, length, drop, map, All, IfOk, IfSome, IsSome, OnOk, option_map, sum_by};
+ghost use Rattle.std.specs.Prelude.{◌≡◌, ◌≤◌, ◌<◌, List, [], None, Some, true, false, length, drop, map, All, IfOk, IfSome, IsSome, OnOk, sum_by};
 ghost use Rattle.std.specs.List.{between};
 ghost use Rattle.tui_text.specs.Grapheme.{Glyph, glyph_of, glyph_width};
-ghost use Rattle.tui_text.specs.declared.grapheme.StyledGrapheme.{StyledGrapheme};
-ghost use Rattle.tui_para.specs.Given.{IsGlyph, MayGive, Ready, SourceGives, SourceReads, WillGive, source_left};
-ghost use Rattle.tui_para.specs.Lines.{LendsFirst, TakesFirst};
+ghost use Rattle.tui_para.specs.Given.{IsGlyph, MayGive, Ready, SourceGives, source_left};
 ghost use Rattle.tui_para.specs.Marked.{glyphs_of, part_of};
-ghost use Rattle.tui_para.specs.Wrapped.{kept};
 
 use crate::breaking::{Place, next_line};
 use crate::ends::read_line;
@@ -38,7 +35,7 @@ pub(crate) struct TextLine<'a, I> {
 }
 
 impl<'a, I> TextLine<'a, I> {
-    ghost use Rattle.tui_para.specs.Wrapping.{FirstLine, PartsWith};
+    ghost use Rattle.tui_para.specs.Wrapping.{FirstLine};
 
     /// No text line yet.
     pub(crate) fn new(alloc: Global, width: u16, trim: bool) -> TextLine<'a, I>
@@ -66,7 +63,8 @@ impl<'a, I> TextLine<'a, I> {
 
     /// The next line, where it is this one whatever graphemes are still to be read.
     fn known_line(&self) -> Option<Place>
-        ensures order { IfSome result (λ p. (p.start ≤ p.end) × (p.end ≤ length (glyphs_of self.now.line)) × (p.next ≤ length (glyphs_of self.now.line))) }
+        ensures order { IfSome result (λ p. (p.start ≤ p.end) × (p.end ≤ length (glyphs_of self.now.line))
+            × (p.next ≤ length (glyphs_of self.now.line))) }
         ensures columns { IfSome result (λ p. p.width ≡ sum_by glyph_width (between p.start p.end (glyphs_of self.now.line))) }
         ensures first { IfSome result (λ p. (glyphs : List Glyph) → (self.now.source ≡ None → glyphs ≡ []) → FirstLine self.now p glyphs) }
         ensures none { result ≡ None → self.now.source ≡ None → (self.now.is_new ≡ false) × (drop self.now.place (glyphs_of self.now.line) ≡ []) }
@@ -90,7 +88,8 @@ impl<'a, I> TextLine<'a, I> {
 
     /// The one empty line of a text line without graphemes.
     fn empty_line(&self) -> Option<Place>
-        ensures some { IfSome result (λ p. (self.now.is_new ≡ true) × (self.now.source ≡ None) × (p ≡ record { start = self.now.place; end = self.now.place; next = self.now.place; width = 0 })) }
+        ensures some { IfSome result (λ p. (self.now.is_new ≡ true) × (self.now.source ≡ None)
+            × (p ≡ record { start = self.now.place; end = self.now.place; next = self.now.place; width = 0 })) }
         ensures none { result ≡ None → self.now.source ≡ None → self.now.is_new ≡ false }
     {
         if self.is_new && self.source.is_none() {
@@ -136,11 +135,11 @@ impl<'a, I> TextLine<'a, I> {
 }
 
 impl<'a, I: Iterator<Item = StyledGrapheme<'a>>> TextLine<'a, I> {
-    ghost use Rattle.tui_para.specs.Wrapping.{PartsLeft};
+    ghost use Rattle.tui_para.specs.Wrapping.{FindsPart, HasRead};
 
     /// Reads what is left of it to its end, and lets all go.
     pub(crate) fn read_to_end(self)
-        requires { IfSome self.source (Ready I.can_next I.remaining) }
+        requires { IfSome self.source (Ready I.Iterator) }
         ensures { (glyphs : List Glyph) × SourceGives (MayGive I.next_gives IsGlyph) self.entry.source glyphs }
     {
         let TextLine { source, .. } = self;
@@ -165,17 +164,11 @@ impl<'a, I: Iterator<Item = StyledGrapheme<'a>>> TextLine<'a, I> {
 
     /// Goes on to the next part, and says where it stands. Reads on where what was read doesn't tell.
     pub(crate) fn advance(&mut self) -> Mem<Option<Part>>
-        requires { IfSome self.old.source (Ready I.can_next I.remaining) }
-        ensures ready { IfSome self.new.source (Ready I.can_next I.remaining) }
+        requires { IfSome self.old.source (Ready I.Iterator) }
+        ensures ready { IfSome self.new.source (Ready I.Iterator) }
         ensures width { self.new.width ≡ self.old.width }
         ensures trim { self.new.trim ≡ self.old.trim }
-        ensures order { IfOk result (λ found. IfSome found (λ p. (p.start ≤ p.end) × (p.end ≤ length (glyphs_of self.new.line)))) }
-        ensures columns { IfOk result (λ found. IfSome found (λ p. p.width ≡ sum_by glyph_width (part_of (glyphs_of self.new.line) p))) }
-        ensures lends { IfOk result (λ found. LendsFirst (PartsLeft (MayGive I.next_gives IsGlyph) self.old)
-            (option_map (part_of (glyphs_of self.new.line)) found) (PartsLeft (MayGive I.next_gives IsGlyph) self.new)) }
-        ensures takes { IfOk result (λ found. TakesFirst (PartsLeft (WillGive I.next_gives IsGlyph) self.old)
-            (option_map (part_of (glyphs_of self.new.line)) found) (PartsLeft (WillGive I.next_gives IsGlyph) self.new)) }
-        ensures over { IfOk result (λ found. found ≡ None → (self.new.source ≡ None) × (self.new.is_new ≡ false) × (drop self.new.place (glyphs_of self.new.line) ≡ [])) }
+        ensures found { IfOk result (FindsPart I.next_gives self.old self.new) }
     {
         'lines: loop {
             if let Some(line) = self.known_line() {
@@ -190,11 +183,10 @@ impl<'a, I: Iterator<Item = StyledGrapheme<'a>>> TextLine<'a, I> {
 
     /// Reads at least as many graphemes more as a line may have columns and as were not lent yet, or all that come.
     fn read_on(&mut self) -> Mem<()>
-        requires { IfSome self.old.source (Ready I.can_next I.remaining) }
-        ensures ready { IfSome self.new.source (Ready I.can_next I.remaining) }
-        ensures same { (self.new.is_new ≡ self.old.is_new) × (self.new.width ≡ self.old.width) × (self.new.trim ≡ self.old.trim) }
-        ensures read { OnOk result (IfSome self.old.source (λ source. (taken : List StyledGrapheme) × SourceReads I.next_gives source taken self.new.source
-            × (drop self.new.place (glyphs_of self.new.line) ≡ drop self.old.place (glyphs_of self.old.line) ++ kept glyph_width self.old.width (map glyph_of taken)))) }
+        requires { IfSome self.old.source (Ready I.Iterator) }
+        ensures ready { IfSome self.new.source (Ready I.Iterator) }
+        ensures same { (self.new.width ≡ self.old.width) × (self.new.trim ≡ self.old.trim) }
+        ensures read { OnOk result (HasRead I.next_gives self.old self.new) }
         ensures nearer { OnOk result (IsSome self.old.source → source_left I.remaining self.new.source < source_left I.remaining self.old.source) }
     {
         let Some(source) = self.source.take() else {

@@ -18,9 +18,10 @@ pub(crate) fn refill<'a, I: Iterator<Item = StyledGrapheme<'a>>>(
     line: I,
     start: Cut,
 ) -> Mem<u16>
-    requires { Ready I.can_next I.remaining line }
+    requires { Ready I.Iterator line }
     ensures columns { IfOk result (λ columns. columns ≡ sum_by glyph_width (map glyph_of shown.new.items)) }
-    ensures line { OnOk result ((all : List StyledGrapheme) × Drains I.next_gives line all × (map glyph_of shown.new.items ≡ shown_of start (map glyph_of all))) }
+    ensures line { OnOk result ((all : List StyledGrapheme) × Drains I.next_gives line all
+        × (map glyph_of shown.new.items ≡ shown_of start (map glyph_of all))) }
 {
     shown.clear();
     let mut cut = start;

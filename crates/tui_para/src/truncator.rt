@@ -1,10 +1,9 @@
 //! Text lines that are cut.
 
-ghost use Rattle.std.specs.Prelude.{◌≡◌, ◌↔◌, ℕ, List, false, true, IfOk, IfSome, MatchResult, map, option_map, sum_by};
-ghost use Rattle.tui_text.specs.Grapheme.{glyph_of, glyph_width};
+ghost use Rattle.std.specs.Prelude.{◌≡◌, ◌↔◌, ℕ, List, false, true, IfOk, MatchResult};
 ghost use Rattle.tui_para.specs.Given.{AllReady, MayGive, MayBe, WillGive, WillBe};
-ghost use Rattle.tui_para.specs.Lines.{GlyphLine, glyph_line, LendsFirst, LinesOf, TakesFirst, TruncatesLine, UnlessDone};
-ghost use Rattle.tui_para.specs.Wrapping.{TruncatorCanLend, TruncatorMayLend, TruncatorWillLend};
+ghost use Rattle.tui_para.specs.Lines.{GlyphLine, LinesOf, TruncatesLine, UnlessDone};
+ghost use Rattle.tui_para.specs.Wrapping.{FindsCut, TruncatorCanLend, TruncatorMayLend, TruncatorWillLend};
 
 use crate::composer::{LineComposer, WrappedLine};
 use crate::cut::Cut;
@@ -39,7 +38,7 @@ where
     pub fn new(alloc: Global, lines: O, max_line_width: u16) -> LineTruncator<'a, O, I>
         ensures failed { result.failed ≡ false }
         ensures offset { result.offset ≡ 0 }
-        ensures ready { AllReady O.can_next O.next_gives O.remaining I.can_next I.remaining lines → TruncatorCanLend O.can_next O.next_gives O.remaining I.can_next I.remaining result }
+        ensures ready { AllReady O.Iterator I.Iterator lines → TruncatorCanLend O.Iterator I.Iterator result }
         ensures may { (offset : ℕ) (glyph_lines : List GlyphLine) → TruncatorMayLend O.next_gives I.next_gives (record result { offset = offset }) glyph_lines
             ↔ LinesOf (MayGive O.next_gives (MayBe I.next_gives) lines) (TruncatesLine max_line_width offset) max_line_width glyph_lines }
         ensures will { (offset : ℕ) (glyph_lines : List GlyphLine) → TruncatorWillLend O.next_gives I.next_gives (record result { offset = offset }) glyph_lines
@@ -66,14 +65,10 @@ where
 
     /// Goes on to the next line, and answers its columns.
     fn advance(&mut self) -> Mem<Option<u16>>
-        requires { TruncatorCanLend O.can_next O.next_gives O.remaining I.can_next I.remaining self.old }
-        ensures ready { TruncatorCanLend O.can_next O.next_gives O.remaining I.can_next I.remaining self.new }
-        ensures columns { IfOk result (λ found. IfSome found (λ columns. columns ≡ sum_by glyph_width (map glyph_of self.new.shown.items))) }
+        requires { TruncatorCanLend O.Iterator I.Iterator self.old }
+        ensures ready { TruncatorCanLend O.Iterator I.Iterator self.new }
         ensures failed { MatchResult result (λ _. (self.old.failed ≡ false) × (self.new.failed ≡ false)) (λ _. self.new.failed ≡ true) }
-        ensures lends { IfOk result (λ found. LendsFirst (TruncatorMayLend O.next_gives I.next_gives self.old)
-            (option_map (λ _. glyph_line self.new.alignment (map glyph_of self.new.shown.items)) found) (TruncatorMayLend O.next_gives I.next_gives self.new)) }
-        ensures takes { IfOk result (λ found. TakesFirst (TruncatorWillLend O.next_gives I.next_gives self.old)
-            (option_map (λ _. glyph_line self.new.alignment (map glyph_of self.new.shown.items)) found) (TruncatorWillLend O.next_gives I.next_gives self.new)) }
+        ensures found { IfOk result (FindsCut O.next_gives I.next_gives self.old self.new) }
     {
         if self.failed {
             return Err(NoMemory);
@@ -102,7 +97,7 @@ where
 
     /// Reads its iterators to their ends, and lets all go.
     pub(crate) fn read_to_end(self)
-        requires { TruncatorCanLend O.can_next O.next_gives O.remaining I.can_next I.remaining self }
+        requires { TruncatorCanLend O.Iterator I.Iterator self }
         ensures { (glyph_lines : List GlyphLine) × UnlessDone self.entry.done (MayGive O.next_gives (MayBe I.next_gives) self.entry.lines) glyph_lines }
     {
         let LineTruncator { lines, done, .. } = self;
@@ -117,7 +112,7 @@ where
     O: Iterator<Item = (I, Alignment)>,
     I: Iterator<Item = StyledGrapheme<'a>>,
 {
-    ghost can_lend = { TruncatorCanLend O.can_next O.next_gives O.remaining I.can_next I.remaining };
+    ghost can_lend = { TruncatorCanLend O.Iterator I.Iterator };
 
     ghost to_come = { TruncatorMayLend O.next_gives I.next_gives };
 

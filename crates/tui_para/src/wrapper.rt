@@ -1,11 +1,10 @@
 //! Wrapping of text lines.
 
-ghost use Rattle.std.specs.Prelude.{◌≡◌, ◌≤◌, ◌↔◌, List, false, true, length, IfOk, IfSome, MatchResult, map, option_map, sum_by};
-ghost use Rattle.tui_text.specs.Grapheme.{Glyph, glyph_of, glyph_width};
+ghost use Rattle.std.specs.Prelude.{◌≡◌, ◌↔◌, List, false, true, IfOk, MatchResult};
+ghost use Rattle.tui_text.specs.Grapheme.{Glyph};
 ghost use Rattle.tui_para.specs.Given.{AllReady, IsGlyph, MayGive, MayBe, SourceGives, WillGive, WillBe};
-ghost use Rattle.tui_para.specs.Lines.{GlyphLine, glyph_line, LendsFirst, LinesOf, TakesFirst, UnlessDone, WrapsLine};
-ghost use Rattle.tui_para.specs.Marked.{glyphs_of, part_of};
-ghost use Rattle.tui_para.specs.Wrapping.{WrapperCanLend, WrapperMayLend, WrapperWillLend};
+ghost use Rattle.tui_para.specs.Lines.{GlyphLine, LinesOf, UnlessDone, WrapsLine};
+ghost use Rattle.tui_para.specs.Wrapping.{FindsLine, WrapperCanLend, WrapperMayLend, WrapperWillLend};
 
 use crate::composer::{LineComposer, WrappedLine};
 use crate::ends::read_lines;
@@ -34,7 +33,7 @@ where
     /// its blanks.
     pub fn new(alloc: Global, lines: O, max_line_width: u16, trim: bool) -> WordWrapper<'a, O, I>
         ensures failed { result.failed ≡ false }
-        ensures ready { AllReady O.can_next O.next_gives O.remaining I.can_next I.remaining lines → WrapperCanLend O.can_next O.next_gives O.remaining I.can_next I.remaining result }
+        ensures ready { AllReady O.Iterator I.Iterator lines → WrapperCanLend O.Iterator I.Iterator result }
         ensures may { (glyph_lines : List GlyphLine) → WrapperMayLend O.next_gives I.next_gives result glyph_lines
             ↔ LinesOf (MayGive O.next_gives (MayBe I.next_gives) lines) (WrapsLine max_line_width trim) max_line_width glyph_lines }
         ensures will { (glyph_lines : List GlyphLine) → WrapperWillLend O.next_gives I.next_gives result glyph_lines
@@ -51,15 +50,10 @@ where
 
     /// Goes on to the next line, and says where it stands in the text line.
     fn advance(&mut self) -> Mem<Option<Part>>
-        requires { WrapperCanLend O.can_next O.next_gives O.remaining I.can_next I.remaining self.old }
-        ensures ready { WrapperCanLend O.can_next O.next_gives O.remaining I.can_next I.remaining self.new }
-        ensures order { IfOk result (λ found. IfSome found (λ p. (p.start ≤ p.end) × (p.end ≤ length (glyphs_of self.new.current.line)))) }
-        ensures columns { IfOk result (λ found. IfSome found (λ p. p.width ≡ sum_by glyph_width (part_of (glyphs_of self.new.current.line) p))) }
+        requires { WrapperCanLend O.Iterator I.Iterator self.old }
+        ensures ready { WrapperCanLend O.Iterator I.Iterator self.new }
         ensures failed { MatchResult result (λ _. (self.old.failed ≡ false) × (self.new.failed ≡ false)) (λ _. self.new.failed ≡ true) }
-        ensures lends { IfOk result (λ found. LendsFirst (WrapperMayLend O.next_gives I.next_gives self.old)
-            (option_map (λ p. glyph_line self.new.alignment (part_of (glyphs_of self.new.current.line) p)) found) (WrapperMayLend O.next_gives I.next_gives self.new)) }
-        ensures takes { IfOk result (λ found. TakesFirst (WrapperWillLend O.next_gives I.next_gives self.old)
-            (option_map (λ p. glyph_line self.new.alignment (part_of (glyphs_of self.new.current.line) p)) found) (WrapperWillLend O.next_gives I.next_gives self.new)) }
+        ensures found { IfOk result (FindsLine O.next_gives I.next_gives self.old self.new) }
     {
         if self.failed {
             return Err(NoMemory);
@@ -71,14 +65,9 @@ where
 
     /// Goes on to the next line of a wrapper that has not failed.
     fn find_line(&mut self) -> Mem<Option<Part>>
-        requires { WrapperCanLend O.can_next O.next_gives O.remaining I.can_next I.remaining self.old }
-        ensures ready { WrapperCanLend O.can_next O.next_gives O.remaining I.can_next I.remaining self.new }
-        ensures order { IfOk result (λ found. IfSome found (λ p. (p.start ≤ p.end) × (p.end ≤ length (glyphs_of self.new.current.line)))) }
-        ensures columns { IfOk result (λ found. IfSome found (λ p. p.width ≡ sum_by glyph_width (part_of (glyphs_of self.new.current.line) p))) }
-        ensures lends { IfOk result (λ found. LendsFirst (WrapperMayLend O.next_gives I.next_gives self.old)
-            (option_map (λ p. glyph_line self.new.alignment (part_of (glyphs_of self.new.current.line) p)) found) (WrapperMayLend O.next_gives I.next_gives self.new)) }
-        ensures takes { IfOk result (λ found. TakesFirst (WrapperWillLend O.next_gives I.next_gives self.old)
-            (option_map (λ p. glyph_line self.new.alignment (part_of (glyphs_of self.new.current.line) p)) found) (WrapperWillLend O.next_gives I.next_gives self.new)) }
+        requires { WrapperCanLend O.Iterator I.Iterator self.old }
+        ensures ready { WrapperCanLend O.Iterator I.Iterator self.new }
+        ensures found { IfOk result (FindsLine O.next_gives I.next_gives self.old self.new) }
     {
         if self.current.width() == 0 {
             return Ok(None);
@@ -104,7 +93,7 @@ where
 
     /// Reads its iterators to their ends, and lets all go.
     pub(crate) fn read_to_end(self)
-        requires { WrapperCanLend O.can_next O.next_gives O.remaining I.can_next I.remaining self }
+        requires { WrapperCanLend O.Iterator I.Iterator self }
         ensures source { (glyphs : List Glyph) × SourceGives (MayGive I.next_gives IsGlyph) self.entry.current.source glyphs }
         ensures lines { (glyph_lines : List GlyphLine) × UnlessDone self.entry.done (MayGive O.next_gives (MayBe I.next_gives) self.entry.lines) glyph_lines }
     {
@@ -126,7 +115,7 @@ where
     O: Iterator<Item = (I, Alignment)>,
     I: Iterator<Item = StyledGrapheme<'a>>,
 {
-    ghost can_lend = { WrapperCanLend O.can_next O.next_gives O.remaining I.can_next I.remaining };
+    ghost can_lend = { WrapperCanLend O.Iterator I.Iterator };
 
     ghost to_come = { WrapperMayLend O.next_gives I.next_gives };
 

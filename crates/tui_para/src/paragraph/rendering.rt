@@ -1,13 +1,12 @@
 //! How a paragraph is drawn.
 
-ghost use Rattle.std.specs.Prelude.{◌<◌, drop, IsOk, IsTrue, OnOk};
+ghost use Rattle.std.specs.Prelude.{◌<◌, IsOk, IsTrue, OnOk};
 ghost use Rattle.tui_cells.specs.Layers.{KeptOutside, Painted};
 ghost use Rattle.tui_cells.specs.Rect.{covers, is_empty};
 ghost use Rattle.tui_para.specs.Drawing.{paragraph_drawing};
 ghost use Rattle.tui_para.specs.Paragraph.{paragraph_data};
 ghost use Rattle.tui_frames.specs.Footprint.{footprint_if};
-ghost use Rattle.tui_para.specs.Rendering.{content_layers, paragraph_layers, paragraph_lines, under_layers};
-ghost use Rattle.tui_para.specs.Strokes.{glyph_lines_layers};
+ghost use Rattle.tui_para.specs.Rendering.{content_layers, paragraph_layers, scrolled_layers, under_layers};
 
 use crate::painting::paint_lines;
 use crate::paragraph::Paragraph;
@@ -22,7 +21,7 @@ impl<'a> Paragraph<'a> {
     /// Paints the lines from the scroll line on, one in each row.
     fn paint_text(&self, alloc: Global, buf: &mut Buffer, clip: Rect) -> Mem<()>
         requires { 0 < clip.width }
-        ensures ok { OnOk result (Painted (glyph_lines_layers clip clip.y (drop (paragraph_data self.now).scroll_y (paragraph_lines (paragraph_data self.now) clip.width))) buf.old buf.new) }
+        ensures ok { OnOk result (Painted (scrolled_layers (paragraph_data self.now) clip) buf.old buf.new) }
         ensures kept { KeptOutside (covers clip) buf.old buf.new }
     {
         match self.wrap {

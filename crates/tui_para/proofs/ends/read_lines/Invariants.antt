@@ -9,6 +9,6 @@ invariant-lines g l =
     let i = g.I.Iterator in
     let gives = MayGive o.next_gives (MayBe i.next_gives) in
     record {
-      ready : AllReady o.can_next o.next_gives o.remaining i.can_next i.remaining l.line-iterator;
+      ready : AllReady o i l.line-iterator;
       whole : (rest : List GlyphLine) → gives l.line-iterator rest → (glyph_lines : List GlyphLine) × gives l.fn.lines glyph_lines;
     }

@@ -1,7 +1,8 @@
 use Rattle.std.proofs.Common.{◌≡◌, true, sym, ◌∙◌}
 use Rattle.tui_cells.proofs.Painting.{KeptOutside-then}
 use Rattle.tui_cells.specs.Rect.{covers}
-use Rattle.tui_para.proofs.Painted.{stroke_kept, at_outside, cell_outside}
+use Rattle.tui_para.specs.Stays.{at_outside}
+use Rattle.tui_para.proofs.Painted.{stroke_kept, cell_outside}
 use Rattle.tui_para.proofs.painting.paint_grapheme.Goals as goal
 
 pub returns-in_ok-set_symbol-clause-kept : goal.returns-in_ok-set_symbol-clause-kept

@@ -1,7 +1,7 @@
-use Rattle.std.proofs.Common.{◌++◌, ◌∷◌, [], arith}
+use Rattle.std.proofs.Common.{◌++◌, ◌∷◌, [], refl, arith}
 use Rattle.tui_text.specs.Grapheme.{glyph_of, glyph_width}
 use Rattle.tui_para.specs.Marked.{glyphs_of}
-use Rattle.tui_para.proofs.Sources.{Yields-after, kept-behind}
+use Rattle.tui_para.proofs.Sources.{Yields-append, kept-behind}
 use Rattle.tui_para.proofs.marked.Marked.read.Goals as goal
 
 pub graphemes-preserved : goal.graphemes-preserved
@@ -13,7 +13,7 @@ graphemes-preserved g c =
     record {
       taken = (
         taken ++ x ∷ [],
-        Yields-after g.I.Iterator.next_gives c.args.source c.graphemes.source c.next.new.self taken x yields c.in-Some.ensures.steps,
+        Yields-append g.I.Iterator.next_gives c.args.source c.graphemes.source c.next.new.self taken (x ∷ []) yields (c.next.new.self, c.in-Some.ensures.steps, refl),
         kept-behind glyph_of glyph_width c.args.width (glyphs_of c.args.self.now) (glyphs_of c.graphemes.self) (glyphs_of c.keep.new.self) taken (x ∷ []) kept_is c.in_ok-keep.ensures.ok,
       );
       ready = record { can_next = on.0; ends = on.1 };

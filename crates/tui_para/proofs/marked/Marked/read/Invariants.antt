@@ -12,6 +12,6 @@ invariant-graphemes g l =
     let s = g.I.Iterator in
     record {
       taken : (taken : List StyledGrapheme) × Yields s.next_gives l.fn.source taken l.source × (glyphs_of l.self ≡ glyphs_of l.fn.self ++ kept glyph_width l.width (map glyph_of taken));
-      ready : Ready s.can_next s.remaining l.source;
+      ready : Ready s l.source;
       nearer : size (s.remaining l.source) + l._read ≤ size (s.remaining l.fn.source);
     }

@@ -1,4 +1,4 @@
-use Rattle.std.proofs.Common.{sym, ◌∙◌, map, rules}
+use Rattle.std.proofs.Common.{refl, sym, ◌∙◌, map, rules}
 use Rattle.tui_text.specs.Grapheme.{glyph_of, glyph_width}
 use Rattle.tui_para.specs.Marked.{glyphs_of}
 use Rattle.tui_para.proofs.Sources.{fit_behind}
@@ -25,4 +25,11 @@ invariant_of-self-2 g c =
 pub returns-clause-read : goal.returns-clause-read
 returns-clause-read g c =
     let (taken, reads, behind) = c.in_ok-self.ensures.read in
-    rw (sym c.take.ensures.value ∙ c.in-Some.is) (taken, reads, rw c.drop_front.ensures at behind)
+    record {
+      taken = taken;
+      reads = rw (sym c.take.ensures.value ∙ c.in-Some.is) reads;
+      behind = rw c.drop_front.ensures at behind;
+      is_new = refl;
+      width = refl;
+      trim = refl;
+    }
