@@ -8,8 +8,8 @@ use Rattle.tui_text.specs.Grapheme.{Glyph, glyph_blank, glyph_width}
 use Rattle.tui_para.specs.Marked.{glyphs_of}
 use Rattle.tui_para.specs.Wrapped.{HasLines, IsNextLine, kept}
 use Rattle.tui_para.specs.Wrapping.{FirstLine, glyphs_from}
-use Rattle.tui_para.specs.declared.breaking.Place.{Place}
-use Rattle.tui_para.specs.declared.text_line.TextLine.{TextLine}
+use Rattle.tui_para.specs.declared.wrapping.breaking.Place.{Place}
+use Rattle.tui_para.specs.declared.wrapping.text_line.TextLine.{TextLine}
 use Rattle.tui_para.proofs.Extending.{next-append}
 use Rattle.tui_para.proofs.Filled.{some_append}
 use Rattle.tui_para.proofs.Parts.{between-drop, between-nil, no_lines}

@@ -11,9 +11,9 @@ use Rattle.tui_para.specs.Lines.{IsFirstOf}
 use Rattle.tui_para.specs.Marked.{IsPart, glyphs_of, part_of}
 use Rattle.tui_para.specs.Wrapped.{HasLines, kept}
 use Rattle.tui_para.specs.Wrapping.{FindsPart, FirstLine, HasRead, LinesOfRest, PartsWith, glyphs_from}
-use Rattle.tui_para.specs.declared.breaking.Place.{Place}
-use Rattle.tui_para.specs.declared.part.Part.{Part}
-use Rattle.tui_para.specs.declared.text_line.TextLine.{TextLine}
+use Rattle.tui_para.specs.declared.wrapping.breaking.Place.{Place}
+use Rattle.tui_para.specs.declared.wrapping.part.Part.{Part}
+use Rattle.tui_para.specs.declared.wrapping.text_line.TextLine.{TextLine}
 use Rattle.tui_para.proofs.Lending.{first_along, same_lists}
 use Rattle.tui_para.proofs.Parts.{no_lines}
 use Rattle.tui_para.proofs.Sources.{kept-append, kept-behind, reads_none, reads_then}

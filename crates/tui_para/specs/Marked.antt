@@ -2,8 +2,8 @@
 use Rattle.std.specs.Prelude.{◌≡◌, ◌≤◌, List, length, map, sum_by}
 use Rattle.std.specs.List.{between}
 use Rattle.tui_text.specs.Grapheme.{Glyph, glyph_of, glyph_width}
-use Rattle.tui_para.specs.declared.marked.Marked.{Marked}
-use Rattle.tui_para.specs.declared.part.Part.{Part}
+use Rattle.tui_para.specs.declared.wrapping.marked.Marked.{Marked}
+use Rattle.tui_para.specs.declared.wrapping.part.Part.{Part}
 
 abbrev pub glyphs_of : Marked → List Glyph
 glyphs_of m = map glyph_of m.graphemes.items
