@@ -3,11 +3,10 @@
 ghost use Rattle.std.specs.Prelude.{◌≡◌, ◌≤◌, ◌+◌, Some, List, [], ◌∷◌, ◌++◌, true, false, length, drop, map, IfOk, IfSome, OnOk, OnErr, vec_len};
 ghost use Rattle.std.specs.Iterator.{size};
 ghost use Rattle.std.specs.List.{between};
-ghost use Rattle.tui_text.specs.Grapheme.{glyph_of, glyph_width};
+ghost use Rattle.tui_text.specs.Grapheme.{glyph_of};
 ghost use Rattle.tui_text.specs.declared.grapheme.StyledGrapheme.{StyledGrapheme};
 ghost use Rattle.tui_para.specs.Given.{Ready, SourceReads};
 ghost use Rattle.tui_para.specs.Mark.{mark_of, size_of};
-ghost use Rattle.tui_para.specs.Wrapped.{kept};
 
 use crate::wrapping::mark::{Mark, mark_of};
 use std::alloc::Global;
@@ -23,7 +22,7 @@ pub(crate) struct Marked<'a> {
 }
 
 impl<'a> Marked<'a> {
-    ghost use Rattle.tui_para.specs.Marked.{glyphs_of};
+    ghost use Rattle.tui_para.specs.Marked.{HasKept, glyphs_of};
 
     pub(crate) fn new(alloc: Global) -> Marked<'a>
         ensures { glyphs_of result ≡ [] }
@@ -79,7 +78,7 @@ impl<'a> Marked<'a> {
 
     /// Puts a grapheme behind those that are there, unless it is wider than a line.
     fn keep(&mut self, grapheme: StyledGrapheme<'a>, width: u16) -> Mem<()>
-        ensures ok { OnOk result (glyphs_of self.new ≡ glyphs_of self.old ++ kept glyph_width width (glyph_of grapheme.entry ∷ [])) }
+        ensures ok { OnOk result (HasKept width (grapheme.entry ∷ []) self.old self.new) }
         ensures err { OnErr result (glyphs_of self.new ≡ glyphs_of self.old) }
     {
         let mark = mark_of(&grapheme);
@@ -107,9 +106,9 @@ impl<'a> Marked<'a> {
         width: u16,
     ) -> Mem<Option<I>>
         requires { Ready I.Iterator source }
-        ensures fit { (taken : List StyledGrapheme) × (glyphs_of self.new ≡ glyphs_of self.old ++ kept glyph_width width (map glyph_of taken)) }
+        ensures fit { (taken : List StyledGrapheme) × HasKept width taken self.old self.new }
         ensures read { IfOk result (λ left. (taken : List StyledGrapheme) × SourceReads I.next_gives (Some source) taken left
-            × (glyphs_of self.new ≡ glyphs_of self.old ++ kept glyph_width width (map glyph_of taken))) }
+            × HasKept width taken self.old self.new) }
         ensures ready { IfOk result (λ left. IfSome left (λ i. Ready I.Iterator i × (size (I.remaining i) + count ≤ size (I.remaining source)))) }
     {
         'graphemes: for _read in 0..count {

@@ -35,7 +35,7 @@ pub(crate) struct TextLine<'a, I> {
 }
 
 impl<'a, I> TextLine<'a, I> {
-    ghost use Rattle.tui_para.specs.Wrapping.{FirstLine};
+    ghost use Rattle.tui_para.specs.Wrapping.{IsNextPlace};
 
     /// No text line yet.
     pub(crate) fn new(alloc: Global, width: u16, trim: bool) -> TextLine<'a, I>
@@ -63,10 +63,7 @@ impl<'a, I> TextLine<'a, I> {
 
     /// The next line, where it is this one whatever graphemes are still to be read.
     fn known_line(&self) -> Option<Place>
-        ensures order { IfSome result (λ p. (p.start ≤ p.end) × (p.end ≤ length (glyphs_of self.now.line))
-            × (p.next ≤ length (glyphs_of self.now.line))) }
-        ensures columns { IfSome result (λ p. p.width ≡ sum_by glyph_width (between p.start p.end (glyphs_of self.now.line))) }
-        ensures first { IfSome result (λ p. (glyphs : List Glyph) → (self.now.source ≡ None → glyphs ≡ []) → FirstLine self.now p glyphs) }
+        ensures some { IfSome result (IsNextPlace self.now) }
         ensures none { result ≡ None → self.now.source ≡ None → (self.now.is_new ≡ false) × (drop self.now.place (glyphs_of self.now.line) ≡ []) }
     {
         if self.place >= self.line.len() {
