@@ -12,8 +12,8 @@ use Rattle.tui_para.specs.Lines.{GlyphLine, glyph_line, CutAll, IsFirstOf, Lines
 use Rattle.tui_para.specs.Marked.{glyphs_of, part_of}
 use Rattle.tui_para.specs.Wrapped.{WrapsKept, kept}
 use Rattle.tui_para.specs.Wrapping.{FindsLine, FindsPart, PartsWith, WrapperCuts, glyphs_from, wrapper_answers}
-use Rattle.tui_para.specs.declared.part.Part.{Part}
-use Rattle.tui_para.specs.declared.text_line.TextLine.{TextLine}
+use Rattle.tui_para.specs.declared.wrapping.part.Part.{Part}
+use Rattle.tui_para.specs.declared.wrapping.text_line.TextLine.{TextLine}
 use Rattle.tui_para.specs.declared.wrapper.WordWrapper.{WordWrapper}
 use Rattle.tui_para.proofs.Answering.{Gave, Gave-beside, Gave-both, Gave-none, Gave-then, all_may, all_will, line_gave, source_ended, source_gave, will_stop}
 use Rattle.tui_para.proofs.Lending.{end_first, first_along, first_from, none_before, part_first, same_lists}

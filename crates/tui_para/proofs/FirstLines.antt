@@ -1,15 +1,15 @@
 -- The first line that is left of a text line of which the front was read.
 use Rattle.std.proofs.Common.{◌≡◌, ℕ, ◌+◌, ◌<◌, List, [], ◌∷◌, ◌++◌, Option, Some, None, Bool, true, false, length, drop, refl, sym, ap, ◌∙◌, subst, inl, inr, ⊎_elim, arith}
-use Rattle.std.specs.Prelude.{◌≢◌, ◌⊎◌, IfSome}
+use Rattle.std.specs.Prelude.{◌≢◌, ◌⊎◌, IfSome, sum_by}
 use Rattle.std.specs.List.{between}
 use Rattle.std.proofs.lemmas.Bool.{cases_Bool}
 use Rattle.std.proofs.lemmas.List.{append-nil, drop-drop, length-drop}
 use Rattle.tui_text.specs.Grapheme.{Glyph, glyph_blank, glyph_width}
 use Rattle.tui_para.specs.Marked.{glyphs_of}
 use Rattle.tui_para.specs.Wrapped.{HasLines, IsNextLine, kept}
-use Rattle.tui_para.specs.Wrapping.{FirstLine, glyphs_from}
-use Rattle.tui_para.specs.declared.breaking.Place.{Place}
-use Rattle.tui_para.specs.declared.text_line.TextLine.{TextLine}
+use Rattle.tui_para.specs.Wrapping.{FirstLine, IsNextPlace, glyphs_from}
+use Rattle.tui_para.specs.declared.wrapping.breaking.Place.{Place}
+use Rattle.tui_para.specs.declared.wrapping.text_line.TextLine.{TextLine}
 use Rattle.tui_para.proofs.Extending.{next-append}
 use Rattle.tui_para.proofs.Filled.{some_append}
 use Rattle.tui_para.proofs.Parts.{between-drop, between-nil, no_lines}
@@ -36,7 +36,7 @@ next_of_all blank size w trim xs line ys next known n = ⊎_elim
     known
 
 module _ {I : Type 0} (s : TextLine I) (glyphs : List Glyph) where
-  pub first_empty : (p : Place) → p ≡ record { start = s.place; end = s.place; next = s.place; width = 0 } → s.is_new ≡ true → glyphs ≡ [] → drop s.place (glyphs_of s.line) ≡ [] → FirstLine s p glyphs
+  first_empty : (p : Place) → p ≡ record { start = s.place; end = s.place; next = s.place; width = 0 } → s.is_new ≡ true → glyphs ≡ [] → drop s.place (glyphs_of s.line) ≡ [] → FirstLine s p glyphs
   first_empty p at new none gone =
       let empty : glyphs_from s s.place glyphs ≡ [] = ap (λ k. k ++ kept glyph_width s.width glyphs) gone ∙ ap (kept glyph_width s.width) none in
       rw at (record {
@@ -81,3 +81,12 @@ module _ {I : Type 0} (s : TextLine I) (glyphs : List Glyph) where
               let taken = line_taken glyph_blank glyph_width s.width s.trim (xs ++ ys) line (drop next xs ++ ys) more first parts lines in
               (taken.0, taken.1 ∙ ap (λ k. k ∷ taken.0) (sym at), subst (λ k. has k taken.0) (sym after) taken.2);
         }
+
+-- the place of the one empty line
+pub empty_place : {I : Type 0} (s : TextLine I) (p : Place) → p ≡ record { start = s.place; end = s.place; next = s.place; width = 0 } → s.is_new ≡ true → s.source ≡ None → drop s.place (glyphs_of s.line) ≡ [] → IsNextPlace s p
+empty_place s p at new ends gone = record {
+  order = rw at (omega arith);
+  within = rw at (s.within, s.within);
+  columns = rw at (ap (sum_by glyph_width) (sym (between-nil s.place (glyphs_of s.line))));
+  first = λ glyphs ended. first_empty s glyphs p at new (ended ends) gone;
+}

@@ -9,7 +9,7 @@ mod Answering
 mod TruncatedOnce
 mod Reading
 mod LineCounts
-mod Cutting
+mod CutCounts
 mod TextLengths
 mod Fewest
 mod TextCut

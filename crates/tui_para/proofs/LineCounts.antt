@@ -5,7 +5,7 @@ use Rattle.std.proofs.lemmas.List.{append_assoc}
 use Rattle.std.proofs.lemmas.List.Sums.{sum_by-append}
 use Rattle.std.proofs.lemmas.Bool.{cases_Bool, ltb-true, ltb-false, cond-true, cond-false, and_parts, and_cases, not-true, not-false, false≢true}
 use Rattle.std.specs.List.{AllByRecursion}
-use Rattle.tui_para.specs.declared.counter.Counter.{Counter}
+use Rattle.tui_para.specs.declared.counting.counter.Counter.{Counter}
 use Rattle.tui_para.specs.Wrapped.{word, next_word, without_blanks, after_break, IsNextLine, HasLines, Wrapped, kept, line_start}
 use Rattle.tui_para.specs.Counting.{end_word, end_line, take_word_along, add_blank, skip_blank, add_letter, overflows, after_word, on_blank, soft, hard, step, steps, counted, no_lines}
 use Rattle.tui_para.proofs.Reading.{to_come, Counts, fresh, going, to_letter, untrimmed, word_ended, blank_goes, letter_stays, blank_is_next, letters_are_next, soft_line, hard_line, line_ends, here_some, letter_added, blank_added, blank_skipped}

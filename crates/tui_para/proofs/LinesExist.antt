@@ -9,7 +9,7 @@ use Rattle.tui_para.specs.Places.{lines_of, wrap, wrap_kept}
 use Rattle.tui_para.specs.Truncated.{truncate}
 use Rattle.tui_para.specs.Wrapped.{WrapsKept, kept}
 use Rattle.tui_para.specs.Wrapping.{LinesOfRest, PartsWith, TruncatorCuts, WrapperCuts, glyphs_from}
-use Rattle.tui_para.specs.declared.text_line.TextLine.{TextLine}
+use Rattle.tui_para.specs.declared.wrapping.text_line.TextLine.{TextLine}
 use Rattle.tui_para.specs.declared.truncator.LineTruncator.{LineTruncator}
 use Rattle.tui_para.specs.declared.wrapper.WordWrapper.{WordWrapper}
 use Rattle.tui_para.proofs.Filled.{no_cons}

@@ -1,19 +1,19 @@
 -- The parts that are left of a text line: where more of it is read, and where the next of them is found.
-use Rattle.std.proofs.Common.{◌≡◌, ◌≤◌, ℕ, List, [], ◌++◌, Option, Some, None, Bool, false, length, drop, map, refl, sym, ap, ◌∙◌, subst, inr, ⊎_elim, arith}
+use Rattle.std.proofs.Common.{◌≡◌, ℕ, List, [], ◌++◌, Option, Some, None, Bool, false, drop, map, refl, sym, ap, ◌∙◌, subst, inr, ⊎_elim, arith}
 use Rattle.std.proofs.lemmas.Bool.{false≢true}
 use Rattle.std.proofs.lemmas.List.{append-nil, append_assoc, drop_all}
 use Rattle.std.specs.List.{between}
-use Rattle.std.specs.Prelude.{◌↔◌, sum_by}
+use Rattle.std.specs.Prelude.{◌↔◌}
 use Rattle.tui_text.specs.Grapheme.{Glyph, glyph_of, glyph_blank, glyph_width}
 use Rattle.tui_text.specs.declared.grapheme.StyledGrapheme.{StyledGrapheme}
 use Rattle.tui_para.specs.Given.{SourceReads}
 use Rattle.tui_para.specs.Lines.{IsFirstOf}
 use Rattle.tui_para.specs.Marked.{IsPart, glyphs_of, part_of}
 use Rattle.tui_para.specs.Wrapped.{HasLines, kept}
-use Rattle.tui_para.specs.Wrapping.{FindsPart, FirstLine, HasRead, LinesOfRest, PartsWith, glyphs_from}
-use Rattle.tui_para.specs.declared.breaking.Place.{Place}
-use Rattle.tui_para.specs.declared.part.Part.{Part}
-use Rattle.tui_para.specs.declared.text_line.TextLine.{TextLine}
+use Rattle.tui_para.specs.Wrapping.{FindsPart, HasRead, IsNextPlace, LinesOfRest, PartsWith, glyphs_from}
+use Rattle.tui_para.specs.declared.wrapping.breaking.Place.{Place}
+use Rattle.tui_para.specs.declared.wrapping.part.Part.{Part}
+use Rattle.tui_para.specs.declared.wrapping.text_line.TextLine.{TextLine}
 use Rattle.tui_para.proofs.Lending.{first_along, same_lists}
 use Rattle.tui_para.proofs.Parts.{no_lines}
 use Rattle.tui_para.proofs.Sources.{kept-append, kept-behind, reads_none, reads_then}
@@ -108,18 +108,17 @@ module _ {I : Type 0} (gives : I → Option StyledGrapheme → I → Type 0) whe
     shown : between p.start p.end (glyphs_of t.line) ≡ part_of (glyphs_of u.line) part
     shown = ap (between p.start p.end) (sym line) ∙ sym (ap (part_of (glyphs_of u.line)) at)
 
-    stands : p.start ≤ p.end → p.end ≤ length (glyphs_of t.line) → p.width ≡ sum_by glyph_width (between p.start p.end (glyphs_of t.line)) → IsPart (glyphs_of u.line) part
-    stands order within columns =
-        subst (IsPart (glyphs_of u.line)) (sym at) (subst (λ gs. IsPart gs (record { start = p.start; end = p.end; width = p.width })) (sym line) (record { order = order; within = within; columns = columns }))
+    stands : IsNextPlace t p → IsPart (glyphs_of u.line) part
+    stands k =
+        subst (IsPart (glyphs_of u.line)) (sym at) (subst (λ gs. IsPart gs (record { start = p.start; end = p.end; width = p.width })) (sym line) (record { order = k.order; within = k.within.0; columns = k.columns }))
 
-    pub found_part : HasRead gives s t → p.start ≤ p.end → p.end ≤ length (glyphs_of t.line) → p.width ≡ sum_by glyph_width (between p.start p.end (glyphs_of t.line)) →
-        ((glyphs : List Glyph) → (t.source ≡ None → glyphs ≡ []) → FirstLine t p glyphs) → FindsPart gives s u (Some part)
-    found_part r order within columns first = record {
-      is_part = stands order within columns;
+    pub found_part : HasRead gives s t → IsNextPlace t p → FindsPart gives s u (Some part)
+    found_part r k = record {
+      is_part = stands k;
       taken = r.taken;
       reads = subst (λ o. SourceReads gives s.source r.taken o) (sym source) r.reads;
       first = λ glyphs ended. subst (λ k. IsFirstOf (Some k) (PartsWith s (map glyph_of r.taken ++ glyphs)) (PartsWith u glyphs)) shown
           (first_along (Some (between p.start p.end (glyphs_of t.line))) (PartsWith t glyphs) (PartsWith s (map glyph_of r.taken ++ glyphs)) (HasLines glyph_blank glyph_width t.width t.trim (glyphs_from t p.next glyphs)) (PartsWith u glyphs)
-          (read_parts s t r glyphs) (left glyphs) (first glyphs (λ e. ended (source ∙ e))));
+          (read_parts s t r glyphs) (left glyphs) (k.first glyphs (λ e. ended (source ∙ e))));
       ends = λ e. cc;
     }

@@ -4,7 +4,7 @@ use Rattle.std.specs.Prelude.{◌≢◌, ◌⊎◌, ◌||◌, sum_by, not, nat_l
 use Rattle.std.proofs.lemmas.List.{append_assoc}
 use Rattle.std.proofs.lemmas.List.Sums.{sum_by-cons, sum_by-append, sum_by_push}
 use Rattle.std.proofs.lemmas.Bool.{cases_Bool, le-leb, lt-leb, cond-true, cond-false, or_left, or_right, or_from, false≢true}
-use Rattle.tui_para.specs.declared.counter.Counter.{Counter}
+use Rattle.tui_para.specs.declared.counting.counter.Counter.{Counter}
 use Rattle.tui_para.specs.Wrapped.{word, next_word, without_blanks, after_break, ends_in, no_blank, begins_blank, IsNextLine, HasLines, line_start}
 use Rattle.tui_para.specs.Counting.{end_word, add_blank, skip_blank, add_letter}
 use Rattle.tui_para.proofs.Unique.{ends_in-append}

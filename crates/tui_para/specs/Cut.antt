@@ -3,7 +3,7 @@ use Rattle.std.specs.Prelude.{List, [], cond}
 use Rattle.tui_text.specs.Grapheme.{Glyph, glyph_width}
 use Rattle.tui_para.specs.Truncated.{fitting_prefix, left_by}
 use Rattle.tui_para.specs.Wrapped.{kept}
-use Rattle.tui_para.specs.declared.cut.Cut.{Cut}
+use Rattle.tui_para.specs.declared.cutting.cut.Cut.{Cut}
 
 -- what is shown of the graphemes to come: nothing where one didn't fit, and else what fits of those that the offset leaves
 abbrev pub shown_of : Cut → List Glyph → List Glyph

@@ -1,7 +1,7 @@
 -- What wrapping sees of a grapheme.
 use Rattle.std.specs.Prelude.{ℕ, Bool}
 use Rattle.tui_text.specs.Grapheme.{Glyph, glyph_blank, glyph_width}
-use Rattle.tui_para.specs.declared.mark.Mark.{Mark}
+use Rattle.tui_para.specs.declared.wrapping.mark.Mark.{Mark}
 
 abbrev pub mark_of : Glyph → Mark
 mark_of g = record { width = glyph_width g; blank = glyph_blank g }

@@ -1,5 +1,5 @@
 -- What composers may still lend.
-use Rattle.std.specs.Prelude.{◌≡◌, ◌⊎◌, ℕ, Bool, true, false, List, [], ◌++◌, drop, map, Option, Some, None, option_map, IfSome, sum_by}
+use Rattle.std.specs.Prelude.{◌≡◌, ◌≤◌, ◌⊎◌, ℕ, Bool, true, false, List, [], ◌++◌, length, drop, map, Option, Some, None, option_map, IfSome, sum_by}
 use Rattle.std.specs.List.{between}
 use Rattle.std.specs.declared.iter.Iterator.{Ghosts}
 use Rattle.tui_text.specs.Grapheme.{Glyph, glyph_of, glyph_blank, glyph_width}
@@ -10,9 +10,9 @@ use Rattle.tui_para.specs.Given.{AllReady, Ready, SourceReads, line_answers, sou
 use Rattle.tui_para.specs.Lines.{GlyphLine, glyph_line, CutAll, IsFirst, IsFirstOf, LinesAfter, TruncatesLine, WrapsLine, lines_from}
 use Rattle.tui_para.specs.Marked.{IsPart, glyphs_of, part_of}
 use Rattle.tui_para.specs.Wrapped.{HasLines, WrapsKept, kept}
-use Rattle.tui_para.specs.declared.breaking.Place.{Place}
-use Rattle.tui_para.specs.declared.part.Part.{Part}
-use Rattle.tui_para.specs.declared.text_line.TextLine.{TextLine}
+use Rattle.tui_para.specs.declared.wrapping.breaking.Place.{Place}
+use Rattle.tui_para.specs.declared.wrapping.part.Part.{Part}
+use Rattle.tui_para.specs.declared.wrapping.text_line.TextLine.{TextLine}
 use Rattle.tui_para.specs.declared.truncator.LineTruncator.{LineTruncator}
 use Rattle.tui_para.specs.declared.wrapper.WordWrapper.{WordWrapper}
 
@@ -33,6 +33,13 @@ PartsWith s glyphs = LinesOfRest s.is_new s.width s.trim (glyphs_from s s.place 
 abbrev pub FirstLine : {I : Type 0} → TextLine I → Place → List Glyph → Type 0
 FirstLine s p glyphs = IsFirstOf (Some (between p.start p.end (glyphs_of s.line))) (PartsWith s glyphs)
     (HasLines glyph_blank glyph_width s.width s.trim (glyphs_from s p.next glyphs))
+
+-- the place is that of the first line, whatever is still to be read
+pub record IsNextPlace {I : Type 0} (s : TextLine I) (p : Place) : Type 0 where
+  pub order : p.start ≤ p.end
+  pub within : (p.end ≤ length (glyphs_of s.line)) × (p.next ≤ length (glyphs_of s.line))
+  pub columns : p.width ≡ sum_by glyph_width (between p.start p.end (glyphs_of s.line))
+  pub first : (glyphs : List Glyph) → (s.source ≡ None → glyphs ≡ []) → FirstLine s p glyphs
 
 -- more of a text line was read, and no part of it was lent
 pub record HasRead {I : Type 0} (gives : I → Option StyledGrapheme → I → Type 0) (old new : TextLine I) : Type 0 where

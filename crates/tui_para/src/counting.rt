@@ -6,7 +6,9 @@ ghost use Rattle.tui_text.specs.Line.{line_data};
 ghost use Rattle.tui_text.specs.Text.{text_data};
 ghost use Rattle.tui_text.specs.Width.{saturated};
 
-use crate::counter::Counter;
+mod counter;
+
+use crate::counting::counter::Counter;
 use tui_cells::Style;
 use tui_text::{Line, Text, cell_width};
 

@@ -1,27 +1,20 @@
 //! Paragraphs, and the logo.
 #![tactic(auto)]
 
-mod breaking;
 pub mod composer;
-mod counter;
 mod counting;
-mod cut;
+mod cutting;
 mod ends;
 mod laws;
 pub mod logo;
-mod mark;
-mod marked;
 mod painting;
 pub mod paragraph;
-mod part;
-mod prefix;
 pub mod size;
-mod text_line;
 pub mod text_lines;
-mod truncating;
 pub mod truncator;
 pub mod wrap;
 pub mod wrapper;
+mod wrapping;
 
 pub use composer::{LineComposer, WrappedLine};
 pub use laws::{

@@ -6,9 +6,9 @@ ghost use Rattle.tui_para.specs.Lines.{GlyphLine, LinesOf, TruncatesLine, Unless
 ghost use Rattle.tui_para.specs.Wrapping.{FindsCut, TruncatorCanLend, TruncatorMayLend, TruncatorWillLend};
 
 use crate::composer::{LineComposer, WrappedLine};
-use crate::cut::Cut;
+use crate::cutting::cut::Cut;
+use crate::cutting::truncating::refill;
 use crate::ends::read_lines;
-use crate::truncating::refill;
 use std::alloc::Global;
 use std::marker::PhantomData;
 use tui_cells::{Mem, NoMemory};

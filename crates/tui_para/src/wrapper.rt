@@ -8,8 +8,8 @@ ghost use Rattle.tui_para.specs.Wrapping.{FindsLine, WrapperCanLend, WrapperMayL
 
 use crate::composer::{LineComposer, WrappedLine};
 use crate::ends::read_lines;
-use crate::part::Part;
-use crate::text_line::TextLine;
+use crate::wrapping::part::Part;
+use crate::wrapping::text_line::TextLine;
 use std::alloc::Global;
 use tui_cells::{Mem, NoMemory};
 use tui_text::{Alignment, StyledGrapheme};

@@ -8,7 +8,7 @@ ghost use Rattle.tui_para.specs.Paragraph.{paragraph_data};
 ghost use Rattle.tui_frames.specs.Footprint.{footprint_if};
 ghost use Rattle.tui_para.specs.Rendering.{content_layers, paragraph_layers, scrolled_layers, under_layers};
 
-use crate::painting::paint_lines;
+use crate::painting::rows::paint_lines;
 use crate::paragraph::Paragraph;
 use crate::text_lines::TextLines;
 use crate::truncator::LineTruncator;

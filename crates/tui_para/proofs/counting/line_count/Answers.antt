@@ -6,7 +6,7 @@ use Rattle.tui_text.specs.Line.{line_data}
 use Rattle.tui_para.specs.Counting.{cut_count, no_lines, step, steps}
 use Rattle.tui_para.specs.Places.{wrap}
 use Rattle.tui_para.specs.Wrapped.{kept}
-use Rattle.tui_para.proofs.Cutting.{kept_read, cut_counts}
+use Rattle.tui_para.proofs.CutCounts.{kept_read, cut_counts}
 use Rattle.tui_para.proofs.Greedy.{wrap_is}
 use Rattle.tui_para.proofs.LineCounts.{wrap_count}
 use Rattle.tui_para.proofs.counting.line_count.Goals as goal

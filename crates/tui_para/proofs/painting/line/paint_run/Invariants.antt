@@ -1,0 +1,15 @@
+use Rattle.std.proofs.Common.{drop, map}
+use Rattle.tui_cells.specs.Rect.{covers}
+use Rattle.tui_cells.specs.Buffer.{Screen}
+use Rattle.tui_cells.specs.Layers.{Painted, KeptOutside}
+use Rattle.tui_text.specs.Grapheme.{glyph_of}
+use Rattle.tui_para.specs.Strokes.{run_layers}
+use Rattle.tui_para.proofs.painting.line.paint_run.Given as goal
+
+-- what is left to paint completes the whole
+abbrev pub invariant-loop-grapheme : goal.invariant-loop-grapheme
+invariant-loop-grapheme l = record {
+  rest : (final : Screen) → Painted (run_layers l.clip l.x l.at.y (drop l.grapheme-index (map glyph_of l.run))) l.buf final
+      → Painted (run_layers l.clip l.at.x l.at.y (map glyph_of l.run)) l.fn.buf final;
+  kept : KeptOutside (covers l.clip) l.fn.buf l.buf;
+}

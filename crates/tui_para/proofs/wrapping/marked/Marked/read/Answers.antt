@@ -1,0 +1,21 @@
+use Rattle.std.proofs.Common.{◌++◌, ◌∷◌, [], refl, arith}
+use Rattle.tui_text.specs.Grapheme.{glyph_of, glyph_width}
+use Rattle.tui_para.specs.Marked.{glyphs_of}
+use Rattle.tui_para.proofs.Sources.{Yields-append, kept-behind}
+use Rattle.tui_para.proofs.wrapping.marked.Marked.read.Goals as goal
+
+pub graphemes-preserved : goal.graphemes-preserved
+graphemes-preserved g c =
+    let (taken, yields, kept_is) = c.graphemes.invariant.taken in
+    let x = c.in-Some.grapheme in
+    let on = c.in-Some.ensures.goes.on c.graphemes.invariant.ready.ends in
+    let near = c.graphemes.invariant.nearer in
+    record {
+      taken = (
+        taken ++ x ∷ [],
+        Yields-append g.I.Iterator.next_gives c.args.source c.graphemes.source c.next.new.self taken (x ∷ []) yields (c.next.new.self, c.in-Some.ensures.steps, refl),
+        kept-behind glyph_of glyph_width c.args.width (glyphs_of c.args.self.now) (glyphs_of c.graphemes.self) (glyphs_of c.keep.new.self) taken (x ∷ []) kept_is c.in_ok-keep.ensures.ok,
+      );
+      ready = record { can_next = on.0; ends = on.1 };
+      nearer = let less = on.2 in omega arith;
+    }

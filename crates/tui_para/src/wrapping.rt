@@ -1,0 +1,8 @@
+//! What the wrapping of a text line is made of.
+
+mod breaking;
+mod mark;
+mod marked;
+pub(crate) mod part;
+mod prefix;
+pub(crate) mod text_line;

@@ -1,0 +1,114 @@
+//! Where the lines of a text line begin and end.
+
+ghost use Rattle.std.specs.List.{between};
+ghost use Rattle.std.specs.Prelude.{◌≡◌, ◌≤◌, ◌<◌, ◌+◌, List, length, drop, take, map, cond, false, sum_by, All};
+ghost use Rattle.tui_text.specs.Grapheme.{Glyph, glyph_blank, glyph_width};
+ghost use Rattle.tui_para.specs.Mark.{mark_of, is_blank, size_of};
+ghost use Rattle.tui_para.specs.Places.{blanks_len, start_len, line_len, dropped_len};
+ghost use Rattle.tui_para.specs.Wrapped.{IsNextLine};
+
+use crate::wrapping::mark::Mark;
+use crate::wrapping::prefix::Prefix;
+
+/// How many blanks stand at the front.
+fn leading_blanks(marks: &[Mark]) -> usize
+    ensures within { result ≤ length marks.now }
+    ensures len { result ≡ blanks_len is_blank marks.now }
+{
+    for (i, mark) in marks.iter().enumerate() {
+        if !mark.blank {
+            return i;
+        }
+    }
+    marks.len()
+}
+
+/// How many graphemes stand before the line.
+fn start_of(marks: &[Mark], trim: bool) -> usize
+    ensures within { result ≤ length marks.now }
+    ensures len { result ≡ start_len is_blank trim marks.now }
+{
+    if trim { leading_blanks(marks) } else { 0 }
+}
+
+/// The graphemes up to here where a word ends here, else those up to the end of the word before.
+fn whole_words(words: Prefix, here: Prefix, word_ends: bool) -> Prefix
+    ensures { result ≡ cond word_ends here words }
+{
+    if word_ends { here } else { words }
+}
+
+/// The line that stands at the front.
+fn line_at(marks: &[Mark], width: u16) -> Prefix
+    ensures within { result.len ≤ length marks.now }
+    ensures len { result.len ≡ line_len is_blank size_of width marks.now }
+    ensures room { result.room + sum_by size_of (take result.len marks.now) ≡ width }
+{
+    let mut words = Prefix {
+        len: 0,
+        room: width,
+    };
+    let mut room = width;
+    let mut in_word = false;
+    for (i, mark) in marks.iter().enumerate() {
+        let here = Prefix { len: i, room };
+        words = whole_words(words, here, in_word && mark.blank);
+        if mark.width > room {
+            return if words.len > 0 { words } else { here };
+        }
+        room -= mark.width;
+        in_word = !mark.blank;
+    }
+    Prefix {
+        len: marks.len(),
+        room,
+    }
+}
+
+/// How many blanks are left out after a break that leaves this room.
+fn dropped(marks: &[Mark], room: u16) -> usize
+    ensures within { result ≤ length marks.now }
+    ensures len { result ≡ dropped_len is_blank size_of room marks.now }
+{
+    let mut left = room;
+    for (i, mark) in marks.iter().enumerate() {
+        if !mark.blank {
+            return i;
+        }
+        if mark.width > left {
+            return i + 1;
+        }
+        left -= mark.width;
+    }
+    marks.len()
+}
+
+/// A line among graphemes: where it begins and ends, where what is left begins, and its columns.
+#[derive(Clone, Copy, Debug)]
+pub(crate) struct Place {
+    pub start: usize,
+    pub end: usize,
+    pub next: usize,
+    pub width: u16,
+}
+
+/// The next line of graphemes with these marks, none of which is wider than a line.
+pub(crate) fn next_line(marks: &[Mark], width: u16, trim: bool) -> Place
+    requires { All (λ m. m.width ≤ width) marks.now }
+    ensures order { (result.start ≤ result.end) × (result.end ≤ result.next) × (result.next ≤ length marks.now) }
+    ensures moves { 0 < length marks.now → 0 < result.next }
+    ensures width { result.width ≡ sum_by size_of (between result.start result.end marks.now) }
+    ensures line { (graphemes : List Glyph) → map mark_of graphemes ≡ marks.now
+        → IsNextLine glyph_blank glyph_width width trim graphemes (between result.start result.end graphemes) (drop result.next graphemes) }
+{
+    let start = start_of(marks, trim);
+    let rest = &marks[start..];
+    let line = line_at(rest, width);
+    let blanks = dropped(&rest[line.len..], line.room);
+    Place {
+        start,
+        end: start + line.len,
+        next: start + line.len + blanks,
+        width: width - line.room,
+    }
+}

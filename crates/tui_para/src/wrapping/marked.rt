@@ -1,0 +1,131 @@
+//! The graphemes of one text line.
+
+ghost use Rattle.std.specs.Prelude.{◌≡◌, ◌≤◌, ◌+◌, Some, List, [], ◌∷◌, ◌++◌, true, false, length, drop, map, IfOk, IfSome, OnOk, OnErr, vec_len};
+ghost use Rattle.std.specs.Iterator.{size};
+ghost use Rattle.std.specs.List.{between};
+ghost use Rattle.tui_text.specs.Grapheme.{glyph_of};
+ghost use Rattle.tui_text.specs.declared.grapheme.StyledGrapheme.{StyledGrapheme};
+ghost use Rattle.tui_para.specs.Given.{Ready, SourceReads};
+ghost use Rattle.tui_para.specs.Mark.{mark_of, size_of};
+
+use crate::wrapping::mark::{Mark, mark_of};
+use std::alloc::Global;
+use tui_cells::{Mem, NoMemory};
+use tui_text::StyledGrapheme;
+
+/// Graphemes side by side with their marks. The lists are used again for each text line.
+#[derive(Drop)]
+pub(crate) struct Marked<'a> {
+    graphemes: Vec<StyledGrapheme<'a>>,
+    marks: Vec<Mark>,
+    ghost marked: { marks.items ≡ map mark_of (map glyph_of graphemes.items) },
+}
+
+impl<'a> Marked<'a> {
+    ghost use Rattle.tui_para.specs.Marked.{HasKept, glyphs_of};
+
+    pub(crate) fn new(alloc: Global) -> Marked<'a>
+        ensures { glyphs_of result ≡ [] }
+    {
+        Marked {
+            graphemes: Vec::new(alloc),
+            marks: Vec::new(alloc),
+        }
+    }
+
+    pub(crate) fn len(&self) -> usize
+        ensures { result ≡ length (glyphs_of self.now) }
+    {
+        self.marks.len()
+    }
+
+    pub(crate) fn marks(&self) -> &[Mark]
+        ensures { result.now ≡ map mark_of (glyphs_of self.now) }
+    {
+        &self.marks
+    }
+
+    /// The graphemes between two places.
+    pub(crate) fn part(&self, start: usize, end: usize) -> &[StyledGrapheme<'a>]
+        requires order { start ≤ end }
+        requires within { end ≤ length (glyphs_of self.now) }
+        ensures { map glyph_of result.now ≡ between start end (glyphs_of self.now) }
+    {
+        &self.graphemes[start..end]
+    }
+
+    pub(crate) fn clear(&mut self)
+        ensures { glyphs_of self.new ≡ [] }
+    {
+        self.graphemes.clear();
+        self.marks.clear();
+    }
+
+    fn push(&mut self, grapheme: StyledGrapheme<'a>, mark: Mark) -> Mem<()>
+        requires { mark ≡ mark_of (glyph_of grapheme) }
+        ensures ok { OnOk result (glyphs_of self.new ≡ glyphs_of self.old ++ glyph_of grapheme.entry ∷ []) }
+        ensures err { OnErr result (glyphs_of self.new ≡ glyphs_of self.old) }
+    {
+        self.marks.push(mark)?;
+        match self.graphemes.push(grapheme) {
+            Ok(()) => Ok(()),
+            Err(_) => {
+                self.marks.pop();
+                Err(NoMemory)
+            }
+        }
+    }
+
+    /// Puts a grapheme behind those that are there, unless it is wider than a line.
+    fn keep(&mut self, grapheme: StyledGrapheme<'a>, width: u16) -> Mem<()>
+        ensures ok { OnOk result (HasKept width (grapheme.entry ∷ []) self.old self.new) }
+        ensures err { OnErr result (glyphs_of self.new ≡ glyphs_of self.old) }
+    {
+        let mark = mark_of(&grapheme);
+        if mark.width <= width {
+            self.push(grapheme, mark)?;
+        }
+        Ok(())
+    }
+
+    /// Leaves out the first `count` graphemes.
+    pub(crate) fn drop_front(&mut self, count: usize)
+        requires { count ≤ length (glyphs_of self.old) }
+        ensures { glyphs_of self.new ≡ drop count (glyphs_of self.old) }
+    {
+        drop_front(&mut self.graphemes, count);
+        drop_front(&mut self.marks, count);
+    }
+
+    /// Reads `count` graphemes more, and keeps those that aren't wider than a line. Answers what gives the others, or
+    /// None where no more came.
+    pub(crate) fn read<I: Iterator<Item = StyledGrapheme<'a>>>(
+        &mut self,
+        mut source: I,
+        count: usize,
+        width: u16,
+    ) -> Mem<Option<I>>
+        requires { Ready I.Iterator source }
+        ensures fit { (taken : List StyledGrapheme) × HasKept width taken self.old self.new }
+        ensures read { IfOk result (λ left. (taken : List StyledGrapheme) × SourceReads I.next_gives (Some source) taken left
+            × HasKept width taken self.old self.new) }
+        ensures ready { IfOk result (λ left. IfSome left (λ i. Ready I.Iterator i × (size (I.remaining i) + count ≤ size (I.remaining source)))) }
+    {
+        'graphemes: for _read in 0..count {
+            let Some(grapheme) = source.next() else {
+                return Ok(None);
+            };
+            self.keep(grapheme, width)?;
+        }
+        Ok(Some(source))
+    }
+}
+
+fn drop_front<T: Copy>(items: &mut Vec<T>, count: usize)
+    requires { count ≤ vec_len items.old }
+    ensures { items.new.items ≡ drop count items.old.items }
+{
+    let len = items.len();
+    items.as_mut_slice().copy_within(count..len, 0);
+    items.truncate(len - count);
+}

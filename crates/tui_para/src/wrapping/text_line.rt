@@ -1,0 +1,198 @@
+//! One text line, cut into lines.
+
+ghost use Rattle.std.specs.Prelude.{◌≡◌, ◌≤◌, ◌<◌, List, [], None, Some, true, false, length, drop, map, All, IfOk, IfSome, IsSome, OnOk, sum_by};
+ghost use Rattle.std.specs.List.{between};
+ghost use Rattle.tui_text.specs.Grapheme.{Glyph, glyph_of, glyph_width};
+ghost use Rattle.tui_para.specs.Given.{IsGlyph, MayGive, Ready, SourceGives, source_left};
+ghost use Rattle.tui_para.specs.Marked.{glyphs_of, part_of};
+
+use crate::ends::read_line;
+use crate::wrapping::breaking::{Place, next_line};
+use crate::wrapping::marked::Marked;
+use crate::wrapping::part::Part;
+use std::alloc::Global;
+use tui_cells::Mem;
+use tui_text::StyledGrapheme;
+
+/// How many graphemes are read at once at least.
+const CHUNK: usize = 256;
+
+/// A text line that is wrapped and lent in parts. It is read as far as the parts need.
+#[derive(Drop)]
+pub(crate) struct TextLine<'a, I> {
+    /// What gives the graphemes that are still to be read.
+    source: Option<I>,
+    /// Those that were read, from a part that was lent on.
+    line: Marked<'a>,
+    width: u16,
+    trim: bool,
+    /// Where the graphemes begin that were not lent.
+    place: usize,
+    /// No part of it was lent.
+    is_new: bool,
+    ghost within: { place ≤ length (glyphs_of line) },
+    ghost fit: { All (λ g. glyph_width g ≤ width) (glyphs_of line) },
+}
+
+impl<'a, I> TextLine<'a, I> {
+    ghost use Rattle.tui_para.specs.Wrapping.{IsNextPlace};
+
+    /// No text line yet.
+    pub(crate) fn new(alloc: Global, width: u16, trim: bool) -> TextLine<'a, I>
+        ensures source { result.source ≡ None }
+        ensures line { glyphs_of result.line ≡ [] }
+        ensures old { result.is_new ≡ false }
+        ensures width { result.width ≡ width }
+        ensures trim { result.trim ≡ trim }
+    {
+        TextLine {
+            source: None,
+            line: Marked::new(alloc),
+            width,
+            trim,
+            place: 0,
+            is_new: false,
+        }
+    }
+
+    pub(crate) fn width(&self) -> u16
+        ensures { result ≡ self.now.width }
+    {
+        self.width
+    }
+
+    /// The next line, where it is this one whatever graphemes are still to be read.
+    fn known_line(&self) -> Option<Place>
+        ensures some { IfSome result (IsNextPlace self.now) }
+        ensures none { result ≡ None → self.now.source ≡ None → (self.now.is_new ≡ false) × (drop self.now.place (glyphs_of self.now.line) ≡ []) }
+    {
+        if self.place >= self.line.len() {
+            return self.empty_line();
+        }
+        let marks = self.line.marks();
+        let rest = &marks[self.place..];
+        let line = next_line(rest, self.width, self.trim);
+        if line.next == rest.len() && self.source.is_some() {
+            return None;
+        }
+        Some(Place {
+            start: self.place + line.start,
+            end: self.place + line.end,
+            next: self.place + line.next,
+            width: line.width,
+        })
+    }
+
+    /// The one empty line of a text line without graphemes.
+    fn empty_line(&self) -> Option<Place>
+        ensures some { IfSome result (λ p. (self.now.is_new ≡ true) × (self.now.source ≡ None)
+            × (p ≡ record { start = self.now.place; end = self.now.place; next = self.now.place; width = 0 })) }
+        ensures none { result ≡ None → self.now.source ≡ None → self.now.is_new ≡ false }
+    {
+        if self.is_new && self.source.is_none() {
+            Some(Place {
+                start: self.place,
+                end: self.place,
+                next: self.place,
+                width: 0,
+            })
+        } else {
+            None
+        }
+    }
+
+    /// Goes on behind a line.
+    fn pass(&mut self, line: Place) -> Part
+        requires { line.next ≤ length (glyphs_of self.old.line) }
+        ensures source { self.new.source ≡ self.old.source }
+        ensures line { glyphs_of self.new.line ≡ glyphs_of self.old.line }
+        ensures width { self.new.width ≡ self.old.width }
+        ensures trim { self.new.trim ≡ self.old.trim }
+        ensures is_new { self.new.is_new ≡ false }
+        ensures place { self.new.place ≡ line.next }
+        ensures part { result ≡ record { start = line.start; end = line.end; width = line.width } }
+    {
+        self.place = line.next;
+        self.is_new = false;
+        Part {
+            start: line.start,
+            end: line.end,
+            width: line.width,
+        }
+    }
+
+    /// The graphemes of a part.
+    pub(crate) fn part(&self, part: Part) -> &[StyledGrapheme<'a>]
+        requires order { part.start ≤ part.end }
+        requires within { part.end ≤ length (glyphs_of self.now.line) }
+        ensures { map glyph_of result.now ≡ part_of (glyphs_of self.now.line) part }
+    {
+        self.line.part(part.start, part.end)
+    }
+}
+
+impl<'a, I: Iterator<Item = StyledGrapheme<'a>>> TextLine<'a, I> {
+    ghost use Rattle.tui_para.specs.Wrapping.{FindsPart, HasRead};
+
+    /// Reads what is left of it to its end, and lets all go.
+    pub(crate) fn read_to_end(self)
+        requires { IfSome self.source (Ready I.Iterator) }
+        ensures { (glyphs : List Glyph) × SourceGives (MayGive I.next_gives IsGlyph) self.entry.source glyphs }
+    {
+        let TextLine { source, .. } = self;
+        if let Some(line) = source {
+            read_line(line);
+        }
+    }
+
+    /// Begins another text line.
+    pub(crate) fn start(&mut self, source: I)
+        ensures source { self.new.source ≡ Some source }
+        ensures line { glyphs_of self.new.line ≡ [] }
+        ensures is_new { self.new.is_new ≡ true }
+        ensures width { self.new.width ≡ self.old.width }
+        ensures trim { self.new.trim ≡ self.old.trim }
+    {
+        self.place = 0;
+        self.line.clear();
+        self.is_new = true;
+        self.source = Some(source);
+    }
+
+    /// Goes on to the next part, and says where it stands. Reads on where what was read doesn't tell.
+    pub(crate) fn advance(&mut self) -> Mem<Option<Part>>
+        requires { IfSome self.old.source (Ready I.Iterator) }
+        ensures ready { IfSome self.new.source (Ready I.Iterator) }
+        ensures width { self.new.width ≡ self.old.width }
+        ensures trim { self.new.trim ≡ self.old.trim }
+        ensures found { IfOk result (FindsPart I.next_gives self.old self.new) }
+    {
+        'lines: loop {
+            if let Some(line) = self.known_line() {
+                return Ok(Some(self.pass(line)));
+            }
+            if self.source.is_none() {
+                return Ok(None);
+            }
+            self.read_on()?;
+        }
+    }
+
+    /// Reads at least as many graphemes more as a line may have columns and as were not lent yet, or all that come.
+    fn read_on(&mut self) -> Mem<()>
+        requires { IfSome self.old.source (Ready I.Iterator) }
+        ensures ready { IfSome self.new.source (Ready I.Iterator) }
+        ensures same { (self.new.width ≡ self.old.width) × (self.new.trim ≡ self.old.trim) }
+        ensures read { OnOk result (HasRead I.next_gives self.old self.new) }
+        ensures nearer { OnOk result (IsSome self.old.source → source_left I.remaining self.new.source < source_left I.remaining self.old.source) }
+    {
+        let Some(source) = self.source.take() else {
+            return Ok(());
+        };
+        self.line.drop_front(self.place);
+        self.place = 0;
+        let count = self.line.len().max(usize::from(self.width)).max(CHUNK);
+        self.source = self.line.read(source, count, self.width)?;
+        Ok(())
+    }
+}
