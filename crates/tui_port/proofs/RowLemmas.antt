@@ -1,5 +1,5 @@
 -- Rows of the print.
-use Rattle.std.proofs.Common.{◌≡◌, ℕ, ◌+◌, ◌-◌, ◌<◌, ◌≤◌, List, [], ◌∷◌, ◌++◌, length, get_or, drop, take, slice_index_or, flat_map, refl, ap, sym, ◌∙◌, add-one, min, append_assoc, slice_set, arith, rules, false, true}
+use Rattle.std.proofs.Common.{◌≡◌, ℕ, ◌+◌, ◌-◌, ◌<◌, ◌≤◌, List, [], ◌∷◌, ◌++◌, length, get_or, take, slice_index_or, flat_map, refl, ap, sym, ◌∙◌, add-one, min, append_assoc, slice_set, arith, rules, false, true}
 use Rattle.std.proofs.lemmas.List.{append-nil, take_more_set}
 use Rattle.std.proofs.lemmas.Grind.{flat_map-append}
 use Rattle.std.proofs.lemmas.List.Concat.{flat_map-cons}
@@ -12,22 +12,22 @@ use Rattle.std.proofs.lemmas.Bool.Decides.{nat_tests}
 use Rattle.unicode_width.proofs.Rules.{str_width-printable}
 use Rattle.tui_cells.specs.Cell.{Look}
 use Rattle.tui_text.specs.Grapheme.{width_of, columns_of}
-use Rattle.tui_port.specs.Print.{symbols_of}
-use Rattle.tui_text.specs.Visible.{step_of, visible_from}
+use Rattle.tui_port.specs.Print.{symbols_from, symbols_of}
+use Rattle.tui_text.specs.Visible.{step_of}
 use Rattle.tui_text.proofs.ShownCells.{none_visible, visible_next}
 
 -- a cell that shows, and what comes behind its columns
 pub row_step : (row : List Look) (i step : ℕ) (c : Look) → i < length row → c ≡ get_or row i c → step ≡ min (step_of c.symbol) (length row - i) →
-    symbols_of (visible_from i 0 (drop i row)) ≡ c.symbol ++ symbols_of (visible_from (i + step) 0 (drop (i + step) row))
+    symbols_from row i ≡ c.symbol ++ symbols_from row (i + step)
 row_step row i step c lt e is =
     let next = visible_next row i step c lt (is ∙ ap (λ (k : Look). min (step_of k.symbol) (length row - i)) e) in
-    ap symbols_of next ∙ ap (λ (k : Look). k.symbol ++ symbols_of (visible_from (i + step) 0 (drop (i + step) row))) (sym e)
+    ap symbols_of next ∙ ap (λ (k : Look). k.symbol ++ symbols_from row (i + step)) (sym e)
 
 -- a printable byte
 pub row_plain : (row : List Look) (i b : ℕ) (c : Look) → i < length row → c ≡ get_or row i c → c.symbol ≡ b ∷ [] → step_of c.symbol ≡ 1 →
-    symbols_of (visible_from i 0 (drop i row)) ≡ b ∷ symbols_of (visible_from (i + 1) 0 (drop (i + 1) row))
+    symbols_from row i ≡ b ∷ symbols_from row (i + 1)
 row_plain row i b c lt e is one =
-    row_step row i 1 c lt e (omega (arith, one, lt)) ∙ ap (λ (l : List ℕ). l ++ symbols_of (visible_from (i + 1) 0 (drop (i + 1) row))) is
+    row_step row i 1 c lt e (omega (arith, one, lt)) ∙ ap (λ (l : List ℕ). l ++ symbols_from row (i + 1)) is
 
 -- and one more of them is copied
 pub plain_more : (row piece text : List ℕ) (n b : ℕ) (rest : List ℕ) → n < length piece → text ≡ take n piece ++ row → row ≡ b ∷ rest →
@@ -35,7 +35,7 @@ pub plain_more : (row piece text : List ℕ) (n b : ℕ) (rest : List ℕ) → n
 plain_more row piece text n b rest lt before is =
     rw (take_more_set piece n b lt) (before ∙ (ap (λ (l : List ℕ). take n piece ++ l) is ∙ sym (append_assoc (take n piece) (b ∷ []) rest)))
 
-pub row_end : (row : List Look) (i : ℕ) → length row ≤ i → symbols_of (visible_from i 0 (drop i row)) ≡ []
+pub row_end : (row : List Look) (i : ℕ) → length row ≤ i → symbols_from row i ≡ []
 row_end row i le = ap symbols_of (none_visible row i i le)
 
 range : (b : ℕ) → 32 ≤ b → b ≤ 126 → list_all (is_in_range 0x20 0x7E) (b ∷ []) ≡ true

@@ -1,10 +1,10 @@
 -- The print of a screen, in bytes.
-use Rattle.std.specs.Prelude.{◌≡◌, ℕ, ◌+◌, ◌/◌, ◌%◌, List, [], ◌∷◌, ◌++◌, codes, decimal, flat_map, slice_index_or, Option, None, Some}
+use Rattle.std.specs.Prelude.{◌≡◌, ℕ, ◌+◌, ◌/◌, ◌%◌, List, [], ◌∷◌, ◌++◌, codes, decimal, drop, flat_map, slice_index_or, Option, None, Some}
 use Rattle.tui_cells.specs.declared.color.Color.{Color}
 use Rattle.tui_cells.specs.declared.color.Color.TheVariants as colors
 use Rattle.tui_cells.specs.Cell.{Look}
 use Rattle.tui_cells.specs.Buffer.{Screen}
-use Rattle.tui_text.specs.Visible.{Placed, visible}
+use Rattle.tui_text.specs.Visible.{Placed, visible, visible_from}
 use Rattle.tui_scene.specs.Item.{ItemData, PlacedData, list, scrollbar, still, table}
 use Rattle.tui_port.specs.Runs.{StyleRun, AreStyleRuns}
 
@@ -15,6 +15,10 @@ newline = 10 ∷ []
 -- the symbols of cells, one after another
 abbrev pub symbols_of : List Placed → List ℕ
 symbols_of cells = flat_map (λ p. p.cell.symbol) cells
+
+-- those of the cells of a row that show, from one of them on
+abbrev pub symbols_from : List Look → ℕ → List ℕ
+symbols_from row column = symbols_of (visible_from column 0 (drop column row))
 
 -- the line of a row: the symbols of the cells that show
 unfoldable pub row_line : List Look → List ℕ
