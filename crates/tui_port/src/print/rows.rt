@@ -47,7 +47,8 @@ fn put_next<'r, K: Sink>(
 ) -> usize
     requires { column < length row.now }
     ensures within { (column < result) × (result ≤ length row.now) }
-    ensures put { (text : List ℕ) × (symbols_of (visible_from column 0 (drop column row.now)) ≡ text ++ symbols_of (visible_from result 0 (drop result row.now)))
+    ensures put { (text : List ℕ)
+        × (symbols_of (visible_from column 0 (drop column row.now)) ≡ text ++ symbols_of (visible_from result 0 (drop result row.now)))
         × Gathers (K.told sink.old) (K.told sink.new) gather.old gather.new text }
 {
     let plain = copy_plain(row, column, piece);
@@ -64,7 +65,8 @@ fn put_next<'r, K: Sink>(
 fn copy_plain(row: &[Cell], from: usize, piece: &mut [u8; PIECE]) -> usize
     requires { from ≤ length row.now }
     ensures within { (result ≤ PIECE) × (from + result ≤ length row.now) }
-    ensures copied { symbols_of (visible_from from 0 (drop from row.now)) ≡ take result piece.new ++ symbols_of (visible_from (from + result) 0 (drop (from + result) row.now)) }
+    ensures copied { symbols_of (visible_from from 0 (drop from row.now))
+        ≡ take result piece.new ++ symbols_of (visible_from (from + result) 0 (drop (from + result) row.now)) }
 {
     let mut count = 0;
     while count < PIECE && count < row.len() - from {
