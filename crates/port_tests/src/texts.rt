@@ -1,7 +1,7 @@
 //! The texts of names and refusals.
 
 use std::test::Fail;
-use tui_port::{Field, SceneError};
+use tui_schema::{Field, SceneError};
 
 #[test]
 fn names_are_those_of_the_schema(rt: HostRuntime) -> Result<(), Fail> {

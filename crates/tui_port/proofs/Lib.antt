@@ -1,13 +1,7 @@
-pub mod Arrays
-pub mod Dates
-pub mod Dressing
 pub mod Equality
 pub mod Gathering
-pub mod Numbered
 pub mod Outside
 pub mod RowLemmas
 pub mod RunLemmas
 pub mod StateLines
-pub mod Stored
-pub mod TableWidths
 pub mod Unique

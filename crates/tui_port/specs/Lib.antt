@@ -1,11 +1,6 @@
 pub mod Causes
-pub mod Field
 pub mod Gathers
-pub mod Items
-pub mod Kinds
 pub mod Laws
 pub mod Memory
 pub mod Print
-pub mod Refusals
 pub mod Runs
-pub mod Scene

@@ -1,10 +1,9 @@
 -- The print of a screen, in bytes.
 use Rattle.std.specs.Prelude.{◌≡◌, ℕ, ◌+◌, ◌/◌, ◌%◌, List, [], ◌∷◌, ◌++◌, codes, decimal, drop, flat_map, slice_index_or, Option, None, Some}
-use Rattle.tui_cells.specs.declared.color.Color.{Color}
-use Rattle.tui_cells.specs.declared.color.Color.TheVariants as colors
 use Rattle.tui_cells.specs.Cell.{Look}
 use Rattle.tui_cells.specs.Buffer.{Screen}
 use Rattle.tui_text.specs.Visible.{Placed, visible, visible_from}
+use Rattle.tui_scene.specs.ColorText.{color_text}
 use Rattle.tui_scene.specs.Item.{ItemData, PlacedData, list, scrollbar, still, table}
 use Rattle.tui_port.specs.Runs.{StyleRun, AreStyleRuns}
 
@@ -23,35 +22,6 @@ symbols_from row column = symbols_of (visible_from column 0 (drop column row))
 -- the line of a row: the symbols of the cells that show
 unfoldable pub row_line : List Look → List ℕ
 row_line row = codes "r " ++ (symbols_of (visible row) ++ newline)
-
--- a hexadecimal digit, and the two digits of a byte
-abbrev pub hex_digit : ℕ → ℕ
-hex_digit n = slice_index_or (codes "0123456789abcdef") n 0
-
-abbrev pub hex_byte : ℕ → List ℕ
-hex_byte n = hex_digit (n / 16) ∷ hex_digit (n % 16) ∷ []
-
--- a colour's name, its red, green and blue in hexadecimal, or its index
-unfoldable pub color_text : Color → List ℕ
-color_text colors.Reset = codes "reset"
-color_text colors.Black = codes "black"
-color_text colors.Red = codes "red"
-color_text colors.Green = codes "green"
-color_text colors.Yellow = codes "yellow"
-color_text colors.Blue = codes "blue"
-color_text colors.Magenta = codes "magenta"
-color_text colors.Cyan = codes "cyan"
-color_text colors.Gray = codes "gray"
-color_text colors.DarkGray = codes "darkgray"
-color_text colors.LightRed = codes "lightred"
-color_text colors.LightGreen = codes "lightgreen"
-color_text colors.LightYellow = codes "lightyellow"
-color_text colors.LightBlue = codes "lightblue"
-color_text colors.LightMagenta = codes "lightmagenta"
-color_text colors.LightCyan = codes "lightcyan"
-color_text colors.White = codes "white"
-color_text (colors.Rgb red green blue) = codes "#" ++ (hex_byte red ++ (hex_byte green ++ hex_byte blue))
-color_text (colors.Indexed n) = decimal n
 
 -- the line of a run in a row: `s`, the row, the first column, the number of cells, the colours and the bits of the modifiers
 unfoldable pub run_line : ℕ → StyleRun → List ℕ

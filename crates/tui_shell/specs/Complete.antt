@@ -4,7 +4,7 @@ use Rattle.std.specs.declared.alloc.Global.{Global}
 use Rattle.serde_json.specs.Data.{Data}
 use Rattle.serde_json.specs.Read.{read}
 use Rattle.tui_port.specs.Causes.{Rose}
-use Rattle.tui_port.specs.Scene.{SceneData, scene_of}
+use Rattle.tui_schema.specs.Scene.{SceneData, scene_of}
 use Rattle.tui_shell.specs.Commands.{AreDemo, AreScene}
 use Rattle.tui_shell.specs.Endings.{Call}
 use Rattle.tui_shell.specs.declared.ended.Ended.{Ended}

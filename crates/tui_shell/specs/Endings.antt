@@ -8,7 +8,7 @@ use Rattle.tui_cells.specs.Buffer.{Screen}
 use Rattle.tui_scene.specs.Item.{PlacedData}
 use Rattle.tui_port.specs.Causes.{Gave, Puts, Rose, Told}
 use Rattle.tui_port.specs.Print.{IsPrint}
-use Rattle.tui_port.specs.Scene.{SceneData, scene_of}
+use Rattle.tui_schema.specs.Scene.{SceneData, scene_of}
 use Rattle.tui_shell.specs.Commands.{AreDemo, AreScene, AreWrong}
 use Rattle.tui_shell.specs.Demo.{IsDemo}
 use Rattle.tui_shell.specs.Drawn.{IsDrawn}

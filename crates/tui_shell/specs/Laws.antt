@@ -2,7 +2,7 @@
 use Rattle.std.specs.Prelude.{◌≡◌, ℕ, List}
 use Rattle.tui_cells.specs.Buffer.{Screen}
 use Rattle.tui_scene.specs.Item.{PlacedData}
-use Rattle.tui_port.specs.Scene.{SceneData}
+use Rattle.tui_schema.specs.Scene.{SceneData}
 use Rattle.tui_shell.specs.declared.ended.Ended.TheVariants as ended
 use Rattle.tui_shell.specs.Demo.{IsDemo}
 use Rattle.tui_shell.specs.Drawn.{IsDrawn}

@@ -2,7 +2,7 @@
 
 ghost use Rattle.std.specs.Prelude.{◌≡◌, ◌⊎◌};
 ghost use Rattle.serde_json.specs.View.{view};
-ghost use Rattle.tui_port.specs.Scene.{reading_data};
+ghost use Rattle.tui_schema.specs.Scene.{reading_data};
 ghost use Rattle.tui_shell.specs.Commands.{AreScene, AreWrong};
 ghost use Rattle.tui_shell.specs.Complete.{IsComplete, IsCompleteDemo};
 ghost use Rattle.tui_shell.specs.Endings.{Ends, EndsWith, IsDueFor, IsDueOf, call_of};
@@ -17,9 +17,8 @@ use crate::words::{demo_number, is_scene};
 use serde_json::Value;
 use std::alloc::Global;
 use tui_cells::NoMemory;
-use tui_port::{
-    ReadEnd, Reading, SceneError, Sink, Source, put_if, read_all, scene_of, write_screen,
-};
+use tui_port::{ReadEnd, Sink, Source, put_if, read_all, write_screen};
+use tui_schema::{Reading, SceneError, scene_of};
 
 /// Runs the command that the words name: `scene` alone reads a scene in JSON (docs/SCENE.md) from the source, draws it and
 /// writes the screen to the sink; `demo` and a number from 1 to 100000, in one to six digits, reads nothing, draws a list of so

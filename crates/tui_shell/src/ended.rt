@@ -3,7 +3,7 @@
 ghost use Rattle.std.specs.Prelude.{◌≡◌, if◌then◌else◌};
 
 use std::process::ExitCode;
-use tui_port::Field;
+use tui_schema::Field;
 
 /// How a run ends. Only `Ok` has written a screen whole; the endings from `Usage` to `BadField` have written one line that says so.
 #[derive(Clone, Copy, Debug, PartialEq, Eq)]

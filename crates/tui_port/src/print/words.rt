@@ -2,7 +2,7 @@
 
 ghost use Rattle.std.specs.Prelude.{◌<◌, ◌≡◌, decimal};
 ghost use Rattle.tui_port.specs.Gathers.{Gathers};
-ghost use Rattle.tui_port.specs.Print.{color_text, hex_digit};
+ghost use Rattle.tui_scene.specs.ColorText.{color_text, hex_digit};
 
 use crate::gather::Gather;
 use crate::sink::Sink;
@@ -30,7 +30,7 @@ fn put_digits<K: Sink>(gather: &mut Gather, n: usize, sink: &mut K)
 }
 
 /// Adds a colour: its name, `#` and six hexadecimal digits, or its index.
-#[tactic(auto, unfolding(crate::specs::Print::color_text))]
+#[tactic(auto, unfolding(tui_scene::specs::ColorText::color_text))]
 pub(crate) fn put_color<K: Sink>(gather: &mut Gather, color: Color, sink: &mut K)
     ensures { Gathers (K.told sink.old) (K.told sink.new) gather.old gather.new (color_text color) }
 {

@@ -1,6 +1,6 @@
 use Rattle.std.proofs.Common.{refl}
 use Rattle.std.specs.Result.{is_ok}
-use Rattle.tui_port.specs.Scene.{reading_data}
+use Rattle.tui_schema.specs.Scene.{reading_data}
 use Rattle.tui_shell.specs.declared.ended.Ended.TheVariants as ended
 use Rattle.tui_shell.specs.Endings.{IsDueOf}
 use Rattle.tui_shell.proofs.Ending.{puts_of, written}

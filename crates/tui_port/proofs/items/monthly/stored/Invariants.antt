@@ -1,6 +1,0 @@
-use Rattle.tui_bars.specs.CalendarEventStore.{dated_styles}
-use Rattle.tui_port.proofs.Stored.{AreStored}
-use Rattle.tui_port.proofs.items.monthly.stored.Given as goal
-
-abbrev pub invariant-loop-event : goal.invariant-loop-event
-invariant-loop-event l = AreStored (dated_styles l.store) l.events l.event-index

@@ -1,6 +1,0 @@
-use Rattle.std.proofs.Common.{refl}
-use Rattle.tui_port.proofs.kinds.bars.three_levels.Goals as goal
-
-pub returns : goal.returns
-unfolding lib.Utf8.encode
-returns c = refl

@@ -1,0 +1,29 @@
+-- The dates of a store, by the events that were added and those that are still to be.
+use Rattle.std.proofs.Common.{◌≡◌, ℕ, ◌+◌, ◌<◌, ◌≤◌, List, [], ◌∷◌, map, length, get_or, drop, refl, ap, ◌∙◌, add-one}
+use Rattle.std.proofs.lemmas.List.{drop_all}
+use Rattle.std.proofs.Math.Seq.{drop-cons}
+use Rattle.tui_bars.specs.CalendarEventStore.{DatedStyles, with_date}
+use Rattle.tui_bars.specs.Month.{date_data}
+use Rattle.tui_schema.specs.declared.kinds.event.Event.{Event}
+use Rattle.tui_schema.specs.Kinds.Event.{event_data, with_events}
+
+-- the events from number i on lead from these dates to all
+pub record AreStored (dates : DatedStyles) (events : List Event) (i : ℕ) : Type 0 where
+  pub rest : with_events dates (map event_data (drop i events)) ≡ with_events [] (map event_data events)
+
+pub none_stored : (dates : DatedStyles) (events : List Event) → dates ≡ [] → AreStored dates events 0
+none_stored dates events e = record { rest = ap (λ (ds : DatedStyles). with_events ds (map event_data events)) e }
+
+pub one_more : (dates now : DatedStyles) (events : List Event) (i : ℕ) (e : Event) → i < length events → e ≡ get_or events i e →
+    now ≡ with_date dates (date_data e.date) e.style → AreStored dates events i → AreStored now events (i + 1)
+one_more dates now events i e lt at added stored = record {
+  rest =
+      let here : drop i events ≡ e ∷ drop (i + 1) events = rw (add-one, drop-cons events i e lt, ← at) refl in
+      let before : with_events (with_date dates (date_data e.date) e.style) (map event_data (drop (i + 1) events)) ≡ with_events [] (map event_data events) =
+      rw here at stored.rest in
+      ap (λ (ds : DatedStyles). with_events ds (map event_data (drop (i + 1) events))) added ∙ before;
+}
+
+pub all_stored : (dates : DatedStyles) (events : List Event) (i : ℕ) → length events ≤ i → AreStored dates events i →
+    dates ≡ with_events [] (map event_data events)
+all_stored dates events i le stored = rw (drop_all i events le) at stored.rest

@@ -1,0 +1,110 @@
+-- Items: their fields in order, the first whose test fails being the refusal.
+pub mod Block
+pub mod ChartFields
+pub mod Fill
+pub mod GaugeFields
+pub mod ListFields
+pub mod Logo
+pub mod MonthlyFields
+pub mod ScrollbarFields
+pub mod TableFields
+pub mod TabsFields
+pub mod Paragraph
+pub mod Names
+use Rattle.std.specs.Prelude.{ℕ, ◌+◌, List, [], ◌∷◌, Option, Some, None, Result, Ok, Err}
+use Rattle.serde_json.specs.Data.{Data, Items, no_items, item}
+use Rattle.tui_scene.specs.Item.{
+  ItemData,
+  PlacedData,
+  bar_chart,
+  block,
+  clear,
+  fill,
+  gauge,
+  line_gauge,
+  list,
+  logo,
+  monthly,
+  paragraph,
+  scrollbar,
+  sparkline,
+  still,
+  table,
+  tabs,
+}
+use Rattle.tui_schema.specs.declared.field.Field.TheVariants as fields
+use Rattle.tui_schema.specs.declared.items.widget.Widget.{Widget}
+use Rattle.tui_schema.specs.declared.items.widget.Widget.TheVariants as widgets
+use Rattle.tui_schema.specs.Items.Block.{block_in}
+use Rattle.tui_schema.specs.Items.ChartFields.{shown_chart, shown_sparkline}
+use Rattle.tui_schema.specs.Items.Fill.{fill_of}
+use Rattle.tui_schema.specs.Items.GaugeFields.{shown_gauge, shown_line_gauge}
+use Rattle.tui_schema.specs.Items.ListFields.{shown_list}
+use Rattle.tui_schema.specs.Items.Logo.{logo_of}
+use Rattle.tui_schema.specs.Items.MonthlyFields.{shown_monthly}
+use Rattle.tui_schema.specs.Items.Paragraph.{paragraph_of}
+use Rattle.tui_schema.specs.Items.Names.{widget_of}
+use Rattle.tui_schema.specs.Items.ScrollbarFields.{shown_scrollbar}
+use Rattle.tui_schema.specs.Items.TableFields.{shown_table}
+use Rattle.tui_schema.specs.Items.TabsFields.{shown_tabs}
+use Rattle.tui_schema.specs.Kinds.Area.{area_of}
+use Rattle.tui_schema.specs.Refusals.{Refusal, ◌>>=◌, required}
+
+-- the fields of a widget
+abbrev pub shown_of : Widget → Option ℕ → Data → Result ItemData Refusal
+shown_of widgets.Clear i d = Ok (still clear)
+shown_of widgets.Fill i d = do
+  x ← fill_of i d
+  Ok (still (fill x))
+shown_of widgets.Block i d = do
+  x ← block_in i d
+  Ok (still (block x))
+shown_of widgets.Paragraph i d = do
+  x ← paragraph_of i d
+  Ok (still (paragraph x))
+shown_of widgets.List i d = do
+  x ← shown_list i d
+  Ok (list x.0 x.1)
+shown_of widgets.Table i d = do
+  x ← shown_table i d
+  Ok (table x.0 x.1)
+shown_of widgets.Tabs i d = do
+  x ← shown_tabs i d
+  Ok (still (tabs x))
+shown_of widgets.Scrollbar i d = do
+  x ← shown_scrollbar i d
+  Ok (scrollbar x.0 x.1)
+shown_of widgets.Gauge i d = do
+  x ← shown_gauge i d
+  Ok (still (gauge x))
+shown_of widgets.LineGauge i d = do
+  x ← shown_line_gauge i d
+  Ok (still (line_gauge x))
+shown_of widgets.BarChart i d = do
+  x ← shown_chart i d
+  Ok (still (bar_chart x))
+shown_of widgets.Sparkline i d = do
+  x ← shown_sparkline i d
+  Ok (still (sparkline x))
+shown_of widgets.Monthly i d = do
+  x ← shown_monthly i d
+  Ok (still (monthly x.0 x.1))
+shown_of widgets.Logo i d = do
+  size ← logo_of i d
+  Ok (still (logo size))
+
+-- the item of number i
+unfoldable pub item_of : ℕ → Data → Result PlacedData Refusal
+item_of i d = do
+  widget ← required widget_of (Some i) fields.Widget d
+  area ← required area_of (Some i) fields.Area d
+  shown ← shown_of widget (Some i) d
+  Ok (record { area = area; item = shown })
+
+-- the items from number i on
+unfoldable pub items_of : ℕ → Items → Result (List PlacedData) Refusal
+items_of i no_items = Ok []
+items_of i (item d ds) = do
+  first ← item_of i d
+  rest ← items_of (i + 1) ds
+  Ok (first ∷ rest)

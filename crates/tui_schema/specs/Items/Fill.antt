@@ -1,0 +1,15 @@
+-- The fields of `fill`.
+use Rattle.std.specs.Prelude.{ℕ, Option, Result, Ok, unwrap_or}
+use Rattle.serde_json.specs.Data.{Data}
+use Rattle.tui_cells.specs.Style.{no_style}
+use Rattle.tui_frames.specs.Fill.{FillData}
+use Rattle.tui_schema.specs.declared.field.Field.TheVariants as fields
+use Rattle.tui_schema.specs.Kinds.Style.{style_of}
+use Rattle.tui_schema.specs.Kinds.Symbol.{symbol_of}
+use Rattle.tui_schema.specs.Refusals.{Refusal, ◌>>=◌, required, optional}
+
+unfoldable pub fill_of : Option ℕ → Data → Result FillData Refusal
+fill_of i d = do
+  symbol ← required symbol_of i fields.Symbol d
+  style ← optional style_of i fields.Style d
+  Ok (record { symbol = symbol; style = unwrap_or style no_style })

@@ -1,0 +1,111 @@
+-- The fields of `gauge` and of `line_gauge`.
+use Rattle.std.specs.Prelude.{ℕ, false, Bool, ◌&&◌, nat_le, nat_lt, Option, Some, None, Result, Ok, Err, unwrap_or, if◌then◌else◌}
+use Rattle.std.specs.Option.{option_or}
+use Rattle.serde_json.specs.Data.{Data}
+use Rattle.serde_json.specs.Find.{as_bool}
+use Rattle.tui_cells.specs.Style.{no_style}
+use Rattle.tui_bars.specs.Gauge.{GaugeData, empty_gauge}
+use Rattle.tui_bars.specs.LineGauge.{LineGaugeData, empty_line_gauge}
+use Rattle.tui_layout.specs.declared.fraction.Fraction.{Fraction}
+use Rattle.tui_schema.specs.declared.field.Field.{Field}
+use Rattle.tui_schema.specs.declared.field.Field.TheVariants as fields
+use Rattle.tui_schema.specs.Kinds.Block.{block_of}
+use Rattle.tui_schema.specs.Kinds.Fraction.{fraction_of}
+use Rattle.tui_schema.specs.Kinds.Line.{line_of}
+use Rattle.tui_schema.specs.Kinds.Number.{u16_of}
+use Rattle.tui_schema.specs.Kinds.Span.{span_of}
+use Rattle.tui_schema.specs.Kinds.Style.{style_of}
+use Rattle.tui_schema.specs.Kinds.Symbol.{symbol_of}
+use Rattle.tui_schema.specs.Refusals.{Refusal, ◌>>=◌, optional}
+
+-- a share: not above 1, of something
+abbrev pub is_share : Fraction → Bool
+is_share f = nat_lt 0 f.den && nat_le f.num f.den
+
+-- a value where a test holds, else a refusal of a field
+abbrev pub if_holds : {A : Type 0} → Bool → Option ℕ → Field → A → Result A Refusal
+if_holds test i f x = if test then Ok x else Err (record { item = i; field = f })
+
+-- a gauge with a share, and with a percentage
+abbrev pub gauge_with_ratio : Option ℕ → GaugeData → Option Fraction → Result GaugeData Refusal
+gauge_with_ratio i g None = Ok g
+gauge_with_ratio i g (Some f) = if_holds (is_share f) i fields.Ratio (record g { num = f.num; den = f.den })
+
+abbrev pub gauge_with_percent : Option ℕ → GaugeData → Option ℕ → Result GaugeData Refusal
+gauge_with_percent i g None = Ok g
+gauge_with_percent i g (Some percent) = if_holds (nat_le percent 100) i fields.Percent (record g { num = percent; den = 100 })
+
+-- `percent` comes before `ratio`, but both are tested
+unfoldable pub shared_gauge : Option ℕ → Data → Result GaugeData Refusal
+shared_gauge i d = do
+  ratio ← optional fraction_of i fields.Ratio d
+  shared ← gauge_with_ratio i empty_gauge ratio
+  percent ← optional u16_of i fields.Percent d
+  gauge_with_percent i shared percent
+
+-- with its block and its style
+unfoldable pub framed_gauge : Option ℕ → Data → Result GaugeData Refusal
+framed_gauge i d = do
+  block ← optional block_of i fields.Block d
+  style ← optional style_of i fields.Style d
+  shared ← shared_gauge i d
+  Ok (record shared { block = option_or block shared.block; style = unwrap_or style no_style })
+
+-- with its label and what it is filled with
+unfoldable pub filled_gauge : GaugeData → Option ℕ → Data → Result GaugeData Refusal
+filled_gauge g i d = do
+  label ← optional span_of i fields.Label d
+  gauge_style ← optional style_of i fields.GaugeStyle d
+  use_unicode ← optional as_bool i fields.UseUnicode d
+  Ok (record g {
+    label = option_or label g.label;
+    gauge_style = unwrap_or gauge_style no_style;
+    use_unicode = unwrap_or use_unicode false;
+  })
+
+unfoldable pub shown_gauge : Option ℕ → Data → Result GaugeData Refusal
+shown_gauge i d = do
+  framed ← framed_gauge i d
+  filled_gauge framed i d
+
+-- a line gauge with a share
+abbrev pub line_with_ratio : Option ℕ → LineGaugeData → Option Fraction → Result LineGaugeData Refusal
+line_with_ratio i g None = Ok g
+line_with_ratio i g (Some f) = if_holds (is_share f) i fields.Ratio (record g { num = f.num; den = f.den })
+
+unfoldable pub shared_line : Option ℕ → Data → Result LineGaugeData Refusal
+shared_line i d = do
+  ratio ← optional fraction_of i fields.Ratio d
+  line_with_ratio i empty_line_gauge ratio
+
+-- with its symbols and their styles
+unfoldable pub drawn_line : LineGaugeData → Option ℕ → Data → Result LineGaugeData Refusal
+drawn_line g i d = do
+  filled ← optional symbol_of i fields.FilledSymbol d
+  unfilled ← optional symbol_of i fields.UnfilledSymbol d
+  filled_style ← optional style_of i fields.FilledStyle d
+  unfilled_style ← optional style_of i fields.UnfilledStyle d
+  Ok (record g {
+    filled = unwrap_or filled g.filled;
+    unfilled = unwrap_or unfilled g.unfilled;
+    filled_style = unwrap_or filled_style no_style;
+    unfilled_style = unwrap_or unfilled_style no_style;
+  })
+
+-- with its block, its style and its label
+unfoldable pub framed_line : Option ℕ → Data → Result LineGaugeData Refusal
+framed_line i d = do
+  block ← optional block_of i fields.Block d
+  style ← optional style_of i fields.Style d
+  shared ← shared_line i d
+  label ← optional line_of i fields.Label d
+  Ok (record shared {
+    block = option_or block shared.block;
+    label = option_or label shared.label;
+    style = unwrap_or style no_style;
+  })
+
+unfoldable pub shown_line_gauge : Option ℕ → Data → Result LineGaugeData Refusal
+shown_line_gauge i d = do
+  framed ← framed_line i d
+  drawn_line framed i d

@@ -1,0 +1,69 @@
+-- The fields of `scrollbar`.
+use Rattle.std.specs.Prelude.{ℕ, Option, Result, Ok, unwrap_or}
+use Rattle.serde_json.specs.Data.{Data}
+use Rattle.tui_cells.specs.Style.{no_style}
+use Rattle.tui_cells.specs.declared.style.Style.{Style}
+use Rattle.tui_lists.specs.Scrollbar.{ScrollbarData, scrollbar_of as new_scrollbar}
+use Rattle.tui_lists.specs.declared.scrollbar.orientation.ScrollbarOrientation.TheVariants.{VerticalRight}
+use Rattle.tui_lists.specs.declared.scrollbar.state.ScrollbarState.{ScrollbarState}
+use Rattle.tui_schema.specs.declared.field.Field.TheVariants as fields
+use Rattle.tui_schema.specs.Kinds.Members.{or_null}
+use Rattle.tui_schema.specs.Kinds.Named.{named_of}
+use Rattle.tui_schema.specs.Kinds.Names.{orientations}
+use Rattle.tui_schema.specs.Kinds.Number.{u64_of}
+use Rattle.tui_schema.specs.Kinds.Style.{style_of}
+use Rattle.tui_schema.specs.Kinds.Symbol.{symbol_of}
+use Rattle.tui_schema.specs.Refusals.{Refusal, ◌>>=◌, given, optional}
+
+-- with its symbols; null for one that may be left out leaves it out
+unfoldable pub signed_scrollbar : ScrollbarData → Option ℕ → Data → Result ScrollbarData Refusal
+signed_scrollbar s i d = do
+  thumb ← optional symbol_of i fields.ThumbSymbol d
+  track ← given (or_null symbol_of) i fields.TrackSymbol d
+  begin ← given (or_null symbol_of) i fields.BeginSymbol d
+  end ← given (or_null symbol_of) i fields.EndSymbol d
+  Ok (record s {
+    thumb = unwrap_or thumb s.thumb;
+    track = unwrap_or track s.track;
+    begin = unwrap_or begin s.begin;
+    end = unwrap_or end s.end;
+  })
+
+-- with one style for all parts
+abbrev pub in_style : Style → ScrollbarData → ScrollbarData
+in_style style s = record s { thumb_style = style; track_style = style; begin_style = style; end_style = style }
+
+-- with the styles of single parts
+unfoldable pub dressed_scrollbar : ScrollbarData → Option ℕ → Data → Result ScrollbarData Refusal
+dressed_scrollbar s i d = do
+  thumb ← optional style_of i fields.ThumbStyle d
+  track ← optional style_of i fields.TrackStyle d
+  begin ← optional style_of i fields.BeginStyle d
+  end ← optional style_of i fields.EndStyle d
+  Ok (record s {
+    thumb_style = unwrap_or thumb s.thumb_style;
+    track_style = unwrap_or track s.track_style;
+    begin_style = unwrap_or begin s.begin_style;
+    end_style = unwrap_or end s.end_style;
+  })
+
+unfoldable pub scrollbar_state_of : Option ℕ → Data → Result ScrollbarState Refusal
+scrollbar_state_of i d = do
+  content ← optional u64_of i fields.ContentLength d
+  position ← optional u64_of i fields.Position d
+  viewport ← optional u64_of i fields.ViewportContentLength d
+  Ok (record {
+    content_length = unwrap_or content 0;
+    position = unwrap_or position 0;
+    viewport_content_length = unwrap_or viewport 0;
+  })
+
+-- a scrollbar, and what it shows
+unfoldable pub shown_scrollbar : Option ℕ → Data → Result (ScrollbarData × ScrollbarState) Refusal
+shown_scrollbar i d = do
+  style ← optional style_of i fields.Style d
+  orientation ← optional (named_of orientations) i fields.Orientation d
+  signed ← signed_scrollbar (in_style (unwrap_or style no_style) (new_scrollbar (unwrap_or orientation VerticalRight))) i d
+  dressed ← dressed_scrollbar signed i d
+  state ← scrollbar_state_of i d
+  Ok (dressed, state)

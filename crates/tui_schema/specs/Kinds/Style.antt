@@ -1,0 +1,28 @@
+-- Styles: objects of colours and modifiers.
+use Rattle.std.specs.Prelude.{Option, Some, None, codes}
+use Rattle.serde_json.specs.Data.{Data}
+use Rattle.serde_json.specs.Find.{as_object}
+use Rattle.tui_cells.specs.declared.color.Color.{Color}
+use Rattle.tui_cells.specs.declared.modifier.Modifier.{Modifier}
+use Rattle.tui_cells.specs.declared.style.Style.{Style}
+use Rattle.tui_cells.specs.Style.{no_modifier, other_modifiers}
+use Rattle.tui_schema.specs.Kinds.Members.{◌>>=◌, optional_member}
+use Rattle.tui_schema.specs.Kinds.Color.{color_of}
+use Rattle.tui_schema.specs.Kinds.Modifier.{modifiers_of}
+
+abbrev pub modifiers_or_none : Option Modifier → Modifier
+modifiers_or_none None = no_modifier
+modifiers_or_none (Some modifiers) = modifiers
+
+-- colours with modifiers that are added first and then removed, so that what is in both lists is removed
+abbrev pub dressed : Option Color → Option Color → Modifier → Modifier → Style
+dressed fg bg added removed = record { fg = fg; bg = bg; add_modifier = other_modifiers added removed; sub_modifier = removed }
+
+unfoldable pub style_of : Data → Option Style
+style_of d = do
+  members ← as_object d
+  fg ← optional_member color_of (codes "fg") d
+  bg ← optional_member color_of (codes "bg") d
+  add ← optional_member modifiers_of (codes "add") d
+  sub ← optional_member modifiers_of (codes "sub") d
+  Some (dressed fg bg (modifiers_or_none add) (modifiers_or_none sub))

@@ -1,0 +1,21 @@
+-- Texts: a text that is cut into lines, an array of lines, or an object with `lines` and perhaps `style` and `alignment`.
+use Rattle.std.specs.Prelude.{Option, Some, unwrap_or, codes}
+use Rattle.serde_json.specs.Data.{Data, string, array}
+use Rattle.tui_cells.specs.Style.{no_style}
+use Rattle.tui_text.specs.Text.{TextData, empty_text, raw_text}
+use Rattle.tui_schema.specs.Kinds.Members.{◌>>=◌, list_of, member, optional_member}
+use Rattle.tui_schema.specs.Kinds.Named.{named_of}
+use Rattle.tui_schema.specs.Kinds.Names.{alignments}
+use Rattle.tui_schema.specs.Kinds.Line.{line_of}
+use Rattle.tui_schema.specs.Kinds.Style.{style_of}
+
+unfoldable pub text_of : Data → Option TextData
+text_of (string s) = Some (raw_text s)
+text_of (array ds) = do
+  lines ← list_of line_of (array ds)
+  Some (record empty_text { lines = lines })
+text_of d = do
+  lines ← member (list_of line_of) (codes "lines") d
+  style ← optional_member style_of (codes "style") d
+  alignment ← optional_member (named_of alignments) (codes "alignment") d
+  Some (record { lines = lines; style = unwrap_or style no_style; alignment = alignment })

@@ -1,0 +1,11 @@
+-- How lines are broken: an object with the member `trim`.
+use Rattle.std.specs.Prelude.{Option, Some, codes}
+use Rattle.serde_json.specs.Data.{Data}
+use Rattle.serde_json.specs.Find.{as_bool}
+use Rattle.tui_para.specs.declared.wrap.Wrap.{Wrap}
+use Rattle.tui_schema.specs.Kinds.Members.{◌>>=◌, member}
+
+unfoldable pub wrap_of : Data → Option Wrap
+wrap_of d = do
+  trim ← member as_bool (codes "trim") d
+  Some (record { trim = trim })

@@ -1,0 +1,5 @@
+pub mod Field
+pub mod Items
+pub mod Kinds
+pub mod Refusals
+pub mod Scene

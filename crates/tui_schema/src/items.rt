@@ -1,0 +1,94 @@
+//! Items: a widget and its area, each widget read by the fields of its table in order.
+
+mod bar_chart;
+mod block;
+mod fill;
+mod gauge;
+mod line_gauge;
+mod list;
+mod logo;
+mod monthly;
+mod paragraph;
+mod scrollbar;
+mod sparkline;
+mod table;
+mod tabs;
+mod widget;
+
+ghost use Rattle.serde_json.specs.View.{view};
+ghost use Rattle.tui_scene.specs.Item.{item_data, placed_data};
+ghost use Rattle.tui_schema.specs.Items.{item_of, shown_of};
+ghost use Rattle.tui_schema.specs.Refusals.{Gives};
+
+use crate::error::SceneError;
+use crate::field::Field;
+use crate::items::bar_chart::read_bar_chart;
+use crate::items::block::read_block;
+use crate::items::fill::read_fill;
+use crate::items::gauge::read_gauge;
+use crate::items::line_gauge::read_line_gauge;
+use crate::items::list::read_list;
+use crate::items::logo::read_logo;
+use crate::items::monthly::read_monthly;
+use crate::items::paragraph::read_paragraph;
+use crate::items::scrollbar::read_scrollbar;
+use crate::items::sparkline::read_sparkline;
+use crate::items::table::read_table;
+use crate::items::tabs::read_tabs;
+use crate::items::widget::Widget;
+use crate::table::required;
+use serde_json::Value;
+use std::alloc::Global;
+use tui_frames::Clear;
+use tui_scene::{Item, Placed};
+
+fn read_shown<'v>(
+    alloc: Global,
+    widget: Widget,
+    item: Option<usize>,
+    value: &'v Value,
+) -> Result<Item<'v>, SceneError>
+    ensures { Gives item_data result (shown_of widget item (view value.now)) }
+{
+    Ok(match widget {
+        Widget::Clear => Item::Clear(Clear),
+        Widget::Fill => Item::Fill(read_fill(alloc, item, value)?),
+        Widget::Block => Item::Block(read_block(alloc, item, value)?),
+        Widget::Paragraph => Item::Paragraph(read_paragraph(alloc, item, value)?),
+        Widget::List => {
+            let (list, state) = read_list(alloc, item, value)?;
+            Item::List(list, state)
+        }
+        Widget::Table => {
+            let (table, state) = read_table(alloc, item, value)?;
+            Item::Table(table, state)
+        }
+        Widget::Tabs => Item::Tabs(read_tabs(alloc, item, value)?),
+        Widget::Scrollbar => {
+            let (scrollbar, state) = read_scrollbar(alloc, item, value)?;
+            Item::Scrollbar(scrollbar, state)
+        }
+        Widget::Gauge => Item::Gauge(read_gauge(alloc, item, value)?),
+        Widget::LineGauge => Item::LineGauge(read_line_gauge(alloc, item, value)?),
+        Widget::BarChart => Item::BarChart(read_bar_chart(alloc, item, value)?),
+        Widget::Sparkline => Item::Sparkline(read_sparkline(alloc, item, value)?),
+        Widget::Monthly => Item::Monthly(read_monthly(alloc, item, value)?),
+        Widget::Logo => Item::Logo(read_logo(alloc, item, value)?),
+    })
+}
+
+/// The item of this number, from 0.
+#[tactic(auto, unfolding(crate::specs::Items::item_of))]
+pub(crate) fn read_item<'v>(
+    alloc: Global,
+    item: usize,
+    value: &'v Value,
+) -> Result<Placed<'v>, SceneError>
+    ensures { Gives placed_data result (item_of item (view value.now)) }
+{
+    let item = Some(item);
+    let widget = required(alloc, item, Field::Widget, value)?;
+    let area = required(alloc, item, Field::Area, value)?;
+    let item = read_shown(alloc, widget, item, value)?;
+    Ok(Placed { area, item })
+}

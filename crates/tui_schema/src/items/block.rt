@@ -1,0 +1,25 @@
+//! The field of `block`.
+
+ghost use Rattle.serde_json.specs.View.{view};
+ghost use Rattle.tui_frames.specs.Block.{block_data};
+ghost use Rattle.tui_schema.specs.Items.Block.{block_in};
+ghost use Rattle.tui_schema.specs.Refusals.{Gives};
+
+use crate::error::SceneError;
+use crate::field::Field;
+use crate::table::optional;
+use serde_json::Value;
+use std::alloc::Global;
+use tui_frames::Block;
+
+#[tactic(auto, unfolding(crate::specs::Items::Block::block_in))]
+pub(crate) fn read_block<'v>(
+    alloc: Global,
+    item: Option<usize>,
+    value: &'v Value,
+) -> Result<Block<'v>, SceneError>
+    ensures { Gives block_data result (block_in item (view value.now)) }
+{
+    let block: Option<Block<'v>> = optional(alloc, item, Field::Block, value)?;
+    Ok(block.unwrap_or(Block::new(alloc)))
+}

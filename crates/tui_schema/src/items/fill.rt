@@ -1,0 +1,28 @@
+//! The fields of `fill`.
+
+ghost use Rattle.serde_json.specs.View.{view};
+ghost use Rattle.tui_frames.specs.Fill.{fill_data};
+ghost use Rattle.tui_schema.specs.Items.Fill.{fill_of};
+ghost use Rattle.tui_schema.specs.Refusals.{Gives};
+
+use crate::error::SceneError;
+use crate::field::Field;
+use crate::kinds::Symbol;
+use crate::table::{optional, required};
+use serde_json::Value;
+use std::alloc::Global;
+use tui_cells::Style;
+use tui_frames::Fill;
+
+#[tactic(auto, unfolding(crate::specs::Items::Fill::fill_of))]
+pub(crate) fn read_fill<'v>(
+    alloc: Global,
+    item: Option<usize>,
+    value: &'v Value,
+) -> Result<Fill<'v>, SceneError>
+    ensures { Gives fill_data result (fill_of item (view value.now)) }
+{
+    let Symbol(symbol) = required(alloc, item, Field::Symbol, value)?;
+    let style: Option<Style> = optional(alloc, item, Field::Style, value)?;
+    Ok(Fill::new(symbol).style(style.unwrap_or(Style::new())))
+}

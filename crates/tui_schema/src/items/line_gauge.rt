@@ -1,0 +1,142 @@
+//! The fields of `line_gauge`.
+
+ghost use Rattle.std.specs.Prelude.{◌≡◌, option_map, unwrap_or};
+ghost use Rattle.std.specs.Option.{option_or};
+ghost use Rattle.serde_json.specs.View.{view};
+ghost use Rattle.tui_bars.specs.LineGauge.{line_gauge_data};
+ghost use Rattle.tui_frames.specs.Block.{block_data};
+ghost use Rattle.tui_schema.specs.Items.GaugeFields.{drawn_line, framed_line, line_with_ratio, shared_line, shown_line_gauge};
+ghost use Rattle.tui_schema.specs.Refusals.{Gives};
+ghost use Rattle.tui_text.specs.Line.{line_data};
+
+use crate::error::SceneError;
+use crate::field::Field;
+use crate::kinds::Symbol;
+use crate::table::optional;
+use serde_json::Value;
+use std::alloc::Global;
+use tui_bars::LineGauge;
+use tui_cells::Style;
+use tui_frames::Block;
+use tui_layout::Fraction;
+use tui_text::Line;
+
+fn with_ratio<'v>(
+    item: Option<usize>,
+    gauge: LineGauge<'v>,
+    ratio: Option<Fraction>,
+) -> Result<LineGauge<'v>, SceneError>
+    ensures { Gives line_gauge_data result (line_with_ratio item (line_gauge_data gauge.entry) ratio) }
+{
+    let Some(ratio) = ratio else {
+        return Ok(gauge);
+    };
+    match gauge.ratio(ratio) {
+        Ok(gauge) => Ok(gauge),
+        Err(_) => Err(SceneError::BadField {
+            item,
+            field: Field::Ratio,
+        }),
+    }
+}
+
+#[tactic(auto, unfolding(crate::specs::Items::GaugeFields::shared_line))]
+fn read_share<'v>(
+    alloc: Global,
+    item: Option<usize>,
+    value: &'v Value,
+) -> Result<LineGauge<'v>, SceneError>
+    ensures { Gives line_gauge_data result (shared_line item (view value.now)) }
+{
+    let ratio: Option<Fraction> = optional(alloc, item, Field::Ratio, value)?;
+    with_ratio(item, LineGauge::default(), ratio)
+}
+
+/// A line gauge in a block, and with a label.
+fn framed<'v>(
+    gauge: LineGauge<'v>,
+    block: Option<Block<'v>>,
+    label: Option<Line<'v>>,
+) -> LineGauge<'v>
+    ensures { line_gauge_data result ≡ record (line_gauge_data gauge.entry) {
+      block = option_or (option_map block_data block.entry) (line_gauge_data gauge.entry).block;
+      label = option_or (option_map line_data label.entry) (line_gauge_data gauge.entry).label;
+    } }
+{
+    let gauge = match block {
+        Some(block) => gauge.block(block),
+        None => gauge,
+    };
+    match label {
+        Some(label) => gauge.label(label),
+        None => gauge,
+    }
+}
+
+#[tactic(auto, unfolding(crate::specs::Items::GaugeFields::framed_line))]
+fn read_frame<'v>(
+    alloc: Global,
+    item: Option<usize>,
+    value: &'v Value,
+) -> Result<LineGauge<'v>, SceneError>
+    ensures { Gives line_gauge_data result (framed_line item (view value.now)) }
+{
+    let block: Option<Block<'v>> = optional(alloc, item, Field::Block, value)?;
+    let style: Option<Style> = optional(alloc, item, Field::Style, value)?;
+    let gauge = read_share(alloc, item, value)?;
+    let label: Option<Line<'v>> = optional(alloc, item, Field::Label, value)?;
+    Ok(framed(gauge, block, label).style(style.unwrap_or(Style::new())))
+}
+
+/// A line gauge with these symbols, where they are given.
+fn with_symbols<'v>(
+    gauge: LineGauge<'v>,
+    filled: Option<Symbol<'v>>,
+    unfilled: Option<Symbol<'v>>,
+) -> LineGauge<'v>
+    ensures { line_gauge_data result ≡ record (line_gauge_data gauge.entry) {
+      filled = unwrap_or (option_map (λ s. s.0.now) filled.entry) (line_gauge_data gauge.entry).filled;
+      unfilled = unwrap_or (option_map (λ s. s.0.now) unfilled.entry) (line_gauge_data gauge.entry).unfilled;
+    } }
+{
+    let gauge = match filled {
+        Some(Symbol(symbol)) => gauge.filled_symbol(symbol),
+        None => gauge,
+    };
+    match unfilled {
+        Some(Symbol(symbol)) => gauge.unfilled_symbol(symbol),
+        None => gauge,
+    }
+}
+
+#[tactic(auto, unfolding(crate::specs::Items::GaugeFields::drawn_line))]
+fn read_line<'v>(
+    alloc: Global,
+    gauge: LineGauge<'v>,
+    item: Option<usize>,
+    value: &'v Value,
+) -> Result<LineGauge<'v>, SceneError>
+    ensures { Gives line_gauge_data result (drawn_line (line_gauge_data gauge.entry) item (view value.now)) }
+{
+    let filled: Option<Symbol<'v>> = optional(alloc, item, Field::FilledSymbol, value)?;
+    let unfilled: Option<Symbol<'v>> = optional(alloc, item, Field::UnfilledSymbol, value)?;
+    let filled_style: Option<Style> = optional(alloc, item, Field::FilledStyle, value)?;
+    let unfilled_style: Option<Style> = optional(alloc, item, Field::UnfilledStyle, value)?;
+    Ok(
+        with_symbols(gauge, filled, unfilled)
+            .filled_style(filled_style.unwrap_or(Style::new()))
+            .unfilled_style(unfilled_style.unwrap_or(Style::new())),
+    )
+}
+
+#[tactic(auto, unfolding(crate::specs::Items::GaugeFields::shown_line_gauge))]
+pub(crate) fn read_line_gauge<'v>(
+    alloc: Global,
+    item: Option<usize>,
+    value: &'v Value,
+) -> Result<LineGauge<'v>, SceneError>
+    ensures { Gives line_gauge_data result (shown_line_gauge item (view value.now)) }
+{
+    let gauge = read_frame(alloc, item, value)?;
+    read_line(alloc, gauge, item, value)
+}

@@ -1,0 +1,36 @@
+//! Dates with a style: `{"date": .., "style": ..}`.
+
+ghost use Rattle.tui_schema.specs.Kinds.Event.{event_of};
+
+use crate::kinds::kind::{Kind, KindError};
+use crate::kinds::member::member;
+use jiff::civil::Date;
+use serde_json::Value;
+use std::alloc::Global;
+use tui_cells::Style;
+
+/// A date with a style.
+#[derive(Drop)]
+pub(crate) struct Event {
+    pub(crate) date: Date,
+    pub(crate) style: Style,
+}
+
+impl<'v> Kind<'v> for Event {
+    ghost use Rattle.tui_bars.specs.Month.{DateData};
+    ghost use Rattle.tui_cells.specs.declared.style.Style.{Style};
+    ghost use Rattle.tui_schema.specs.Kinds.Event.{event_data};
+
+    ghost Seen = { DateData × Style };
+
+    ghost seen = { event_data };
+
+    ghost kind = { event_of };
+
+    #[tactic(auto, unfolding(crate::specs::Kinds::Event::event_of))]
+    fn read(alloc: Global, value: &'v Value) -> Result<Event, KindError> {
+        let date: Date = member(alloc, value, "date")?;
+        let style: Style = member(alloc, value, "style")?;
+        Ok(Event { date, style })
+    }
+}

@@ -1,0 +1,24 @@
+//! Fractions: `[num, den]`.
+
+ghost use Rattle.tui_schema.specs.Kinds.Fraction.{fraction_of};
+
+use crate::kinds::kind::{Kind, KindError};
+use serde_json::Value;
+use std::alloc::Global;
+use tui_layout::Fraction;
+
+impl<'v> Kind<'v> for Fraction {
+    ghost use Rattle.tui_layout.specs.declared.fraction.Fraction.{Fraction};
+
+    ghost Seen = { Fraction };
+
+    ghost seen = { λ fraction. fraction };
+
+    ghost kind = { fraction_of };
+
+    #[tactic(auto, unfolding(crate::specs::Kinds::Fraction::fraction_of))]
+    fn read(alloc: Global, value: &'v Value) -> Result<Fraction, KindError> {
+        let (num, den): (u64, u64) = Kind::read(alloc, value)?;
+        Ok(Fraction::new(num, den))
+    }
+}

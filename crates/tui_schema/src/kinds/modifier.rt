@@ -1,0 +1,56 @@
+//! Modifiers: arrays of names.
+
+ghost use Rattle.std.specs.Prelude.{◌≡◌};
+ghost use Rattle.serde_json.specs.View.{view, items_view};
+ghost use Rattle.tui_cells.specs.Style.{both_modifiers, no_modifier};
+ghost use Rattle.tui_schema.specs.Kinds.Members.{joined_of};
+ghost use Rattle.tui_schema.specs.Kinds.Modifier.{modifier_named, modifiers_of};
+
+use crate::kinds::array::elements;
+use crate::kinds::kind::{Kind, KindError};
+use serde_json::Value;
+use std::alloc::Global;
+use tui_cells::Modifier;
+
+#[tactic(auto, unfolding(crate::specs::Kinds::Modifier::modifier_named))]
+fn named_modifier(value: &Value) -> Option<Modifier>
+    ensures { result ≡ modifier_named (view value.now) }
+{
+    match value.as_str()? {
+        "bold" => Some(Modifier::BOLD),
+        "dim" => Some(Modifier::DIM),
+        "italic" => Some(Modifier::ITALIC),
+        "underlined" => Some(Modifier::UNDERLINED),
+        "slow_blink" => Some(Modifier::SLOW_BLINK),
+        "rapid_blink" => Some(Modifier::RAPID_BLINK),
+        "reversed" => Some(Modifier::REVERSED),
+        "hidden" => Some(Modifier::HIDDEN),
+        "crossed_out" => Some(Modifier::CROSSED_OUT),
+        _ => None,
+    }
+}
+
+fn all_modifiers(names: &[Value]) -> Option<Modifier>
+    ensures { result ≡ joined_of both_modifiers modifier_named no_modifier (items_view names.now) }
+{
+    let mut modifiers = Modifier::empty();
+    for name in names {
+        modifiers = modifiers.union(named_modifier(name)?);
+    }
+    Some(modifiers)
+}
+
+impl<'v> Kind<'v> for Modifier {
+    ghost use Rattle.tui_cells.specs.declared.modifier.Modifier.{Modifier};
+
+    ghost Seen = { Modifier };
+
+    ghost seen = { λ modifier. modifier };
+
+    ghost kind = { modifiers_of };
+
+    #[tactic(auto, unfolding(crate::specs::Kinds::Modifier::modifiers_of))]
+    fn read(_alloc: Global, value: &'v Value) -> Result<Modifier, KindError> {
+        all_modifiers(elements(value)?).ok_or(KindError::WrongKind)
+    }
+}

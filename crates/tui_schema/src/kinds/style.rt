@@ -1,0 +1,52 @@
+//! Styles: objects of colours and modifiers.
+
+ghost use Rattle.std.specs.Prelude.{◌≡◌};
+ghost use Rattle.tui_schema.specs.Kinds.Style.{dressed, modifiers_or_none, style_of};
+
+use crate::kinds::kind::{Kind, KindError};
+use crate::kinds::member::optional_member;
+use serde_json::Value;
+use std::alloc::Global;
+use tui_cells::{Color, Modifier, Style};
+
+/// The colours with modifiers that are added first and then removed.
+#[tactic(auto, using(crate::proofs::Dressing::both_none, crate::proofs::Dressing::none_other))]
+fn dressed(
+    fg: Option<Color>,
+    bg: Option<Color>,
+    added: Option<Modifier>,
+    removed: Option<Modifier>,
+) -> Style
+    ensures { result ≡ dressed fg bg (modifiers_or_none added) (modifiers_or_none removed) }
+{
+    let colors = Style {
+        fg,
+        bg,
+        ..Style::new()
+    };
+    let added = added.unwrap_or(Modifier::empty());
+    let removed = removed.unwrap_or(Modifier::empty());
+    colors.add_modifier(added).remove_modifier(removed)
+}
+
+impl<'v> Kind<'v> for Style {
+    ghost use Rattle.tui_cells.specs.declared.style.Style.{Style};
+
+    ghost Seen = { Style };
+
+    ghost seen = { λ style. style };
+
+    ghost kind = { style_of };
+
+    #[tactic(auto, unfolding(crate::specs::Kinds::Style::style_of))]
+    fn read(alloc: Global, value: &'v Value) -> Result<Style, KindError> {
+        if !value.is_object() {
+            return Err(KindError::WrongKind);
+        }
+        let fg = optional_member(alloc, value, "fg")?;
+        let bg = optional_member(alloc, value, "bg")?;
+        let add = optional_member(alloc, value, "add")?;
+        let sub = optional_member(alloc, value, "sub")?;
+        Ok(dressed(fg, bg, add, sub))
+    }
+}

@@ -1,0 +1,58 @@
+//! Texts and symbols.
+
+ghost use Rattle.std.specs.Prelude.{◌≡◌};
+ghost use Rattle.tui_schema.specs.Kinds.Symbol.{is_control, is_symbol, symbol_of};
+
+use crate::kinds::kind::{Kind, KindError};
+use serde_json::Value;
+use std::alloc::Global;
+
+/// A text of at most 32 bytes without control characters.
+#[derive(Drop)]
+pub(crate) struct Symbol<'v>(pub &'v str);
+
+fn is_control(c: char) -> bool
+    ensures { result ≡ is_control c }
+{
+    c < ' ' || (c >= '\u{7f}' && c < '\u{a0}')
+}
+
+#[tactic(auto, unfolding(crate::specs::Kinds::Symbol::is_symbol))]
+fn is_symbol(text: &str) -> bool
+    ensures { result ≡ is_symbol text.now }
+{
+    text.len() <= 32 && text.chars().all(|c| !is_control(c))
+}
+
+impl<'v> Kind<'v> for &'v str {
+    ghost use Rattle.std.specs.Prelude.{ℕ, List};
+    ghost use Rattle.serde_json.specs.Find.{as_str};
+
+    ghost Seen = { List ℕ };
+
+    ghost seen = { λ text. text.now };
+
+    ghost kind = { as_str };
+
+    fn read(_alloc: Global, value: &'v Value) -> Result<&'v str, KindError> {
+        value.as_str().ok_or(KindError::WrongKind)
+    }
+}
+
+impl<'v> Kind<'v> for Symbol<'v> {
+    ghost use Rattle.std.specs.Prelude.{ℕ, List};
+
+    ghost Seen = { List ℕ };
+
+    ghost seen = { λ symbol. symbol.0.now };
+
+    ghost kind = { symbol_of };
+
+    #[tactic(auto, unfolding(crate::specs::Kinds::Symbol::symbol_of))]
+    fn read(_alloc: Global, value: &'v Value) -> Result<Symbol<'v>, KindError> {
+        match value.as_str() {
+            Some(text) if is_symbol(text) => Ok(Symbol(text)),
+            _ => Err(KindError::WrongKind),
+        }
+    }
+}

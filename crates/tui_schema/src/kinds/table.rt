@@ -1,0 +1,69 @@
+//! Cells of a table, an object with `text` or else a text; and its rows, an array of cells or an object with `cells`.
+
+ghost use Rattle.tui_schema.specs.Kinds.Table.{row_of, table_cell_of};
+
+use crate::kinds::kind::{Kind, KindError};
+use crate::kinds::member::{member, optional_member};
+use serde_json::Value;
+use std::alloc::Global;
+use tui_cells::Style;
+use tui_table::{Cell, Row};
+use tui_text::Text;
+
+impl<'v> Kind<'v> for Cell<'v> {
+    ghost use Rattle.tui_table.specs.Cell.{CellData, cell_data};
+
+    ghost Seen = { CellData };
+
+    ghost seen = { cell_data };
+
+    ghost kind = { table_cell_of };
+
+    #[tactic(auto, unfolding(crate::specs::Kinds::Table::table_cell_of))]
+    fn read(alloc: Global, value: &'v Value) -> Result<Cell<'v>, KindError> {
+        match value.get("text") {
+            None => Ok(Cell::new(Text::read(alloc, value)?)),
+            Some(content) => {
+                let content = Text::read(alloc, content)?;
+                let style: Option<Style> = optional_member(alloc, value, "style")?;
+                let span: Option<u16> = optional_member(alloc, value, "column_span")?;
+                let cell = Cell::new(content).style(style.unwrap_or(Style::new()));
+                Ok(cell.column_span(span.unwrap_or(1)))
+            }
+        }
+    }
+}
+
+impl<'v> Kind<'v> for Row<'v> {
+    ghost use Rattle.tui_table.specs.Row.{RowData, row_data};
+
+    ghost Seen = { RowData };
+
+    ghost seen = { row_data };
+
+    ghost kind = { row_of };
+
+    #[tactic(auto, unfolding(crate::specs::Kinds::Table::row_of))]
+    fn read(alloc: Global, value: &'v Value) -> Result<Row<'v>, KindError> {
+        match value {
+            Value::Array(_) => {
+                let cells: Vec<Cell<'v>> = Vec::read(alloc, value)?;
+                Ok(Row::new(cells))
+            }
+            _ => {
+                let cells: Vec<Cell<'v>> = member(alloc, value, "cells")?;
+                let height: Option<u16> = optional_member(alloc, value, "height")?;
+                let top: Option<u16> = optional_member(alloc, value, "top_margin")?;
+                let bottom: Option<u16> = optional_member(alloc, value, "bottom_margin")?;
+                let style: Option<Style> = optional_member(alloc, value, "style")?;
+                Ok(
+                    Row::new(cells)
+                        .height(height.unwrap_or(1))
+                        .top_margin(top.unwrap_or(0))
+                        .bottom_margin(bottom.unwrap_or(0))
+                        .style(style.unwrap_or(Style::new())),
+                )
+            }
+        }
+    }
+}

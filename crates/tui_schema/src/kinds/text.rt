@@ -1,0 +1,41 @@
+//! Texts: a text that is cut into lines, an array of lines, or an object with `lines` and perhaps `style` and `alignment`.
+
+ghost use Rattle.tui_schema.specs.Kinds.Text.{text_of};
+
+use crate::kinds::kind::{Kind, KindError};
+use crate::kinds::member::{member, optional_member};
+use serde_json::Value;
+use std::alloc::Global;
+use tui_cells::Style;
+use tui_text::{Alignment, Line, Text};
+
+impl<'v> Kind<'v> for Text<'v> {
+    ghost use Rattle.tui_text.specs.Text.{TextData, text_data};
+
+    ghost Seen = { TextData };
+
+    ghost seen = { text_data };
+
+    ghost kind = { text_of };
+
+    #[tactic(auto, unfolding(crate::specs::Kinds::Text::text_of))]
+    fn read(alloc: Global, value: &'v Value) -> Result<Text<'v>, KindError> {
+        match value {
+            Value::String(content) => Ok(Text::raw(alloc, content)?),
+            Value::Array(_) => {
+                let lines: Vec<Line<'v>> = Vec::read(alloc, value)?;
+                Ok(Text::from(lines))
+            }
+            _ => {
+                let lines: Vec<Line<'v>> = member(alloc, value, "lines")?;
+                let style: Option<Style> = optional_member(alloc, value, "style")?;
+                let alignment: Option<Alignment> = optional_member(alloc, value, "alignment")?;
+                let text = Text::from(lines).style(style.unwrap_or(Style::new()));
+                Ok(match alignment {
+                    Some(alignment) => text.alignment(alignment),
+                    None => text,
+                })
+            }
+        }
+    }
+}

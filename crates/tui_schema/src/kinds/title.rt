@@ -1,0 +1,34 @@
+//! Titles: an object with `line` and perhaps `position`, or else a line.
+
+ghost use Rattle.tui_schema.specs.Kinds.Title.{title_of};
+
+use crate::kinds::kind::{Kind, KindError};
+use crate::kinds::member::optional_member;
+use serde_json::Value;
+use std::alloc::Global;
+use tui_frames::Title;
+use tui_text::Line;
+
+impl<'v> Kind<'v> for Title<'v> {
+    ghost use Rattle.tui_frames.specs.Block.{TitleData, title_data};
+
+    ghost Seen = { TitleData };
+
+    ghost seen = { title_data };
+
+    ghost kind = { title_of };
+
+    #[tactic(auto, unfolding(crate::specs::Kinds::Title::title_of))]
+    fn read(alloc: Global, value: &'v Value) -> Result<Title<'v>, KindError> {
+        match value.get("line") {
+            None => Ok(Title {
+                line: Line::read(alloc, value)?,
+                position: None,
+            }),
+            Some(content) => Ok(Title {
+                line: Line::read(alloc, content)?,
+                position: optional_member(alloc, value, "position")?,
+            }),
+        }
+    }
+}

@@ -1,0 +1,25 @@
+//! How lines are broken: an object with the member `trim`.
+
+ghost use Rattle.tui_schema.specs.Kinds.Wrap.{wrap_of};
+
+use crate::kinds::kind::{Kind, KindError};
+use crate::kinds::member::member;
+use serde_json::Value;
+use std::alloc::Global;
+use tui_para::Wrap;
+
+impl<'v> Kind<'v> for Wrap {
+    ghost use Rattle.tui_para.specs.declared.wrap.Wrap.{Wrap};
+
+    ghost Seen = { Wrap };
+
+    ghost seen = { λ wrap. wrap };
+
+    ghost kind = { wrap_of };
+
+    #[tactic(auto, unfolding(crate::specs::Kinds::Wrap::wrap_of))]
+    fn read(alloc: Global, value: &'v Value) -> Result<Wrap, KindError> {
+        let trim = member(alloc, value, "trim")?;
+        Ok(Wrap { trim })
+    }
+}

@@ -1,0 +1,13 @@
+//! Scenes in JSON: the schema, and why a value is no scene.
+#![tactic(auto)]
+
+mod error;
+mod field;
+mod items;
+mod kinds;
+mod reading;
+mod table;
+
+pub use error::SceneError;
+pub use field::Field;
+pub use reading::{Reading, scene_of};
