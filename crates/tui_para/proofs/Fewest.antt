@@ -8,12 +8,8 @@ use Rattle.std.proofs.lemmas.List.Elements.{All-from_recursion, recursion_from_A
 use Rattle.std.proofs.lemmas.Bool.{cases_lt, le-leb, cond-true}
 use Rattle.tui_para.specs.Wrapped.{word, next_word, after_break, ends_in, no_blank, begins_blank, IsLine, IsNextLine, HasLines, Wrapped, kept, line_start}
 use Rattle.tui_para.specs.Division.{group_width, IsFewest, Spaced, SpacedWithin}
-use Rattle.tui_para.proofs.Unique.{same_next, cuts, ends_in-append}
-
--- a word ends in no blank
-word_ends : {A : Type 0} (blank : A → Bool) (so_far : Bool) (v : List A) → (v ≢ []) ⊎ (so_far ≡ true) → word blank v ≡ v → ends_in (no_blank blank) so_far v ≡ true
-word_ends blank so_far [] n e = grind arith
-word_ends blank so_far (x ∷ v) n e = grind (arith, word_ends blank (not (blank x)) v)
+use Rattle.tui_para.proofs.Unique.{same_next, cuts, ends_in-append, word_ends}
+use Rattle.tui_para.proofs.Parts.{lines_some}
 
 -- the word in front of a blank
 word_front : {A : Type 0} (blank : A → Bool) (v rest : List A) → word blank v ≡ v → (rest ≡ []) ⊎ (begins_blank blank rest ≡ true) → word blank (v ++ rest) ≡ v
@@ -270,10 +266,6 @@ all_are_kept blank size w (v ∷ u ∷ vs) xs p s k =
     let t = le-leb (size s.1) w (omega arith) in
     let rest : kept size w (s.1 ∷ s.2) ≡ s.1 ∷ s.2 = cond-true (nat_le (size s.1) w) (s.1 ∷ kept size w s.2) (kept size w s.2) t ∙ ap (λ z. s.1 ∷ z) (all_are_kept blank size w (u ∷ vs) s.2 p s.6 k.1) in
     rw s.3 (word_kept size w v (s.1 ∷ s.2) k.0 rest)
-
-lines_some : {A : Type 0} (blank : A → Bool) (size : A → ℕ) (w : ℕ) (trim : Bool) (xs : List A) (lines : List (List A)) → HasLines blank size w trim xs lines → xs ≢ [] → 0 < length lines
-lines_some blank size w trim xs [] h n = absurd (n h)
-lines_some blank size w trim xs (l ∷ ls) h n = omega arith
 
 -- the lines are a division of the words, and none has fewer groups
 pub fewest : {A : Type 0} (blank : A → Bool) (size : A → ℕ) (w : ℕ) (trim : Bool) (words : List (List A)) (xs : List A) (lines : List (List A)) → 0 < w → SpacedWithin blank size w words xs → Wrapped blank size w trim xs lines → IsFewest size words w (length lines)

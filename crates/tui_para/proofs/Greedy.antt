@@ -4,7 +4,7 @@ use Rattle.std.specs.Prelude.{◌⊎◌, sum_by, not, nat_le, nat_lt, ◌&&◌}
 use Rattle.std.specs.List.{AllByRecursion}
 use Rattle.std.proofs.lemmas.List.Sums.{sum_by-cons, sum_by-append}
 use Rattle.std.proofs.lemmas.List.{take-append-drop, length-append, append-nil, append_assoc}
-use Rattle.std.proofs.lemmas.Bool.{cases_Bool, leb-true, leb-false, cond-true, cond-false}
+use Rattle.std.proofs.lemmas.Bool.{cases_Bool, false≢true, leb-true, leb-false, cond-true, cond-false}
 use Rattle.std.proofs.lemmas.Bool.Decides.{nat_tests}
 use Rattle.std.proofs.Math.Seq.{drop-append_seam, take-append_seam, take-length, drop-length}
 use Rattle.tui_para.specs.Wrapped.{word, next_word, without_blanks, after_break, no_blank, ends_in, begins_blank, IsLine, HasLines, WrapsKept, Wrapped, kept, line_start, IsTheOne}
@@ -74,17 +74,11 @@ read_on blank size w in_word words n room line piece x rest fits goes r =
 
 -- a word that ends with a blank has a grapheme
 word_some : {A : Type 0} (blank : A → Bool) (piece : List A) → ends_in (no_blank blank) false piece ≡ true → 0 < length piece
-word_some blank [] e = absurd (false_true e)
-  where
-    false_true : false ≡ true → ⊥
-    false_true e = cc
+word_some blank [] e = absurd (false≢true e)
 word_some blank (x ∷ piece) e = omega arith
 
 ends_any : {A : Type 0} (blank : A → Bool) (so_far : Bool) (piece : List A) → ends_in (no_blank blank) false piece ≡ true → ends_in (no_blank blank) so_far piece ≡ true
-ends_any blank so_far [] e = absurd (false_true e)
-  where
-    false_true : false ≡ true → ⊥
-    false_true e = cc
+ends_any blank so_far [] e = absurd (false≢true e)
 ends_any blank so_far (x ∷ piece) e = e
 
 -- where a word ends, its piece goes to the line

@@ -1,6 +1,6 @@
 -- The numbers count the lines.
 use Rattle.std.proofs.Common.{◌≡◌, ℕ, ◌+◌, ◌-◌, ◌<◌, ◌≤◌, List, [], ◌∷◌, ◌++◌, length, Bool, true, false, cond, refl, sym, ap, ◌∙◌, subst, arith, inl, inr, ⊎_elim}
-use Rattle.std.specs.Prelude.{◌≢◌, ◌⊎◌, ◌&&◌, ◌||◌, max, sum_by, not}
+use Rattle.std.specs.Prelude.{◌⊎◌, ◌&&◌, ◌||◌, max, sum_by, not}
 use Rattle.std.proofs.lemmas.List.{append_assoc}
 use Rattle.std.proofs.lemmas.List.Sums.{sum_by-append}
 use Rattle.std.proofs.lemmas.Bool.{cases_Bool, ltb-true, ltb-false, cond-true, cond-false, and_parts, and_cases, not-true, not-false, false≢true}
@@ -12,6 +12,7 @@ use Rattle.tui_para.proofs.Reading.{to_come, Counts, fresh, going, to_letter, un
 use Rattle.tui_para.proofs.Greedy.{all_fit-kept}
 use Rattle.tui_para.proofs.Unique.{same_lines}
 use Rattle.tui_para.proofs.Filled.{append_cons}
+use Rattle.tui_para.proofs.Parts.{lines_some}
 
 -- a line ends at a blank
 ended_at_blank : {A : Type 0} (blank : A → Bool) (size : A → ℕ) (w : ℕ) (trim : Bool) (c : Counter) (x : A) (zs : List A) (n : ℕ) → blank x ≡ true → c.in_word ≡ false → w < c.line + c.blanks + c.word + size x → to_come blank trim c (x ∷ zs) ≡ x ∷ zs → Counts blank size w trim c (x ∷ zs) n → Counts blank size w trim (end_line c) zs n
@@ -217,10 +218,6 @@ counts_lines blank size w trim xs lines a h =
       lines = λ ls g. (let e = ap length (same_lines blank size w trim ls lines xs xs refl g h) in omega arith);
     }))
 
-has_a_line : {A : Type 0} (blank : A → Bool) (size : A → ℕ) (w : ℕ) (trim : Bool) (xs : List A) (lines : List (List A)) → HasLines blank size w trim xs lines → xs ≢ [] → 0 < length lines
-has_a_line blank size w trim xs [] h n = absurd (n h)
-has_a_line blank size w trim xs (l ∷ ls) h n = omega arith
-
 -- the lines into which graphemes are wrapped, from the numbers: one where there is no grapheme
 pub wrap_count : {A : Type 0} (blank : A → Bool) (size : A → ℕ) (w : ℕ) (trim : Bool) (xs : List A) (lines : List (List A)) → Wrapped blank size w trim xs lines → length lines ≡ max (counted (steps blank size w trim no_lines (kept size w xs))) 1
 wrap_count blank size w trim xs lines h =
@@ -232,6 +229,6 @@ wrap_count blank size w trim xs lines h =
     omega arith)
     (λ t.
     let k = counts_lines blank size w trim (kept size w xs) lines (all_fit-kept size w xs) t.1 in
-    let p = has_a_line blank size w trim (kept size w xs) lines t.1 t.0 in
+    let p = lines_some blank size w trim (kept size w xs) lines t.1 t.0 in
     omega arith)
     h

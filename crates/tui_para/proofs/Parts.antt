@@ -1,6 +1,6 @@
 -- Lines taken one after another from the graphemes of a text line.
-use Rattle.std.proofs.Common.{◌≡◌, ℕ, ◌+◌, ◌-◌, ◌≤◌, List, [], ◌∷◌, length, take, drop, Bool, true, map, refl, sym, ap, ◌∙◌, subst, arith, All, ⊎_elim}
-use Rattle.std.specs.Prelude.{sum_by}
+use Rattle.std.proofs.Common.{◌≡◌, ℕ, ◌+◌, ◌-◌, ◌<◌, ◌≤◌, List, [], ◌∷◌, length, take, drop, Bool, true, map, refl, sym, ap, ◌∙◌, subst, arith, All, ⊎_elim}
+use Rattle.std.specs.Prelude.{◌≢◌, sum_by}
 use Rattle.std.specs.List.{between}
 use Rattle.std.proofs.lemmas.List.{drop-drop, drop-map, take-map, take_rest}
 use Rattle.std.proofs.lemmas.List.Elements.{All-map, All-drop, All-from_recursion}
@@ -24,6 +24,10 @@ between-drop place start end xs =
 pub no_lines : {A : Type 0} (blank : A → Bool) (size : A → ℕ) (w : ℕ) (trim : Bool) (xs : List A) (lines : List (List A)) → xs ≡ [] → HasLines blank size w trim xs lines → lines ≡ []
 no_lines blank size w trim xs [] e h = refl
 no_lines blank size w trim xs (l ∷ ls) e h = absurd (h.0 e)
+
+pub lines_some : {A : Type 0} (blank : A → Bool) (size : A → ℕ) (w : ℕ) (trim : Bool) (xs : List A) (lines : List (List A)) → HasLines blank size w trim xs lines → xs ≢ [] → 0 < length lines
+lines_some blank size w trim xs [] h some = absurd (some h)
+lines_some blank size w trim xs (l ∷ ls) h some = omega arith
 
 module _ {A B : Type 0} (f : A → B) (xs : List A) (ys : List B) (place : ℕ) (seen : ys ≡ take (length (map f xs) - place) (drop place (map f xs))) where
   -- what is seen of the graphemes from a place on

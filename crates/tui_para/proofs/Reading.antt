@@ -1,13 +1,13 @@
 -- What the numbers tell of the graphemes that were read.
 use Rattle.std.proofs.Common.{◌≡◌, ℕ, ◌+◌, ◌-◌, ◌<◌, ◌≤◌, List, [], ◌∷◌, ◌++◌, length, Bool, true, false, cond, refl, sym, ap, ◌∙◌, arith, inl, inr, ⊎_elim}
-use Rattle.std.specs.Prelude.{◌≢◌, ◌⊎◌, ◌||◌, sum_by, not, nat_le}
+use Rattle.std.specs.Prelude.{◌≢◌, ◌⊎◌, ◌||◌, sum_by, nat_le}
 use Rattle.std.proofs.lemmas.List.{append_assoc}
 use Rattle.std.proofs.lemmas.List.Sums.{sum_by-cons, sum_by-append, sum_by_push}
 use Rattle.std.proofs.lemmas.Bool.{cases_Bool, le-leb, lt-leb, cond-true, cond-false, or_left, or_right, or_from, false≢true}
 use Rattle.tui_para.specs.declared.counting.counter.Counter.{Counter}
 use Rattle.tui_para.specs.Wrapped.{word, next_word, without_blanks, after_break, ends_in, no_blank, begins_blank, IsNextLine, HasLines, line_start}
 use Rattle.tui_para.specs.Counting.{end_word, add_blank, skip_blank, add_letter}
-use Rattle.tui_para.proofs.Unique.{ends_in-append}
+use Rattle.tui_para.proofs.Unique.{ends_in-append, word_ends}
 use Rattle.tui_para.proofs.Filled.{append_cons}
 
 -- all blanks
@@ -59,11 +59,7 @@ fresh blank size w trim n zs = record {
   fits = omega arith;
 }
 
--- a word's end
-pub last_letter : {A : Type 0} (blank : A → Bool) (so_far : Bool) (v : List A) → (v ≢ []) ⊎ (so_far ≡ true) → word blank v ≡ v → ends_in (no_blank blank) so_far v ≡ true
-last_letter blank so_far [] n e = grind arith
-last_letter blank so_far (x ∷ v) n e = grind (arith, last_letter blank (not (blank x)) v)
-
+-- what comes, where a line or a word is under way
 pub going : {A : Type 0} (blank : A → Bool) (trim : Bool) (c : Counter) (zs : List A) → (c.begun ≡ true) ⊎ (c.in_word ≡ true) → to_come blank trim c zs ≡ zs
 going blank trim c zs h = cond-true (c.begun || c.in_word) zs (line_start blank trim zs) (⊎_elim (λ b. or_left c.begun c.in_word b) (λ i. or_right c.begun c.in_word i) h)
 
@@ -84,7 +80,7 @@ word_ended blank size w trim c here x zs b i r =
     let some_part : r.part ≢ [] = ⊎_elim (λ t. t.1) (λ t. absurd (cc)) r.in_word in
     let e = ends_in-append (no_blank blank) false r.front (r.gap ++ r.part) in
     let f = ends_in-append (no_blank blank) (ends_in (no_blank blank) false r.front) r.gap r.part in
-    let g = last_letter blank (ends_in (no_blank blank) (ends_in (no_blank blank) false r.front) r.gap) r.part (inl some_part) r.letters in
+    let g = word_ends blank (ends_in (no_blank blank) (ends_in (no_blank blank) false r.front) r.gap) r.part (inl some_part) r.letters in
     let t : to_come blank trim c (x ∷ zs) ≡ x ∷ zs = going blank trim c (x ∷ zs) (inr i) in
     let s1 = sum_by-append size r.front (r.gap ++ r.part) in
     let s2 = sum_by-append size r.gap r.part in

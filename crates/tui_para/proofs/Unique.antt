@@ -1,6 +1,6 @@
 -- At most one list of lines.
 use Rattle.std.proofs.Common.{◌≡◌, ℕ, ◌-◌, ◌<◌, ◌≤◌, List, [], ◌∷◌, ◌++◌, Bool, true, false, refl, sym, ap, ◌∙◌, subst, arith, inl, inr, ⊎_elim}
-use Rattle.std.specs.Prelude.{◌⊎◌, sum_by, not}
+use Rattle.std.specs.Prelude.{◌≢◌, ◌⊎◌, sum_by, not}
 use Rattle.std.proofs.lemmas.List.Sums.{sum_by-cons, sum_by-append}
 use Rattle.std.proofs.lemmas.List.{append_cancel_left}
 use Rattle.tui_para.specs.Wrapped.{word, next_word, no_blank, ends_in, begins_blank, IsLine, IsNextLine, HasLines, WrapsKept, Wrapped, kept, line_start}
@@ -36,6 +36,11 @@ next_word_within blank size so_far (x ∷ d) a h =
 pub ends_in-append : {A : Type 0} (test : A → Bool) (so_far : Bool) (xs ys : List A) → ends_in test so_far (xs ++ ys) ≡ ends_in test (ends_in test so_far xs) ys
 ends_in-append test so_far [] ys = refl
 ends_in-append test so_far (x ∷ xs) ys = ends_in-append test (test x) xs ys
+
+-- a word ends in no blank
+pub word_ends : {A : Type 0} (blank : A → Bool) (so_far : Bool) (v : List A) → (v ≢ []) ⊎ (so_far ≡ true) → word blank v ≡ v → ends_in (no_blank blank) so_far v ≡ true
+word_ends blank so_far [] n e = grind arith
+word_ends blank so_far (x ∷ v) n e = grind (arith, word_ends blank (not (blank x)) v)
 
 -- a line that breaks has no longer line beside it
 no_longer : {A : Type 0} (blank : A → Bool) (size : A → ℕ) (w : ℕ) (k : List A) (y : A) (ys a : List A) → IsLine blank size w k (y ∷ ys ++ a) → IsLine blank size w (k ++ y ∷ ys) a → ⊥

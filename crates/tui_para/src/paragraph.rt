@@ -1,6 +1,6 @@
 //! Paragraphs.
 
-ghost use Rattle.std.specs.Prelude.{◌≡◌, ◌<◌, List, length, None, Some, Ok, All, IsOk, IfOk, true, IsSome, IfSome, ℕ, false, sum_by};
+ghost use Rattle.std.specs.Prelude.{◌≡◌, ◌<◌, List, length, None, Some, Ok, All, IsOk, IfOk, true, IsSome, IfSome, ℕ, sum_by};
 ghost use Rattle.tui_frames.specs.Block.{block_data};
 ghost use Rattle.tui_frames.specs.InBlock.{beside};
 ghost use Rattle.tui_para.specs.Paragraph.{block_columns, block_rows, paragraph_data, paragraph_of};

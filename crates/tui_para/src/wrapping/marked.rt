@@ -1,12 +1,12 @@
 //! The graphemes of one text line.
 
-ghost use Rattle.std.specs.Prelude.{◌≡◌, ◌≤◌, ◌+◌, Some, List, [], ◌∷◌, ◌++◌, true, false, length, drop, map, IfOk, IfSome, OnOk, OnErr, vec_len};
+ghost use Rattle.std.specs.Prelude.{◌≡◌, ◌≤◌, ◌+◌, Some, List, [], ◌∷◌, ◌++◌, length, drop, map, IfOk, IfSome, OnOk, OnErr, vec_len};
 ghost use Rattle.std.specs.Iterator.{size};
 ghost use Rattle.std.specs.List.{between};
 ghost use Rattle.tui_text.specs.Grapheme.{glyph_of};
 ghost use Rattle.tui_text.specs.declared.grapheme.StyledGrapheme.{StyledGrapheme};
 ghost use Rattle.tui_para.specs.Given.{Ready, SourceReads};
-ghost use Rattle.tui_para.specs.Mark.{mark_of, size_of};
+ghost use Rattle.tui_para.specs.Mark.{mark_of};
 
 use crate::wrapping::mark::{Mark, mark_of};
 use std::alloc::Global;

@@ -1,7 +1,6 @@
 //! One text line, cut into lines.
 
-ghost use Rattle.std.specs.Prelude.{◌≡◌, ◌≤◌, ◌<◌, List, [], None, Some, true, false, length, drop, map, All, IfOk, IfSome, IsSome, OnOk, sum_by};
-ghost use Rattle.std.specs.List.{between};
+ghost use Rattle.std.specs.Prelude.{◌≡◌, ◌≤◌, ◌<◌, List, [], None, Some, true, false, length, drop, map, All, IfOk, IfSome, IsSome, OnOk};
 ghost use Rattle.tui_text.specs.Grapheme.{Glyph, glyph_of, glyph_width};
 ghost use Rattle.tui_para.specs.Given.{IsGlyph, MayGive, Ready, SourceGives, source_left};
 ghost use Rattle.tui_para.specs.Marked.{glyphs_of, part_of};
