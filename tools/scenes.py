@@ -116,7 +116,16 @@ def dashboard(x, y):
     ]
 
 
+def ignored():
+    """One blank cell, beside 1 MB of JSON that the schema passes over."""
+    source = random.Random(4717)
+    name = lambda: "".join(source.choice("abcdefghij") for _ in range(source.randint(6, 12)))
+    more = [{"id": i, "name": name(), "size": source.randint(0, 99_999), "tags": [name(), name()]} for i in range(12_000)]
+    return {**scene(1, 1, []), "more": more}
+
+
 SCENES = {
+    "ignored": ignored,
     "blank": lambda: scene(1000, 1000, []),
     "fill": lambda: scene(1000, 1000, [fill("x")]),
     "fill20": lambda: scene(1000, 1000, [fill("abcdefghijklmnopqrst"[i]) for i in range(20)]),
