@@ -1,5 +1,27 @@
 -- The weeks of a month, which begin on Sunday.
-use Rattle.std.specs.Prelude.{◌≡◌, ℕ, ◌+◌, ◌-◌, ◌*◌, ◌/◌, ◌%◌, ◌<◌, ◌≤◌, ◌==◌, nat_lt, ℤ, pos, negsuc, ◌+ℤ◌, ◌-ℤ◌, int_le, Option, None, Some, if◌then◌else◌}
+use Rattle.std.specs.Prelude.{
+  ◌≡◌,
+  ℕ,
+  ◌+◌,
+  ◌-◌,
+  ◌*◌,
+  ◌/◌,
+  ◌%◌,
+  ◌<◌,
+  ◌≤◌,
+  ◌==◌,
+  nat_lt,
+  ℤ,
+  pos,
+  negsuc,
+  ◌+ℤ◌,
+  ◌-ℤ◌,
+  int_le,
+  Option,
+  None,
+  Some,
+  if◌then◌else◌,
+}
 use Rattle.jiff.specs.Words.{IsEpochDay, days_in_month}
 use Rattle.jiff_core.specs.Calendar.{IsCivilDate, days_from_civil, weekday_number}
 use Rattle.jiff_core.specs.declared.civil.date.Date.{Date as Plain}

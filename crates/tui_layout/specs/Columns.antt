@@ -1,5 +1,27 @@
 -- Columns of a length, each by its place.
-use Rattle.std.specs.Prelude.{ℕ, ◌≡◌, ◌+◌, ◌-◌, ◌*◌, ◌/◌, ◌<◌, ◌≤◌, ◌==◌, min, List, length, map, sum_by, sum, take, All, AllPairs, Any, ◌⊎◌, if◌then◌else◌}
+use Rattle.std.specs.Prelude.{
+  ℕ,
+  ◌≡◌,
+  ◌+◌,
+  ◌-◌,
+  ◌*◌,
+  ◌/◌,
+  ◌<◌,
+  ◌≤◌,
+  ◌==◌,
+  min,
+  List,
+  length,
+  map,
+  sum_by,
+  sum,
+  take,
+  All,
+  AllPairs,
+  Any,
+  ◌⊎◌,
+  if◌then◌else◌,
+}
 use Rattle.std.specs.List.{enumerate_from}
 use Rattle.tui_layout.specs.Constraint.{wanted}
 use Rattle.tui_layout.specs.Sharing.{sharing_of, weight}

@@ -1,6 +1,7 @@
 -- Where a selected place moves, counted from 0.
 use Rattle.std.specs.Prelude.{ℕ, ◌+◌, ◌-◌, ◌^◌, min, Option, Some, None, unwrap_or}
 
+-- the greatest place that 64 bits hold
 abbrev pub greatest : ℕ
 greatest = 2 ^ 64 - 1
 
@@ -15,8 +16,8 @@ previous_of None = greatest
 previous_of (Some place) = place - 1
 
 -- so many places further on, or back, from the first one where nothing is selected
-abbrev pub further : Option ℕ → ℕ → ℕ
-further selected amount = min (unwrap_or selected 0 + amount) greatest
+abbrev pub forward_by : Option ℕ → ℕ → ℕ
+forward_by selected amount = min (unwrap_or selected 0 + amount) greatest
 
-abbrev pub back : Option ℕ → ℕ → ℕ
-back selected amount = unwrap_or selected 0 - amount
+abbrev pub back_by : Option ℕ → ℕ → ℕ
+back_by selected amount = unwrap_or selected 0 - amount

@@ -1,7 +1,7 @@
 //! Where a selected place moves, counted from 0.
 
 ghost use Rattle.std.specs.Prelude.{◌≡◌};
-ghost use Rattle.tui_layout.specs.Selection.{back, further, next_of, previous_of};
+ghost use Rattle.tui_layout.specs.Selection.{back_by, forward_by, next_of, previous_of};
 
 /// The next place, or the first where none is selected. At the greatest place it stays.
 pub fn next_of(selected: Option<usize>) -> usize
@@ -24,15 +24,15 @@ pub fn previous_of(selected: Option<usize>) -> usize
 }
 
 /// So many places further on, counted from the first where none is selected. At the greatest place it stops.
-pub fn further(selected: Option<usize>, amount: u16) -> usize
-    ensures { result ≡ further selected amount }
+pub fn forward_by(selected: Option<usize>, amount: u16) -> usize
+    ensures { result ≡ forward_by selected amount }
 {
     selected.unwrap_or(0).saturating_add(usize::from(amount))
 }
 
 /// So many places back, counted from the first where none is selected. At the first it stops.
-pub fn back(selected: Option<usize>, amount: u16) -> usize
-    ensures { result ≡ back selected amount }
+pub fn back_by(selected: Option<usize>, amount: u16) -> usize
+    ensures { result ≡ back_by selected amount }
 {
     selected.unwrap_or(0).saturating_sub(usize::from(amount))
 }

@@ -2,10 +2,10 @@
 
 ghost use Rattle.std.specs.Prelude.{◌≡◌, IfSome, None, Some};
 ghost use Rattle.std.specs.Borrow.{sem};
-ghost use Rattle.tui_layout.specs.Selection.{back, further, greatest, next_of, previous_of};
+ghost use Rattle.tui_layout.specs.Selection.{back_by, forward_by, greatest, next_of, previous_of};
 ghost use Rattle.tui_table.specs.State.{LendsColumn, LendsOffset, LendsSelected, at_rest, column_of_cell, row_of_cell, selected_cell};
 
-use tui_layout::selection::{back, further, next_of, previous_of};
+use tui_layout::selection::{back_by, forward_by, next_of, previous_of};
 
 /// The first row that is shown, and the selected row and column; all places count from 0. A row or a column past the last one
 /// may be selected: a drawing makes it the last.
@@ -215,30 +215,30 @@ impl TableState {
 
     /// Selects so many rows further on, counted from the first where none is selected.
     pub fn scroll_down_by(&mut self, amount: u16)
-        ensures { self.new ≡ record self.old { selected = Some (further self.old.selected amount) } }
+        ensures { self.new ≡ record self.old { selected = Some (forward_by self.old.selected amount) } }
     {
-        self.selected = Some(further(self.selected, amount));
+        self.selected = Some(forward_by(self.selected, amount));
     }
 
     /// Selects so many rows back, at least the first.
     pub fn scroll_up_by(&mut self, amount: u16)
-        ensures { self.new ≡ record self.old { selected = Some (back self.old.selected amount) } }
+        ensures { self.new ≡ record self.old { selected = Some (back_by self.old.selected amount) } }
     {
-        self.selected = Some(back(self.selected, amount));
+        self.selected = Some(back_by(self.selected, amount));
     }
 
     /// Selects so many columns further on, counted from the first where none is selected.
     pub fn scroll_right_by(&mut self, amount: u16)
-        ensures { self.new ≡ record self.old { selected_column = Some (further self.old.selected_column amount) } }
+        ensures { self.new ≡ record self.old { selected_column = Some (forward_by self.old.selected_column amount) } }
     {
-        self.selected_column = Some(further(self.selected_column, amount));
+        self.selected_column = Some(forward_by(self.selected_column, amount));
     }
 
     /// Selects so many columns back, at least the first.
     pub fn scroll_left_by(&mut self, amount: u16)
-        ensures { self.new ≡ record self.old { selected_column = Some (back self.old.selected_column amount) } }
+        ensures { self.new ≡ record self.old { selected_column = Some (back_by self.old.selected_column amount) } }
     {
-        self.selected_column = Some(back(self.selected_column, amount));
+        self.selected_column = Some(back_by(self.selected_column, amount));
     }
 
     /// The state that a drawing leaves.

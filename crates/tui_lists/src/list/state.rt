@@ -3,10 +3,10 @@
 ghost use Rattle.std.specs.Prelude.{◌≡◌, Some};
 ghost use Rattle.std.specs.Option.{option_map_or};
 ghost use Rattle.std.specs.Borrow.{sem};
-ghost use Rattle.tui_layout.specs.Selection.{back, further, greatest, next_of, previous_of};
+ghost use Rattle.tui_layout.specs.Selection.{back_by, forward_by, greatest, next_of, previous_of};
 ghost use Rattle.tui_lists.specs.ListState.{LendsOffset, LendsSelected, at_rest};
 
-use tui_layout::selection::{back, further, next_of, previous_of};
+use tui_layout::selection::{back_by, forward_by, next_of, previous_of};
 
 /// The first item that is shown, and the selected one if there is one, by their places from 0. A place past the last item counts
 /// as the last one when the list is drawn.
@@ -116,15 +116,15 @@ impl ListState {
     /// Selects the item so many places further down, counted from the first where none is selected. At the greatest place it
     /// stops.
     pub fn scroll_down_by(&mut self, amount: u16)
-        ensures { self.new ≡ record self.old { selected = Some (further self.old.selected amount) } }
+        ensures { self.new ≡ record self.old { selected = Some (forward_by self.old.selected amount) } }
     {
-        self.selected = Some(further(self.selected, amount));
+        self.selected = Some(forward_by(self.selected, amount));
     }
 
     /// Selects the item so many places further up, counted from the first where none is selected. At the first it stops.
     pub fn scroll_up_by(&mut self, amount: u16)
-        ensures { self.new ≡ record self.old { selected = Some (back self.old.selected amount) } }
+        ensures { self.new ≡ record self.old { selected = Some (back_by self.old.selected amount) } }
     {
-        self.selected = Some(back(self.selected, amount));
+        self.selected = Some(back_by(self.selected, amount));
     }
 }
