@@ -14,6 +14,8 @@ mod layout;
 #[cfg(test)]
 mod lines;
 #[cfg(test)]
+mod painting;
+#[cfg(test)]
 mod paragraph;
 mod symbols;
 #[cfg(test)]

@@ -1,17 +1,13 @@
 //! Gauges and line gauges by their calls.
 
-use std::alloc::Global;
+use crate::drawing::drawn;
 use std::test::Fail;
 use tui_bars::{Gauge, GaugeError, LineGauge};
-use tui_cells::{Buffer, Color, Mem, Position, Rect, Style, Styled, Widget, line};
+use tui_cells::{Buffer, Color, Position, Rect, Style, Styled, Widget, line};
 use tui_frames::Block;
 use tui_layout::Fraction;
 use tui_text::{Line, Span};
 use widget_tests::shown;
-
-fn blank(alloc: Global, width: u16, height: u16) -> Mem<Buffer> {
-    Buffer::empty(alloc, Rect::new(0, 0, width, height))
-}
 
 #[test]
 fn shares_out_of_range_are_refused(rt: HostRuntime) -> Result<(), Fail> {
@@ -43,9 +39,10 @@ fn gauges_are_built_and_copied(rt: HostRuntime) -> Result<(), Fail> {
         .style(red);
     assert!(rt; gauge.clone()? == gauge);
     assert!(rt; Styled::style(&gauge) == red);
-    let mut buffer = blank(alloc, 5, 3)?;
-    gauge.render(alloc, Rect::new(0, 0, 5, 3), &mut buffer)?;
-    assert_eq!(rt; shown(alloc, &buffer)?.as_str(), "┌───┐\n│50%│\n└───┘\n");
+    assert_eq!(rt;
+        drawn(alloc, &gauge, 5, 3)?.as_str(),
+        "┌───┐\n│50%│\n└───┘\n"
+    );
     let lines = LineGauge::default()
         .block(Block::bordered(alloc))
         .label(Line::raw(alloc, "a")?)
@@ -53,8 +50,9 @@ fn gauges_are_built_and_copied(rt: HostRuntime) -> Result<(), Fail> {
         .gauge_style(Style::new().bg(Color::Blue))
         .ratio(Fraction::new(1, 2))?;
     assert!(rt; lines.clone()? == lines);
-    let mut buffer = blank(alloc, 6, 3)?;
-    lines.render(alloc, Rect::new(0, 0, 6, 3), &mut buffer)?;
+    let area = Rect::new(0, 0, 6, 3);
+    let mut buffer = Buffer::empty(alloc, area)?;
+    lines.render(alloc, area, &mut buffer)?;
     assert_eq!(rt; shown(alloc, &buffer)?.as_str(), "┌────┐\n│a ━━│\n└────┘\n");
     let colours = |x| {
         buffer

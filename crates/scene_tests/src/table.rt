@@ -1,13 +1,13 @@
 //! Tables by their calls, and their states; what they draw in a scene stands in scene_rows.
 
+use crate::drawing::drawn;
 use std::alloc::Global;
 use std::test::Fail;
-use tui_cells::{Buffer, Color, Mem, NoMemory, Rect, Style, Styled, Widget};
+use tui_cells::{Color, Mem, NoMemory, Style, Styled};
 use tui_frames::Block;
 use tui_layout::{Constraint, Flex, HighlightSpacing};
 use tui_table::{Cell, Row, Table, TableState, WidthsError};
 use tui_text::Text;
-use widget_tests::shown;
 
 fn row_of<'a>(alloc: Global, texts: &[&'a str]) -> Mem<Row<'a>> {
     let mut cells = Vec::with_capacity(alloc, texts.len())?;
@@ -92,10 +92,10 @@ fn a_table_is_drawn_from_its_first_row(rt: HostRuntime) -> Result<(), Fail> {
         .highlight_spacing(HighlightSpacing::Always)
         .highlight_symbol(Text::raw(alloc, ">")?)
         .flex(Flex::End);
-    let area = Rect::new(0, 0, 6, 3);
-    let mut buffer = Buffer::empty(alloc, area)?;
-    Widget::render(&table, alloc, area, &mut buffer)?;
-    assert_eq!(rt; shown(alloc, &buffer)?.as_str(), "┌────┐\n│   a│\n└────┘\n");
+    assert_eq!(rt;
+        drawn(alloc, &table, 6, 3)?.as_str(),
+        "┌────┐\n│   a│\n└────┘\n"
+    );
     Ok(())
 }
 

@@ -1,14 +1,14 @@
 //! Months and the logo by their calls.
 
+use crate::drawing::drawn;
 use jiff::civil::Date;
 use std::alloc::Global;
 use std::str::FromStr;
 use std::test::Fail;
 use tui_bars::{CalendarEventStore, DateStyler, Monthly};
-use tui_cells::{Buffer, Color, Mem, ParseError, Rect, Style, Widget};
+use tui_cells::{Color, Mem, ParseError, Style};
 use tui_frames::{Block, Padding};
 use tui_para::{RatatuiLogo, Size};
-use widget_tests::shown;
 
 /// One style for all dates.
 #[derive(Clone, Copy, Debug, PartialEq, Eq, Hash)]
@@ -22,13 +22,6 @@ impl DateStyler for Everywhere {
     fn get_style(&self, _date: Date) -> Style {
         self.style
     }
-}
-
-fn drawn<W: Widget>(alloc: Global, widget: &W, width: u16, height: u16) -> Mem<String> {
-    let area = Rect::new(0, 0, width, height);
-    let mut buffer = Buffer::empty(alloc, area)?;
-    widget.render(alloc, area, &mut buffer)?;
-    shown(alloc, &buffer)
 }
 
 /// A date; 1 January of the year 0 where the calendar has none.

@@ -1,21 +1,14 @@
 //! Bar charts and sparklines by their calls.
 
+use crate::drawing::drawn;
 use std::alloc::Global;
 use std::str::FromStr;
 use std::test::Fail;
 use tui_bars::{Bar, BarChart, BarGroup, RenderDirection, Sparkline, SparklineBar};
-use tui_cells::{Buffer, Color, Mem, ParseError, Rect, Style, Widget};
+use tui_cells::{Color, Mem, ParseError, Style};
 use tui_frames::Block;
 use tui_layout::Direction;
 use tui_text::Line;
-use widget_tests::shown;
-
-fn drawn<W: Widget>(alloc: Global, widget: &W, width: u16, height: u16) -> Mem<String> {
-    let area = Rect::new(0, 0, width, height);
-    let mut buffer = Buffer::empty(alloc, area)?;
-    widget.render(alloc, area, &mut buffer)?;
-    shown(alloc, &buffer)
-}
 
 fn values<'a>(alloc: Global, values: &[u64]) -> Mem<Vec<Bar<'a>>> {
     let mut bars = Vec::new(alloc);

@@ -1,24 +1,12 @@
 //! Spans, lines and texts, set and painted within a clip.
 
-use std::alloc::Global;
+use crate::symbols::shown;
 use std::test::Fail;
-use tui_cells::{Buffer, Color, Mem, Position, Rect, Style};
+use tui_cells::{Buffer, Color, Position, Rect, Style};
 use tui_text::{
     Alignment, Line, Span, Text, paint_line, paint_text, set_line, set_span, set_stringn,
     symbol_columns, visible_cells,
 };
-
-/// The symbols of all cells, a row in each line.
-fn symbols(alloc: Global, buffer: &Buffer) -> Mem<String> {
-    let mut text = String::new(alloc);
-    for y in 0..buffer.height() {
-        for cell in buffer.row_at(y) {
-            text.push_str(cell.symbol())?;
-        }
-        text.push('\n')?;
-    }
-    Ok(text)
-}
 
 #[test]
 fn a_text_is_set_as_far_as_there_is_room(rt: HostRuntime) -> Result<(), Fail> {
@@ -33,7 +21,7 @@ fn a_text_is_set_as_far_as_there_is_room(rt: HostRuntime) -> Result<(), Fail> {
     assert!(rt; behind == 5);
     let outside = set_stringn(&mut buffer, clip, Position::new(5, 0), "x", 9, red)?;
     assert!(rt; outside == 5);
-    assert!(rt; symbols(alloc, &buffer)?.as_str() == "-abコ -\n");
+    assert!(rt; shown(alloc, &buffer)?.as_str() == "-abコ -\n");
     Ok(())
 }
 
@@ -55,7 +43,7 @@ fn spans_and_lines_are_set(rt: HostRuntime) -> Result<(), Fail> {
     line.push_span(Span::raw("qr"))?;
     let behind = set_line(&mut buffer, all, Position::new(2, 0), &line, 2)?;
     assert!(rt; behind == 4);
-    assert!(rt; symbols(alloc, &buffer)?.as_str() == "xypq--\n");
+    assert!(rt; shown(alloc, &buffer)?.as_str() == "xypq--\n");
     Ok(())
 }
 
@@ -80,7 +68,7 @@ fn a_line_is_painted_by_its_alignment(rt: HostRuntime) -> Result<(), Fail> {
         &wide,
         Alignment::Right,
     )?;
-    assert!(rt; symbols(alloc, &buffer)?.as_str() == "--ab--\nefg---\n");
+    assert!(rt; shown(alloc, &buffer)?.as_str() == "--ab--\nefg---\n");
     Ok(())
 }
 
@@ -91,7 +79,7 @@ fn a_text_is_painted_in_its_area(rt: HostRuntime) -> Result<(), Fail> {
     let clip = Rect::new(0, 0, 5, 2);
     let text = Text::raw(alloc, "a\nbc\nd")?.alignment(Alignment::Right);
     paint_text(&mut buffer, clip, Rect::new(2, 0, 9, 9), &text)?;
-    assert!(rt; symbols(alloc, &buffer)?.as_str() == "----a-\n---bc-\n------\n");
+    assert!(rt; shown(alloc, &buffer)?.as_str() == "----a-\n---bc-\n------\n");
     Ok(())
 }
 

@@ -63,8 +63,7 @@ fn lists_are_compared(rt: HostRuntime) -> Result<(), Fail> {
 #[test]
 fn a_list_is_drawn_from_its_first_item(rt: HostRuntime) -> Result<(), Fail> {
     let alloc = rt.alloc();
-    let area = Rect::new(0, 0, 4, 3);
-    let mut buffer = Buffer::empty(alloc, area)?;
+    let mut buffer = Buffer::empty(alloc, Rect::new(0, 0, 4, 3))?;
     let list = list(alloc, &["i0", "i1"])?.block(Block::bordered(alloc));
     Widget::render(&list, alloc, Rect::new(0, 0, 9, 9), &mut buffer)?;
     assert_eq!(rt; shown(alloc, &buffer)?.as_str(), "┌──┐\n│i0│\n└──┘\n");

@@ -1,0 +1,26 @@
+//! The tests of the crates from tui_lists to tui_port that need calls, apart from the crates, so that each is proved but once. Whole runs stand in
+//! scene_rows.
+#![tactic(auto)]
+
+#[cfg(test)]
+mod bars;
+#[cfg(test)]
+mod calendar;
+#[cfg(test)]
+mod drawing;
+#[cfg(test)]
+mod gauges;
+#[cfg(test)]
+mod lists;
+#[cfg(test)]
+mod outside;
+#[cfg(test)]
+mod scene;
+#[cfg(test)]
+mod scrollbars;
+#[cfg(test)]
+mod table;
+#[cfg(test)]
+mod tabs;
+#[cfg(test)]
+mod texts;
