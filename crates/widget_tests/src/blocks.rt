@@ -54,10 +54,16 @@ fn effects_are_applied_in_the_shadow(rt: HostRuntime) -> Result<(), Fail> {
     let mut buffer = blank(alloc, 4, 4)?;
     Block::new(alloc).render_with_effect(alloc, area, &mut buffer, &Plus)?;
     assert_eq!(rt; shown(alloc, &buffer)?.as_str(), "    \n  + \n ++ \n    \n");
+    Ok(())
+}
+
+#[test]
+fn a_shadow_is_dimmed(rt: HostRuntime) -> Result<(), Fail> {
+    let alloc = rt.alloc();
+    let mut buffer = blank(alloc, 2, 4)?;
     let dark = Style::new().fg(Color::Red);
     let block = Block::new(alloc).shadow(Shadow::block().style(dark).offset(Offset::new(-1, 0)));
     block.render_with_effect(alloc, Rect::new(1, 3, 1, 1), &mut buffer, &Dimmed::new())?;
-    assert_eq!(rt; shown(alloc, &buffer)?.as_str(), "    \n  + \n ++ \n    \n");
     let cell = buffer.cell(Position::new(0, 3));
     assert_eq!(rt; cell.map(|cell| cell.fg()), Some(Color::Red));
     assert_eq!(rt; cell.map(|cell| cell.modifier()), Some(Modifier::DIM));
@@ -89,31 +95,9 @@ fn shadows_lie_outside_their_base(rt: HostRuntime) -> Result<(), Fail> {
     Ok(())
 }
 
-fn titled<'a>(alloc: Global, alignment: Alignment) -> Mem<Block<'a>> {
-    let mut block = Block::bordered(alloc).title_alignment(alignment);
-    block.title(Line::raw(alloc, "abc")?)?;
-    block.title(Line::raw(alloc, "de")?)?;
-    Ok(block)
-}
-
 #[test]
-fn titles_stand_in_their_columns(rt: HostRuntime) -> Result<(), Fail> {
+fn titles_stand_above_and_below(rt: HostRuntime) -> Result<(), Fail> {
     let alloc = rt.alloc();
-    let cases = [
-        (Alignment::Left, 6, "┌abc─┐\n│    │\n└────┘\n"),
-        (Alignment::Center, 6, "┌bc─d┐\n│    │\n└────┘\n"),
-        (Alignment::Right, 6, "┌a─de┐\n│    │\n└────┘\n"),
-        (
-            Alignment::Center,
-            11,
-            "┌─abc─de──┐\n│         │\n└─────────┘\n",
-        ),
-    ];
-    for (alignment, width, rows) in cases {
-        let mut buffer = blank(alloc, width, 3)?;
-        titled(alloc, alignment)?.render(alloc, Rect::new(0, 0, width, 3), &mut buffer)?;
-        assert!(rt; shown(alloc, &buffer)?.as_str() == rows);
-    }
     let mut block = Block::new(alloc).title_position(TitlePosition::Bottom);
     block.title_top(Line::raw(alloc, "a")?)?;
     block.title(Line::raw(alloc, "b")?)?;
@@ -126,46 +110,41 @@ fn titles_stand_in_their_columns(rt: HostRuntime) -> Result<(), Fail> {
 }
 
 #[test]
-fn borders_join(rt: HostRuntime) -> Result<(), Fail> {
-    let alloc = rt.alloc();
-    let block = Block::bordered(alloc).merge_borders(MergeStrategy::Exact);
-    let mut buffer = blank(alloc, 5, 3)?;
-    block.render(alloc, Rect::new(0, 0, 3, 3), &mut buffer)?;
-    block.render(alloc, Rect::new(2, 0, 3, 3), &mut buffer)?;
-    assert_eq!(rt; shown(alloc, &buffer)?.as_str(), "┌─┬─┐\n│ │ │\n└─┴─┘\n");
-    Ok(())
-}
-
-#[test]
 fn blocks_are_built_and_copied(rt: HostRuntime) -> Result<(), Fail> {
     let alloc = rt.alloc();
     let bold = Style::new().add_modifier(Modifier::BOLD);
-    let block = titled(alloc, Alignment::Left)?
+    let mut block = Block::bordered(alloc)
+        .title_alignment(Alignment::Center)
         .title_style(bold)
         .border_style(bold)
         .style(bold)
         .borders(Borders::TOP | Borders::LEFT)
         .border_type(BorderType::Rounded)
-        .padding(Padding::new(2, 3, 1, 2))
+        .merge_borders(MergeStrategy::Exact)
         .shadow(Shadow::dimmed());
+    block.title(Line::raw(alloc, "abc")?)?;
     assert!(rt; block.clone()? == block);
     assert!(rt; Styled::style(&block) == bold);
+    let plain = Block::new(alloc)
+        .borders(Borders::all())
+        .border_set(symbols::ROUNDED)
+        .set_style(bold);
+    let rounded = Block::bordered(alloc).border_type(BorderType::Rounded);
+    assert!(rt; plain == rounded.style(bold));
+    Ok(())
+}
+
+#[test]
+fn blocks_take_room(rt: HostRuntime) -> Result<(), Fail> {
+    let block = Block::new(rt.alloc())
+        .borders(Borders::TOP | Borders::LEFT)
+        .padding(Padding::new(2, 3, 1, 2));
     assert_eq!(rt; block.horizontal_space(), (3, 3));
     assert_eq!(rt; block.vertical_space(), (2, 2));
     let area = Rect::new(1, 1, 10, 6);
     assert_eq!(rt; block.inner(area), Rect::new(4, 3, 4, 2));
     assert_eq!(rt; Some(block).inner_if_some(area), Rect::new(4, 3, 4, 2));
     assert_eq!(rt; None.inner_if_some(area), area);
-    let plain = Block::new(alloc)
-        .borders(Borders::all())
-        .border_set(symbols::ROUNDED)
-        .set_style(bold);
-    assert!(rt;
-        plain
-            == Block::bordered(alloc)
-                .border_type(BorderType::Rounded)
-                .style(bold)
-    );
     Ok(())
 }
 

@@ -26,6 +26,10 @@ fn areas(rt: HostRuntime) {
     };
     assert_eq!(rt; wide.right(), 65535);
     assert!(rt; Rect::ZERO.is_empty() && !cut.is_empty());
+}
+
+#[test]
+fn areas_overlap(rt: HostRuntime) {
     let small = Rect::new(0, 0, 3, 2);
     let cases = [
         (Rect::new(1, 1, 100, 100), Rect::new(1, 1, 2, 1)),
@@ -36,6 +40,11 @@ fn areas(rt: HostRuntime) {
         assert_eq!(rt; area.intersection(small), both);
         assert_eq!(rt; small.intersection(area), both);
     }
+}
+
+#[test]
+fn areas_contain_positions(rt: HostRuntime) {
+    let small = Rect::new(0, 0, 3, 2);
     let corners = [(0, 0, true), (2, 1, true), (3, 1, false), (2, 2, false)];
     for (x, y, inside) in corners {
         assert_eq!(rt; small.contains(Position::new(x, y)), inside);
@@ -89,6 +98,10 @@ fn modifiers(rt: HostRuntime) {
         assert_eq!(rt; modifier.bits(), bits, "at {name}");
         assert!(rt; Modifier::from_name(name) == Some(modifier), "at {name}");
     }
+}
+
+#[test]
+fn modifiers_are_joined(rt: HostRuntime) {
     let both = Modifier::BOLD.union(Modifier::ITALIC);
     assert_eq!(rt; both.bits(), 5);
     assert!(rt;
@@ -112,11 +125,19 @@ fn styles(rt: HostRuntime) {
         (both.add_modifier.bits(), both.sub_modifier.bits()),
         (6, 1)
     );
+}
+
+#[test]
+fn a_later_style_wins(rt: HostRuntime) {
+    let first = Style::new()
+        .fg(Color::Red)
+        .add_modifier(Modifier::BOLD.union(Modifier::DIM));
+    let later = Style::new().bg(Color::Blue).remove_modifier(Modifier::BOLD);
     let back = later.patch(first);
     assert_eq!(rt; (back.fg, back.bg), (Some(Color::Red), Some(Color::Blue)));
     assert_eq!(rt;
         (back.add_modifier.bits(), back.sub_modifier.bits()),
-        (7, 0)
+        (3, 0)
     );
     assert_eq!(rt; first.patch(first.fg(Color::Green)).fg, Some(Color::Green));
     assert_eq!(rt; first.patch(Style::default()), first);
@@ -127,6 +148,15 @@ fn cells(rt: HostRuntime) -> Result<(), Fail> {
     let mut cell = Cell::new(rt.alloc());
     assert_eq!(rt; cell.symbol(), " ");
     cell.set_symbol("\u{30b3}")?;
+    assert_eq!(rt; cell.symbol(), "\u{30b3}");
+    cell.set_symbol("")?;
+    assert_eq!(rt; cell.symbol(), " ");
+    Ok(())
+}
+
+#[test]
+fn cells_have_styles(rt: HostRuntime) -> Result<(), Fail> {
+    let mut cell = Cell::new(rt.alloc());
     cell.set_style(
         Style::new()
             .fg(Color::Red)
@@ -137,20 +167,14 @@ fn cells(rt: HostRuntime) -> Result<(), Fail> {
             .bg(Color::Indexed(7))
             .remove_modifier(Modifier::DIM),
     );
-    assert_eq!(rt; cell.symbol(), "\u{30b3}");
     assert_eq!(rt;
         (cell.fg(), cell.bg(), cell.modifier()),
         (Color::Red, Color::Indexed(7), Modifier::BOLD)
     );
     assert_eq!(rt; cell.attributes().bg, Color::Indexed(7));
-    cell.set_symbol("")?;
-    assert_eq!(rt; cell.symbol(), " ");
     cell.reset();
-    assert_eq!(rt;
-        (cell.fg(), cell.bg(), cell.modifier()),
-        (Color::Reset, Color::Reset, Modifier::empty())
-    );
     assert_eq!(rt; cell.attributes(), Cell::new(rt.alloc()).attributes());
+    assert_eq!(rt; cell.fg(), Color::Reset);
     Ok(())
 }
 
@@ -168,7 +192,12 @@ fn texts(rt: HostRuntime) -> Result<(), Fail> {
         assert_eq!(rt; buffer.area(), Rect::new(0, 0, width, height), "at {text}");
         assert!(rt; shown(alloc, &buffer)?.as_str() == rows, "at {text}");
     }
-    let buffer = Buffer::from_rows(alloc, "ab\ncd")?;
+    Ok(())
+}
+
+#[test]
+fn cells_are_found(rt: HostRuntime) -> Result<(), Fail> {
+    let buffer = Buffer::from_rows(rt.alloc(), "ab\ncd")?;
     assert_eq!(rt; symbol_at(&buffer, 1, 1), Some("d"));
     assert_eq!(rt; symbol_at(&buffer, 2, 0), None);
     Ok(())
@@ -181,6 +210,13 @@ fn buffers(rt: HostRuntime) -> Result<(), Fail> {
     cell.set_symbol("x")?;
     let mut buffer = Buffer::filled(alloc, Rect::new(0, 0, 2, 1), &cell)?;
     assert_eq!(rt; shown(alloc, &buffer)?.as_str(), "xx\n");
+    Ok(())
+}
+
+#[test]
+fn cells_of_a_buffer_are_set(rt: HostRuntime) -> Result<(), Fail> {
+    let alloc = rt.alloc();
+    let mut buffer = Buffer::from_rows(alloc, "xx")?;
     buffer.set_symbol(Position::new(1, 0), "yz")?;
     buffer.set_symbol(Position::new(2, 0), "a symbol of more than 8 bytes")?;
     buffer.set_style(Rect::new(1, 0, 9, 9), Style::new().bg(Color::Blue));
