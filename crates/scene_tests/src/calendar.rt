@@ -5,7 +5,7 @@ use jiff::civil::Date;
 use std::alloc::Global;
 use std::str::FromStr;
 use std::test::Fail;
-use tui_bars::{CalendarEventStore, DateStyler, Monthly};
+use tui_calendar::{CalendarEventStore, DateStyler, Monthly};
 use tui_cells::{Color, Mem, ParseError, Style};
 use tui_frames::{Block, Padding};
 use tui_para::{RatatuiLogo, Size};

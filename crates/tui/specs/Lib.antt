@@ -1,4 +1,5 @@
 pub use Rattle.tui_bars.specs as bars
+pub use Rattle.tui_calendar.specs as calendar
 pub use Rattle.tui_cells.specs as cells
 pub use Rattle.tui_frames.specs as frames
 pub use Rattle.tui_layout.specs as layout

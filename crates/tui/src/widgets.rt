@@ -2,9 +2,9 @@
 
 pub use jiff::civil::Date;
 pub use tui_bars::{
-    Bar, BarChart, BarGroup, CalendarEventStore, DateStyler, Gauge, GaugeError, LineGauge, Monthly,
-    RenderDirection, Sparkline, SparklineBar,
+    Bar, BarChart, BarGroup, Gauge, GaugeError, LineGauge, RenderDirection, Sparkline, SparklineBar,
 };
+pub use tui_calendar::{CalendarEventStore, DateStyler, Monthly};
 pub use tui_cells::{StatefulWidget, Widget};
 pub use tui_frames::{
     Block, BlockExt, BorderType, Borders, CellEffect, Clear, Dimmed, Fill, Padding, Shadow, Title,

@@ -1,11 +1,7 @@
-pub mod LightTexts
+pub mod LightNumbers
 pub mod GaugeStrokes
 pub mod StandingBars
 pub mod SparklineBars
 pub mod Ticks
 pub mod Walks
 pub mod CharStarts
-pub mod MonthPlaces
-pub mod Events
-pub mod MonthWords
-pub mod MonthSheet

@@ -1,4 +1,4 @@
--- What gauges, bar charts, sparklines and months are to those who place them.
+-- What gauges, bar charts and sparklines are to those who place them.
 use Rattle.std.specs.Prelude.{List, Option}
 use Rattle.tui_cells.specs.declared.rect.Rect.{Rect}
 use Rattle.tui_cells.specs.declared.style.Style.{Style}
@@ -9,21 +9,18 @@ use Rattle.tui_cells.specs.Rect.{covers}
 use Rattle.tui_frames.specs.Block.{BlockData}
 use Rattle.tui_frames.specs.Footprint.{footprint_if}
 use Rattle.tui_frames.specs.InBlock.{IsLightIfBlock, inner_of}
-use Rattle.tui_frames.proofs.InBlock.{nowhere_if}
+use Rattle.tui_frames.specs.Drawing.{in_block_drawing}
+use Rattle.tui_frames.specs.InBlockStays.{nowhere_if}
 use Rattle.tui_bars.specs.BarChart.{BarChartData}
 use Rattle.tui_bars.specs.ChartLight.{IsLightChart}
 use Rattle.tui_bars.specs.ChartStays.{bar_chart_stays}
 use Rattle.tui_bars.specs.ChartStrokes.{bar_chart_layers}
-use Rattle.tui_bars.specs.Framed.{framed_layers, in_block_layers}
+use Rattle.tui_bars.specs.Framed.{framed_layers}
 use Rattle.tui_bars.specs.Gauge.{GaugeData, IsLightLabel, gauge_layers}
 use Rattle.tui_bars.specs.LineGauge.{IsLightLine, LineGaugeData, line_gauge_layers}
 use Rattle.tui_bars.specs.Levels.{AreLightLevels}
-use Rattle.tui_bars.specs.Month.{DateData}
-use Rattle.tui_bars.specs.Monthly.{MonthlyData}
-use Rattle.tui_bars.specs.MonthlyStays.{monthly_stays}
-use Rattle.tui_bars.specs.MonthlyStrokes.{monthly_layers}
 use Rattle.tui_bars.specs.Sparkline.{SparklineData, sparkline_layers}
-use Rattle.tui_bars.specs.Stays.{framed_stays, gauge_stays, in_block_stays, line_gauge_stays, sparkline_stays}
+use Rattle.tui_bars.specs.Stays.{framed_stays, gauge_stays, line_gauge_stays, sparkline_stays}
 
 -- a widget with a style and perhaps a block, which shows its strokes
 abbrev pub framed_drawing : Option BlockData → Style → (content : Rect → List Layer) → Type 0 → ((area : Rect) → StayIn (covers area) (content area)) → Drawing
@@ -33,17 +30,6 @@ framed_drawing block style content light stays = record {
   shows = λ clip. Painted (framed_layers block style content clip);
   light = light;
   stays = λ clip. framed_stays block style content clip (stays (inner_of block clip));
-  nowhere = nowhere_if block;
-}
-
--- the same without a style
-abbrev pub in_block_drawing : Option BlockData → (content : Rect → List Layer) → Type 0 → ((area : Rect) → StayIn (covers area) (content area)) → Drawing
-in_block_drawing block content light stays = record {
-  layers = in_block_layers block content;
-  footprint = footprint_if block;
-  shows = λ clip. Painted (in_block_layers block content clip);
-  light = light;
-  stays = λ clip. in_block_stays block content clip (stays (inner_of block clip));
   nowhere = nowhere_if block;
 }
 
@@ -75,7 +61,3 @@ sparkline_drawing s = in_block_drawing s.block (sparkline_layers s) (IsLightSpar
 
 abbrev pub bar_chart_drawing : BarChartData → Drawing
 bar_chart_drawing c = framed_drawing c.block c.style (bar_chart_layers c) (IsLightChart c) (bar_chart_stays c)
-
--- a month by the styles of the dates; its own words take no memory
-abbrev pub monthly_drawing : (DateData → Style) → MonthlyData → Drawing
-monthly_drawing style_of m = in_block_drawing m.block (monthly_layers style_of m) (IsLightIfBlock m.block) (monthly_stays style_of m)

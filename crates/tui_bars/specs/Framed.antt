@@ -15,7 +15,3 @@ under_layers block style clip = stroke (covers clip) (dress style) ++ block_laye
 -- the whole: the content stands in the block's inner area, or in the clip where there is no block
 abbrev pub framed_layers : Option BlockData → Style → (Rect → List Layer) → Rect → List Layer
 framed_layers block style content clip = under_layers block style clip ++ content (inner_of block clip)
-
--- the same without a style
-abbrev pub in_block_layers : Option BlockData → (Rect → List Layer) → Rect → List Layer
-in_block_layers block content clip = block_layers_if block clip ++ content (inner_of block clip)

@@ -13,11 +13,6 @@ pub mod Upright
 pub mod Lying
 pub mod ChartStrokes
 pub mod ChartLight
-pub mod Month
-pub mod CalendarEventStore
-pub mod Monthly
-pub mod MonthlyStrokes
 pub mod Stays
 pub mod ChartStays
-pub mod MonthlyStays
 pub mod Drawing

@@ -2,7 +2,6 @@
 use Rattle.std.specs.Prelude.{⊤, ℕ, ◌-◌, ◌*◌, ◌/◌, List, [], ◌∷◌, ◌++◌, Option, None, Some, option_map, unwrap_or}
 use Rattle.tui_cells.specs.declared.color.Color.{Color}
 use Rattle.tui_cells.specs.declared.color.Color.TheVariants.{Reset}
-use Rattle.tui_cells.specs.declared.position.Position.{Position}
 use Rattle.tui_cells.specs.declared.rect.Rect.{Rect}
 use Rattle.tui_cells.specs.declared.style.Style.{Style}
 use Rattle.tui_cells.specs.Layers.{Layer}
@@ -13,7 +12,7 @@ use Rattle.tui_frames.specs.Block.{BlockData, block_data}
 use Rattle.tui_frames.specs.Space.{past}
 use Rattle.tui_text.specs.Line.{LineData, line_data}
 use Rattle.tui_text.specs.Painting.{cells_at}
-use Rattle.tui_text.specs.Setting.{AreLight, line_spans, set_column, set_layers}
+use Rattle.tui_text.specs.Setting.{AreLight, corner, line_spans, set_column, set_layers}
 use Rattle.tui_text.specs.Span.{SpanData, raw_span}
 use Rattle.tui_bars.specs.Areas.{put_layers}
 use Rattle.tui_bars.specs.Percent.{percent_label}
@@ -65,10 +64,6 @@ drawn_in s color = record s { fg = Some (unwrap_or color Reset); bg = Some Reset
 abbrev pub label_spans : LineGaugeData → Option LineData → List SpanData
 label_spans g None = raw_span (percent_label g.num g.den) ∷ []
 label_spans g (Some line) = line_spans line
-
--- where an area begins
-abbrev pub corner : Rect → Position
-corner area = record { x = area.x; y = area.y }
 
 abbrev pub label_layers : LineGaugeData → Rect → List Layer
 label_layers g area = set_layers area (corner area) (label_spans g g.label) area.width

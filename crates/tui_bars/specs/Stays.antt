@@ -10,11 +10,11 @@ use Rattle.tui_cells.proofs.Regions.{StayIn-wider, outside_both}
 use Rattle.tui_frames.specs.Block.{BlockData}
 use Rattle.tui_frames.specs.Footprint.{footprint_if}
 use Rattle.tui_frames.specs.InBlock.{inner_of}
-use Rattle.tui_frames.proofs.InBlock.{block_stays_if, clip_stays, inner_stays}
+use Rattle.tui_frames.specs.InBlockStays.{block_stays_if, clip_stays, inner_stays}
 use Rattle.tui_text.proofs.SetStays.{set_stays}
 use Rattle.tui_text.specs.Span.{SpanData}
 use Rattle.tui_bars.specs.Areas.{put_layers}
-use Rattle.tui_bars.specs.Framed.{framed_layers, in_block_layers}
+use Rattle.tui_bars.specs.Framed.{framed_layers}
 use Rattle.tui_bars.specs.Sparkline.{SparklineBarData, SparklineData, bars_layers, sparkline_layers, value_layers}
 use Rattle.tui_bars.specs.Levels.{levels_layers, standing_layers}
 use Rattle.tui_cells.specs.Symbols.{BarData as BarSymbols}
@@ -37,11 +37,6 @@ pub framed_stays : (block : Option BlockData) (style : Style) (content : Rect �
 framed_stays block style content clip inside = StayIn-append
     (StayIn-append (clip_stays block clip (StayIn-stroke (covers clip) (dress style) (λ x y out. out))) (block_stays_if block clip))
     (inner_stays block clip inside)
-
--- the same without a style
-pub in_block_stays : (block : Option BlockData) (content : Rect → List Layer) (clip : Rect) →
-    StayIn (covers (inner_of block clip)) (content (inner_of block clip)) → StayIn (footprint_if block clip) (in_block_layers block content clip)
-in_block_stays block content clip inside = StayIn-append (block_stays_if block clip) (inner_stays block clip inside)
 
 labelled_stays : (g : GaugeData) (label : SpanData) (area : Rect) → StayIn (covers area) (labelled_layers g label area)
 unfolding labelled_layers tip_layers

@@ -50,7 +50,7 @@ fn percent_of(share: Share) -> u64
 }
 
 /// The share in percent with its sign, on the stack.
-#[tactic(auto, using(crate::proofs::LightTexts::percent_light))]
+#[tactic(auto, using(crate::proofs::LightNumbers::percent_light))]
 pub(crate) fn percent_text(share: Share) -> ArrayString<24>
     ensures is { result.bytes ≡ decimal (percent_of share.num share.den) ++ codes "%" }
     ensures light { AreLight (raw_span result.bytes ∷ []) }
@@ -94,7 +94,7 @@ fn padded(percent: u128) -> ArrayString<48>
 }
 
 /// The share in percent in three places, rounded, at a half to the even number.
-#[tactic(auto, using(crate::proofs::LightTexts::padded_light))]
+#[tactic(auto, using(crate::proofs::LightNumbers::padded_light))]
 pub(crate) fn percent_label(share: Share) -> ArrayString<48>
     ensures is { result.bytes ≡ percent_label share.num share.den }
     ensures light { AreLight (raw_span result.bytes ∷ []) }

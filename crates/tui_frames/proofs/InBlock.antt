@@ -1,27 +1,16 @@
 -- What a widget with a block rests on.
-use Rattle.std.proofs.Common.{◌≡◌, ℕ, true, false, Option, None, Some, List, arith}
+use Rattle.std.proofs.Common.{◌≡◌, true, Option, None, Some, arith}
 use Rattle.std.proofs.lemmas.Bool.Decides.{nat_tests}
 use Rattle.tui_cells.specs.declared.rect.Rect.{Rect}
 use Rattle.tui_cells.specs.Buffer.{Screen}
-use Rattle.tui_cells.specs.Layers.{KeptOutside, Layer, StayIn}
+use Rattle.tui_cells.specs.Layers.{KeptOutside}
 use Rattle.tui_cells.specs.Rect.{covers, is_empty}
-use Rattle.tui_cells.specs.Stays.{StayIn-none}
-use Rattle.tui_cells.proofs.Painting.{KeptOutside-weaker, covers_nowhere}
-use Rattle.tui_cells.proofs.Regions.{StayIn-wider, first_out}
+use Rattle.tui_cells.proofs.Painting.{KeptOutside-weaker}
 use Rattle.tui_frames.specs.Block.{BlockData}
-use Rattle.tui_frames.specs.Footprint.{footprint_if, footprint_of}
-use Rattle.tui_frames.specs.InBlock.{block_layers_if, inner_of}
-use Rattle.tui_frames.specs.Shadow.{ShadowData, shadow_area}
+use Rattle.tui_frames.specs.Footprint.{footprint_if}
+use Rattle.tui_frames.specs.InBlock.{inner_of}
+use Rattle.tui_frames.specs.InBlockStays.{clip_out, inner_out}
 use Rattle.tui_frames.specs.Space.{inner}
-use Rattle.tui_frames.specs.Stays.{block_stays, footprint_nowhere}
-
-inner_within : (b : BlockData) (area : Rect) (x y : ℕ) → covers area x y ≡ false → covers (inner b area) x y ≡ false
-inner_within b area x y out = grind (arith, nat_tests)
-
--- outside an area one is outside its inner area
-pub inner_out : (o : Option BlockData) (area : Rect) (x y : ℕ) → covers area x y ≡ false → covers (inner_of o area) x y ≡ false
-inner_out None area x y out = out
-inner_out (Some b) area x y out = inner_within b area x y out
 
 empty_within : (b : BlockData) (area : Rect) → is_empty area ≡ true → is_empty (inner b area) ≡ true
 empty_within b area e = grind (arith, nat_tests)
@@ -30,31 +19,6 @@ empty_within b area e = grind (arith, nat_tests)
 pub inner_empty : (o : Option BlockData) (area : Rect) → is_empty area ≡ true → is_empty (inner_of o area) ≡ true
 inner_empty None area e = e
 inner_empty (Some b) area e = empty_within b area e
-
-by_shadow : (s : Option ShadowData) (clip : Rect) (x y : ℕ) → footprint_of s clip x y ≡ false → covers clip x y ≡ false
-by_shadow None clip x y out = out
-by_shadow (Some s) clip x y out = first_out (covers (shadow_area s clip) x y) (covers clip x y) out
-
--- outside the footprint one is outside the clip
-pub clip_out : (o : Option BlockData) (clip : Rect) (x y : ℕ) → footprint_if o clip x y ≡ false → covers clip x y ≡ false
-clip_out None clip x y out = out
-clip_out (Some b) clip x y out = by_shadow b.shadow clip x y out
-
--- over an empty clip there is no footprint
-pub nowhere_if : (o : Option BlockData) (clip : Rect) → is_empty clip ≡ true → (x y : ℕ) → footprint_if o clip x y ≡ false
-nowhere_if None clip e x y = covers_nowhere clip e x y
-nowhere_if (Some b) clip e x y = footprint_nowhere b.shadow clip e x y
-
--- the strokes of the block, strokes in the clip and strokes in the inner area stay in the footprint
-pub block_stays_if : (o : Option BlockData) (clip : Rect) → StayIn (footprint_if o clip) (block_layers_if o clip)
-block_stays_if None clip = StayIn-none
-block_stays_if (Some b) clip = block_stays b clip
-
-pub clip_stays : (o : Option BlockData) (clip : Rect) {ls : List Layer} → StayIn (covers clip) ls → StayIn (footprint_if o clip) ls
-clip_stays o clip s = StayIn-wider (λ x y out. clip_out o clip x y out) s
-
-pub inner_stays : (o : Option BlockData) (clip : Rect) {ls : List Layer} → StayIn (covers (inner_of o clip)) ls → StayIn (footprint_if o clip) ls
-inner_stays o clip s = StayIn-wider (λ x y out. inner_out o clip x y (clip_out o clip x y out)) s
 
 -- what keeps all outside the clip, or all outside the inner area, keeps all outside the footprint
 pub clip_kept : (o : Option BlockData) (clip : Rect) {a b : Screen} → KeptOutside (covers clip) a b → KeptOutside (footprint_if o clip) a b

@@ -50,11 +50,9 @@ use Rattle.tui_frames.specs.Block.{BlockData, TitleData}
 use Rattle.tui_frames.specs.Borders.{bottom, has, left, right, top}
 use Rattle.tui_frames.specs.Laws.{InsideIsDressed}
 use Rattle.tui_frames.specs.Shadow.{ShadowData, in_shadow, kind_edits, shadow_area, shadow_layers}
-use Rattle.tui_frames.specs.Space.{bottom_edge, count, inner, past, top_edge}
+use Rattle.tui_frames.specs.Space.{bottom_edge, count, inner, top_edge}
 use Rattle.tui_frames.specs.Strokes.{
-  block_layers,
   border_layers,
-  column_side,
   corner_layers,
   corners_layers,
   frame_layers,
@@ -62,7 +60,6 @@ use Rattle.tui_frames.specs.Strokes.{
   last_row,
   place_of,
   row_at,
-  row_side,
   row_titles,
   shadow_layers_if,
   sides_layers,
@@ -74,7 +71,7 @@ use Rattle.tui_frames.specs.Strokes.{
   titles_to_end,
 }
 use Rattle.tui_frames.specs.Titles.{has_title, is_in, is_on, title_width, titles_in, total}
-use Rattle.tui_frames.proofs.InBlock.{inner_out}
+use Rattle.tui_frames.specs.InBlockStays.{inner_out}
 use Rattle.tui_frames.specs.declared.title_position.TitlePosition.{TitlePosition}
 use Rattle.tui_frames.specs.declared.title_position.TitlePosition.TheVariants.{Top, Bottom}
 

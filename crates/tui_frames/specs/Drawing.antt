@@ -1,8 +1,13 @@
 -- What blocks, shadows and widgets with a block are to those who place them.
+use Rattle.std.specs.Prelude.{List, Option}
+use Rattle.tui_cells.specs.declared.rect.Rect.{Rect}
 use Rattle.tui_cells.specs.Drawing.{Drawing}
-use Rattle.tui_cells.specs.Layers.{Painted}
+use Rattle.tui_cells.specs.Layers.{Layer, Painted, StayIn}
+use Rattle.tui_cells.specs.Rect.{covers}
 use Rattle.tui_frames.specs.Block.{BlockData}
-use Rattle.tui_frames.specs.Footprint.{block_footprint}
+use Rattle.tui_frames.specs.Footprint.{block_footprint, footprint_if}
+use Rattle.tui_frames.specs.InBlock.{in_block_layers, inner_of}
+use Rattle.tui_frames.specs.InBlockStays.{in_block_stays, nowhere_if}
 use Rattle.tui_frames.specs.Light.{IsLightBlock}
 use Rattle.tui_frames.specs.Shadow.{IsLightKind, ShadowData, shadow_footprint, shadow_layers}
 use Rattle.tui_frames.specs.Stays.{block_stays, footprint_nowhere, shadow_nowhere, shadow_stays}
@@ -27,4 +32,15 @@ block_drawing b = record {
   light = IsLightBlock b;
   stays = block_stays b;
   nowhere = footprint_nowhere b.shadow;
+}
+
+-- a widget with perhaps a block, and without a style, which shows its strokes
+abbrev pub in_block_drawing : Option BlockData → (content : Rect → List Layer) → Type 0 → ((area : Rect) → StayIn (covers area) (content area)) → Drawing
+in_block_drawing block content light stays = record {
+  layers = in_block_layers block content;
+  footprint = footprint_if block;
+  shows = λ clip. Painted (in_block_layers block content clip);
+  light = light;
+  stays = λ clip. in_block_stays block content clip (stays (inner_of block clip));
+  nowhere = nowhere_if block;
 }

@@ -1,5 +1,5 @@
 -- Widgets that may have a block.
-use Rattle.std.specs.Prelude.{⊤, ℕ, ◌+◌, List, [], Option, None, Some}
+use Rattle.std.specs.Prelude.{⊤, ℕ, ◌+◌, List, [], ◌++◌, Option, None, Some}
 use Rattle.tui_cells.specs.declared.rect.Rect.{Rect}
 use Rattle.tui_cells.specs.Layers.{Layer}
 use Rattle.tui_text.specs.Width.{saturated}
@@ -17,6 +17,10 @@ inner_of (Some b) area = inner b area
 abbrev pub block_layers_if : Option BlockData → Rect → List Layer
 block_layers_if None clip = []
 block_layers_if (Some b) clip = block_layers b clip
+
+-- the block and then the content, which stands in the block's inner area, or in the clip where there is no block
+abbrev pub in_block_layers : Option BlockData → (Rect → List Layer) → Rect → List Layer
+in_block_layers block content clip = block_layers_if block clip ++ content (inner_of block clip)
 
 -- no block, or one that takes no memory
 abbrev pub IsLightIfBlock : Option BlockData → Type 0

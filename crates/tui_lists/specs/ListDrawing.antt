@@ -4,7 +4,8 @@ use Rattle.tui_cells.specs.Drawing.{Drawing, Moving}
 use Rattle.tui_cells.specs.Layers.{Painted}
 use Rattle.tui_frames.specs.Footprint.{footprint_if}
 use Rattle.tui_frames.specs.InBlock.{IsLightIfBlock, inner_of}
-use Rattle.tui_frames.proofs.InBlock.{inner_empty, nowhere_if}
+use Rattle.tui_frames.specs.InBlockStays.{nowhere_if}
+use Rattle.tui_frames.proofs.InBlock.{inner_empty}
 use Rattle.tui_lists.specs.List.{ListData, ListMoves, list_after}
 use Rattle.tui_lists.specs.ListItem.{ListItemData}
 use Rattle.tui_lists.specs.ListSettles.{list_rests, list_settles}

@@ -33,7 +33,7 @@ use Rattle.tui_cells.specs.Style.{no_style, patched}
 use Rattle.tui_cells.proofs.Regions.{StayIn-wider, columns_out, rows_out}
 use Rattle.tui_frames.specs.Footprint.{footprint_if}
 use Rattle.tui_frames.specs.InBlock.{inner_of}
-use Rattle.tui_frames.proofs.InBlock.{block_stays_if, clip_stays, inner_stays}
+use Rattle.tui_frames.specs.InBlockStays.{block_stays_if, clip_stays, inner_stays}
 use Rattle.tui_layout.specs.Window.{cut_selection}
 use Rattle.tui_lists.specs.List.{ListData, list_window}
 use Rattle.tui_lists.specs.ListItem.{ListItemData, heights_of, item_height}

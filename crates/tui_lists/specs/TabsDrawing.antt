@@ -4,7 +4,7 @@ use Rattle.tui_cells.specs.Drawing.{Drawing}
 use Rattle.tui_cells.specs.Layers.{Painted}
 use Rattle.tui_frames.specs.Footprint.{footprint_if}
 use Rattle.tui_frames.specs.InBlock.{IsLightIfBlock}
-use Rattle.tui_frames.proofs.InBlock.{nowhere_if}
+use Rattle.tui_frames.specs.InBlockStays.{nowhere_if}
 use Rattle.tui_lists.specs.Tabs.{TabsData}
 use Rattle.tui_lists.specs.TabsStrokes.{tabs_layers, tabs_stay}
 use Rattle.tui_text.specs.Setting.{AreLight}

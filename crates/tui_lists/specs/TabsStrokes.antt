@@ -10,7 +10,7 @@ use Rattle.tui_cells.specs.Stays.{StayIn-append, StayIn-none}
 use Rattle.tui_cells.proofs.Regions.{StayIn-wider, outside_both}
 use Rattle.tui_frames.specs.Footprint.{footprint_if}
 use Rattle.tui_frames.specs.InBlock.{block_layers_if, inner_of}
-use Rattle.tui_frames.proofs.InBlock.{block_stays_if, clip_stays, inner_stays}
+use Rattle.tui_frames.specs.InBlockStays.{block_stays_if, clip_stays, inner_stays}
 use Rattle.tui_lists.specs.Selection.{dress_stays, highlight_stays, is_at}
 use Rattle.tui_lists.specs.Tabs.{TabsData}
 use Rattle.tui_text.specs.Line.{LineData}

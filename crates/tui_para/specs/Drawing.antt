@@ -1,7 +1,7 @@
 -- What a Paragraph is to those who place it.
 use Rattle.tui_cells.specs.Drawing.{Drawing}
 use Rattle.tui_frames.specs.Footprint.{footprint_if}
-use Rattle.tui_frames.proofs.InBlock.{nowhere_if}
+use Rattle.tui_frames.specs.InBlockStays.{nowhere_if}
 use Rattle.tui_para.specs.Paragraph.{ParagraphData}
 use Rattle.tui_para.specs.Rendering.{ParagraphShows, paragraph_layers}
 use Rattle.tui_para.specs.Stays.{paragraph_stays}

@@ -13,7 +13,7 @@ use Rattle.tui_frames.specs.Block.{BlockData}
 use Rattle.tui_frames.specs.Footprint.{footprint_if}
 use Rattle.tui_frames.specs.InBlock.{inner_of}
 use Rattle.tui_frames.specs.Stays.{block_stays}
-use Rattle.tui_frames.proofs.InBlock.{clip_stays, inner_stays}
+use Rattle.tui_frames.specs.InBlockStays.{clip_stays, inner_stays}
 use Rattle.tui_para.specs.Lines.{GlyphLine}
 use Rattle.tui_para.specs.Paragraph.{ParagraphData}
 use Rattle.tui_para.specs.Rendering.{content_layers, paragraph_layers, paragraph_lines, under_layers}

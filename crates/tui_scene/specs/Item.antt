@@ -7,12 +7,13 @@ use Rattle.tui_cells.specs.Buffer.{Screen}
 use Rattle.tui_cells.specs.Drawing.{Drawing, Moving}
 use Rattle.tui_cells.specs.Layers.{Layer, StayIn}
 use Rattle.tui_bars.specs.BarChart.{BarChartData, bar_chart_data}
-use Rattle.tui_bars.specs.CalendarEventStore.{DatedStyles, dated_styles, style_or_none}
-use Rattle.tui_bars.specs.Drawing.{bar_chart_drawing, gauge_drawing, line_gauge_drawing, monthly_drawing, sparkline_drawing}
+use Rattle.tui_bars.specs.Drawing.{bar_chart_drawing, gauge_drawing, line_gauge_drawing, sparkline_drawing}
 use Rattle.tui_bars.specs.Gauge.{GaugeData, gauge_data}
 use Rattle.tui_bars.specs.LineGauge.{LineGaugeData, line_gauge_data}
-use Rattle.tui_bars.specs.Monthly.{MonthlyData, monthly_data}
 use Rattle.tui_bars.specs.Sparkline.{SparklineData, sparkline_data}
+use Rattle.tui_calendar.specs.CalendarEventStore.{DatedStyles, dated_styles, style_or_none}
+use Rattle.tui_calendar.specs.Drawing.{monthly_drawing}
+use Rattle.tui_calendar.specs.Monthly.{MonthlyData, monthly_data}
 use Rattle.tui_frames.specs.Block.{BlockData, block_data}
 use Rattle.tui_frames.specs.Clear.{clear_drawing}
 use Rattle.tui_frames.specs.Drawing.{block_drawing}

@@ -5,7 +5,8 @@ ghost use Rattle.tui_cells.specs.Layers.{KeptOutside, Painted};
 ghost use Rattle.tui_cells.specs.Rect.{intersection_of, is_empty};
 
 use std::alloc::Global;
-use tui_bars::{BarChart, CalendarEventStore, Gauge, LineGauge, Monthly, Sparkline};
+use tui_bars::{BarChart, Gauge, LineGauge, Sparkline};
+use tui_calendar::{CalendarEventStore, Monthly};
 use tui_cells::{Buffer, Mem, Rect, StatefulWidget, Widget};
 use tui_frames::{Block, Clear, Fill};
 use tui_lists::{List, ListState, Scrollbar, ScrollbarState, Tabs};

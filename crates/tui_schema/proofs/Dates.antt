@@ -10,7 +10,7 @@ use Rattle.jiff_core.specs.declared.civil.date.Date.{Date}
 use Rattle.jiff_core.specs.declared.error.Error.{Error}
 use Rattle.serde_json.specs.View.{items_view}
 use Rattle.serde_json.specs.declared.value.Value.{Value}
-use Rattle.tui_bars.specs.Month.{date_data, date_of}
+use Rattle.tui_calendar.specs.Month.{date_data, date_of}
 use Rattle.tui_schema.specs.Kinds.Date.{civil_of, date_in, has_day, is_between}
 
 -- arrays of another length

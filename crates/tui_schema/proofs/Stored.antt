@@ -2,8 +2,8 @@
 use Rattle.std.proofs.Common.{◌≡◌, ℕ, ◌+◌, ◌<◌, ◌≤◌, List, [], ◌∷◌, map, length, get_or, drop, refl, ap, ◌∙◌, add-one}
 use Rattle.std.proofs.lemmas.List.{drop_all}
 use Rattle.std.proofs.Math.Seq.{drop-cons}
-use Rattle.tui_bars.specs.CalendarEventStore.{DatedStyles, with_date}
-use Rattle.tui_bars.specs.Month.{date_data}
+use Rattle.tui_calendar.specs.CalendarEventStore.{DatedStyles, with_date}
+use Rattle.tui_calendar.specs.Month.{date_data}
 use Rattle.tui_schema.specs.declared.kinds.event.Event.{Event}
 use Rattle.tui_schema.specs.Kinds.Event.{event_data, with_events}
 

@@ -3,7 +3,7 @@ use Rattle.tui_cells.specs.Drawing.{Drawing, Moving}
 use Rattle.tui_cells.specs.Layers.{Painted}
 use Rattle.tui_frames.specs.Footprint.{footprint_if}
 use Rattle.tui_frames.specs.InBlock.{inner_of}
-use Rattle.tui_frames.proofs.InBlock.{nowhere_if}
+use Rattle.tui_frames.specs.InBlockStays.{nowhere_if}
 use Rattle.tui_table.specs.Moves.{TableMoves, table_after}
 use Rattle.tui_table.specs.Settles.{table_rests, table_settles}
 use Rattle.tui_table.specs.State.{at_rest}

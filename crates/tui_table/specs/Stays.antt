@@ -33,7 +33,7 @@ use Rattle.tui_cells.specs.Stays.{StayIn-append, StayIn-none, StayIn-stroke}
 use Rattle.tui_cells.proofs.Regions.{StayIn-wider, columns_out, outside_both, rows_out}
 use Rattle.tui_frames.specs.Footprint.{footprint_if}
 use Rattle.tui_frames.specs.InBlock.{inner_of}
-use Rattle.tui_frames.proofs.InBlock.{block_stays_if, clip_stays, inner_stays}
+use Rattle.tui_frames.specs.InBlockStays.{block_stays_if, clip_stays, inner_stays}
 use Rattle.tui_layout.specs.declared.segment.Segment.{Segment}
 use Rattle.tui_table.specs.Areas.{area_in, body_of, columns_in, gutter_of, height_if, room_of}
 use Rattle.tui_table.specs.Cell.{CellData}

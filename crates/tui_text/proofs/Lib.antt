@@ -1,6 +1,7 @@
 pub mod EmptyText
 pub mod OneByte
 pub mod PartClusters
+pub mod LightTexts
 pub mod Seams
 pub mod Texts
 pub mod RowStays

@@ -13,6 +13,10 @@ use Rattle.tui_text.specs.Line.{LineData}
 use Rattle.tui_text.specs.Painting.{glyph_at}
 use Rattle.tui_text.specs.Span.{SpanData}
 
+-- where an area begins
+abbrev pub corner : Rect → Position
+corner area = record { x = area.x; y = area.y }
+
 -- a grapheme in its columns, if it has any
 abbrev pub set_cluster : ℕ → ℕ → Style → List ℕ → List Layer
 set_cluster x y style text = if nat_lt 0 (width_of text) then glyph_at x y (glyph_in style text) else []

@@ -51,7 +51,7 @@ fn start_from(text: &str, place: usize) -> usize
 }
 
 /// A text from a byte on, as many columns after the bar's beginning.
-#[tactic(auto, using(crate::proofs::LightTexts::light_styled))]
+#[tactic(auto, using(tui_text::proofs::LightTexts::light_styled))]
 fn paint_rest(
     buf: &mut Buffer,
     plan: Plan,
@@ -96,7 +96,7 @@ fn paint_beyond(
 }
 
 /// A value's text: its beginning over the filled cells, and what is past them.
-#[tactic(auto, using(crate::proofs::LightTexts::light_styled))]
+#[tactic(auto, using(tui_text::proofs::LightTexts::light_styled))]
 fn paint_row_value(
     buf: &mut Buffer,
     plan: Plan,

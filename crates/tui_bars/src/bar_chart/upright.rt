@@ -231,7 +231,7 @@ impl<'a> BarChart<'a> {
     }
 
     /// A bar's value, as this text, in its last row.
-    #[tactic(auto, using(crate::proofs::LightTexts::light_styled), unfolding(crate::specs::Upright::value_text_layers))]
+    #[tactic(auto, using(tui_text::proofs::LightTexts::light_styled), unfolding(crate::specs::Upright::value_text_layers))]
     fn paint_value_text(
         &self,
         buf: &mut Buffer,

@@ -2,7 +2,7 @@
 
 ghost use Rattle.std.specs.Prelude.{◌≡◌, ◌<◌, IsOk, IsTrue, OnOk};
 ghost use Rattle.tui_bars.specs.Drawing.{IsLightSparkline, sparkline_drawing};
-ghost use Rattle.tui_bars.specs.Framed.{in_block_layers};
+ghost use Rattle.tui_frames.specs.InBlock.{in_block_layers};
 ghost use Rattle.tui_bars.specs.Sparkline.{bar_layers, column_at, greatest_of, side, sparkline_bar_data, sparkline_data, sparkline_layers};
 ghost use Rattle.tui_cells.specs.Layers.{KeptOutside, Painted};
 ghost use Rattle.tui_cells.specs.Rect.{covers, is_empty};

@@ -2,10 +2,10 @@
 use Rattle.std.specs.Prelude.{ℕ, [], Option, Result, Ok, unwrap_or}
 use Rattle.std.specs.Option.{option_or}
 use Rattle.serde_json.specs.Data.{Data}
-use Rattle.tui_bars.specs.CalendarEventStore.{DatedStyles, dated_styles}
-use Rattle.tui_bars.specs.Monthly.{MonthlyData, monthly_data, weeks_alone}
-use Rattle.tui_bars.specs.declared.calendar_event_store.CalendarEventStore.{CalendarEventStore}
-use Rattle.tui_bars.specs.declared.monthly.Monthly.{Monthly}
+use Rattle.tui_calendar.specs.CalendarEventStore.{DatedStyles, dated_styles}
+use Rattle.tui_calendar.specs.Monthly.{MonthlyData, monthly_data, weeks_alone}
+use Rattle.tui_calendar.specs.declared.calendar_event_store.CalendarEventStore.{CalendarEventStore}
+use Rattle.tui_calendar.specs.declared.monthly.Monthly.{Monthly}
 use Rattle.tui_cells.specs.Style.{no_style}
 use Rattle.tui_schema.specs.declared.field.Field.TheVariants as fields
 use Rattle.tui_schema.specs.Kinds.Block.{block_of}

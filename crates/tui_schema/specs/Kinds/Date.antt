@@ -3,7 +3,7 @@ use Rattle.std.specs.Prelude.{Bool, ◌&&◌, ℤ, pos, negsuc, int_le, unsigned
 use Rattle.jiff.specs.Words.{days_in_month}
 use Rattle.serde_json.specs.Data.{Data, Items, no_items, item}
 use Rattle.serde_json.specs.Find.{as_array}
-use Rattle.tui_bars.specs.Month.{DateData, date_of as date_with}
+use Rattle.tui_calendar.specs.Month.{DateData, date_of as date_with}
 use Rattle.tui_schema.specs.Kinds.Members.{◌>>=◌}
 use Rattle.tui_schema.specs.Kinds.Number.{i16_of, i8_of}
 

@@ -1,8 +1,8 @@
 -- Dates with a style: `{"date": .., "style": ..}`.
 use Rattle.std.specs.Prelude.{List, [], ◌∷◌, Option, Some, codes}
 use Rattle.serde_json.specs.Data.{Data}
-use Rattle.tui_bars.specs.CalendarEventStore.{DatedStyles, with_date}
-use Rattle.tui_bars.specs.Month.{DateData, date_data}
+use Rattle.tui_calendar.specs.CalendarEventStore.{DatedStyles, with_date}
+use Rattle.tui_calendar.specs.Month.{DateData, date_data}
 use Rattle.tui_cells.specs.declared.style.Style.{Style}
 use Rattle.tui_schema.specs.declared.kinds.event.Event.{Event}
 use Rattle.tui_schema.specs.Kinds.Date.{date_of}

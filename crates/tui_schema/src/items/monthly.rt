@@ -3,8 +3,8 @@
 ghost use Rattle.std.specs.Prelude.{◌≡◌, [], IfOk, map, option_map};
 ghost use Rattle.std.specs.Option.{option_or};
 ghost use Rattle.serde_json.specs.View.{view};
-ghost use Rattle.tui_bars.specs.CalendarEventStore.{dated_styles};
-ghost use Rattle.tui_bars.specs.Monthly.{monthly_data};
+ghost use Rattle.tui_calendar.specs.CalendarEventStore.{dated_styles};
+ghost use Rattle.tui_calendar.specs.Monthly.{monthly_data};
 ghost use Rattle.tui_frames.specs.Block.{block_data};
 ghost use Rattle.tui_schema.specs.Items.MonthlyFields.{calendar_data, dressed_month, month_with_events, shown_monthly};
 ghost use Rattle.tui_schema.specs.Kinds.Event.{event_data, with_events};
@@ -17,7 +17,7 @@ use crate::table::{optional, required};
 use jiff::civil::Date;
 use serde_json::Value;
 use std::alloc::Global;
-use tui_bars::{CalendarEventStore, Monthly};
+use tui_calendar::{CalendarEventStore, Monthly};
 use tui_cells::{Mem, Style};
 use tui_frames::Block;
 

@@ -1,7 +1,7 @@
 //! Dates: `[year, month, day]`.
 
 ghost use Rattle.std.specs.Prelude.{◌≡◌, option_map};
-ghost use Rattle.tui_bars.specs.Month.{date_data};
+ghost use Rattle.tui_calendar.specs.Month.{date_data};
 ghost use Rattle.tui_schema.specs.Kinds.Date.{civil_of, date_of};
 
 use crate::kinds::array::elements;
@@ -18,7 +18,7 @@ fn civil_date(year: i16, month: i8, day: i8) -> Option<Date>
 }
 
 impl<'v> Kind<'v> for Date {
-    ghost use Rattle.tui_bars.specs.Month.{DateData};
+    ghost use Rattle.tui_calendar.specs.Month.{DateData};
 
     ghost Seen = { DateData };
 

@@ -17,7 +17,7 @@ pub(crate) struct Event {
 }
 
 impl<'v> Kind<'v> for Event {
-    ghost use Rattle.tui_bars.specs.Month.{DateData};
+    ghost use Rattle.tui_calendar.specs.Month.{DateData};
     ghost use Rattle.tui_cells.specs.declared.style.Style.{Style};
     ghost use Rattle.tui_schema.specs.Kinds.Event.{event_data};
 

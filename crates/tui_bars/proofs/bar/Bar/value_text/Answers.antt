@@ -1,6 +1,6 @@
 use Rattle.std.proofs.Common.{subst, arith}
 use Rattle.std.specs.Option.{option_copied}
-use Rattle.tui_bars.proofs.LightTexts.{decimal_light}
+use Rattle.tui_bars.proofs.LightNumbers.{decimal_light}
 use Rattle.tui_bars.specs.ChartLight.{IsLightValue}
 use Rattle.tui_bars.proofs.bar.Bar.value_text.Goals as goal
 

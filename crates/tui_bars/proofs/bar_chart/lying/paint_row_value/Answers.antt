@@ -1,6 +1,6 @@
 use Rattle.tui_bars.proofs.GaugeStrokes.{ok_then}
 use Rattle.tui_bars.specs.Lying.{row_value_layers}
-use Rattle.tui_bars.proofs.LightTexts.{light_styled}
+use Rattle.tui_text.proofs.LightTexts.{light_styled}
 use Rattle.tui_bars.proofs.bar_chart.lying.paint_row_value.Goals as goal
 
 pub returns-clause-ok : goal.returns-clause-ok

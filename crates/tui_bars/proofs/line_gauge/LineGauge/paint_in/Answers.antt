@@ -1,6 +1,7 @@
 use Rattle.std.proofs.Common.{sym, ◌∙◌}
 use Rattle.tui_cells.proofs.Painting.{KeptOutside-then, Painted-still, Painted-then}
-use Rattle.tui_frames.proofs.InBlock.{inner_kept, nowhere_if}
+use Rattle.tui_frames.specs.InBlockStays.{nowhere_if}
+use Rattle.tui_frames.proofs.InBlock.{inner_kept}
 use Rattle.tui_text.proofs.Elements.{on_ok}
 use Rattle.tui_bars.specs.LineGauge.{line_gauge_data, line_gauge_layers}
 use Rattle.tui_bars.specs.Stays.{framed_stays, line_gauge_stays}

@@ -1,9 +1,10 @@
 use Rattle.std.proofs.Common.{sym, ◌∙◌}
 use Rattle.tui_cells.proofs.Painting.{KeptOutside-then, Painted-still, Painted-then}
-use Rattle.tui_frames.proofs.InBlock.{inner_kept, nowhere_if}
+use Rattle.tui_frames.specs.InBlockStays.{in_block_stays, nowhere_if}
+use Rattle.tui_frames.proofs.InBlock.{inner_kept}
 use Rattle.tui_text.proofs.Elements.{on_ok}
 use Rattle.tui_bars.specs.Sparkline.{sparkline_data, sparkline_layers}
-use Rattle.tui_bars.specs.Stays.{in_block_stays, sparkline_stays}
+use Rattle.tui_bars.specs.Stays.{sparkline_stays}
 use Rattle.tui_bars.proofs.sparkline.Sparkline.paint_in.Goals as goal
 
 pub returns-then-is_empty-clause-ok : goal.returns-then-is_empty-clause-ok

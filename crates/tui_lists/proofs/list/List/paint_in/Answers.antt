@@ -1,7 +1,8 @@
 use Rattle.std.proofs.Common.{◌∙◌, sym}
 use Rattle.tui_cells.proofs.Painting.{KeptOutside-then, Painted-kept, Painted-still, Painted-then}
 use Rattle.tui_frames.specs.InBlock.{inner_of}
-use Rattle.tui_frames.proofs.InBlock.{clip_kept, inner_empty, inner_kept, nowhere_if}
+use Rattle.tui_frames.specs.InBlockStays.{nowhere_if}
+use Rattle.tui_frames.proofs.InBlock.{clip_kept, inner_empty, inner_kept}
 use Rattle.tui_lists.specs.List.{list_data}
 use Rattle.tui_lists.specs.ListSettles.{list_rests}
 use Rattle.tui_lists.specs.ListStays.{list_stays}

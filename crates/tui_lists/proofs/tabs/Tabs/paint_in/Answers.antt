@@ -1,6 +1,7 @@
 use Rattle.std.proofs.Common.{◌∙◌, sym}
 use Rattle.tui_cells.proofs.Painting.{KeptOutside-then, Painted-kept, Painted-still, Painted-then}
-use Rattle.tui_frames.proofs.InBlock.{clip_kept, inner_kept, nowhere_if}
+use Rattle.tui_frames.specs.InBlockStays.{nowhere_if}
+use Rattle.tui_frames.proofs.InBlock.{clip_kept, inner_kept}
 use Rattle.tui_lists.specs.Selection.{dress_stays}
 use Rattle.tui_lists.specs.Tabs.{tabs_data}
 use Rattle.tui_lists.specs.TabsStrokes.{tabs_stay}

@@ -1,6 +1,7 @@
 use Rattle.std.proofs.Common.{sym, ◌∙◌}
 use Rattle.tui_cells.proofs.Painting.{KeptOutside-then, Painted-still, Painted-then}
-use Rattle.tui_frames.proofs.InBlock.{inner_kept, nowhere_if}
+use Rattle.tui_frames.specs.InBlockStays.{nowhere_if}
+use Rattle.tui_frames.proofs.InBlock.{inner_kept}
 use Rattle.tui_para.specs.Paragraph.{paragraph_data}
 use Rattle.tui_para.specs.Stays.{paragraph_stays}
 use Rattle.tui_para.proofs.TextCut.{on_ok}

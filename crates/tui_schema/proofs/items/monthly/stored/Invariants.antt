@@ -1,4 +1,4 @@
-use Rattle.tui_bars.specs.CalendarEventStore.{dated_styles}
+use Rattle.tui_calendar.specs.CalendarEventStore.{dated_styles}
 use Rattle.tui_schema.proofs.Stored.{AreStored}
 use Rattle.tui_schema.proofs.items.monthly.stored.Given as goal
 

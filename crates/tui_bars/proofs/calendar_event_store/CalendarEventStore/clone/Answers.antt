@@ -1,5 +1,0 @@
-use Rattle.tui_bars.specs.contracts.calendar_event_store.CalendarEventStoreEq.TheImpl.Laws.{laws-law}
-use Rattle.tui_bars.proofs.calendar_event_store.CalendarEventStore.clone.Goals as goal
-
-pub returns-clause-equal : goal.returns-clause-equal
-returns-clause-equal c = rw c.in_ok-copied.ensures (laws-law.refl c.args.self.now)

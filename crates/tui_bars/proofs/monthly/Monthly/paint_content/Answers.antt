@@ -1,7 +1,0 @@
-use Rattle.tui_bars.proofs.MonthSheet.{content_painted}
-use Rattle.tui_bars.proofs.monthly.Monthly.paint_content.Goals as goal
-
-pub returns-clause-ok : goal.returns-clause-ok
-returns-clause-ok g c =
-    content_painted c.paint_weeks.result _ _ _ _ _ _ _ _ _ c.under-rest.ensures c.under.ensures
-    c.in_ok-paint_month.ensures.ok c.in_ok-paint_weekdays.ensures.ok c.paint_weeks.ensures.ok

@@ -1,0 +1,4 @@
+pub mod MonthPlaces
+pub mod Events
+pub mod MonthWords
+pub mod MonthSheet

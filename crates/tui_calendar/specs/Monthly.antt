@@ -1,0 +1,96 @@
+-- A month as plain data, its words, and what its places show.
+use Rattle.std.specs.Prelude.{ℕ, ◌+◌, ◌-◌, ◌/◌, ◌%◌, ◌==◌, min, nat_lt, List, [], ◌∷◌, ◌++◌, Option, None, Some, codes, get_or, option_map, if◌then◌else◌}
+use Rattle.std.specs.Fmt.{signed_decimal}
+use Rattle.tui_cells.specs.declared.style.Style.{Style}
+use Rattle.tui_cells.specs.Style.{no_style, patched}
+use Rattle.tui_frames.specs.Block.{BlockData, block_data}
+use Rattle.tui_frames.specs.InBlock.{beside}
+use Rattle.tui_frames.specs.Space.{columns_around, rows_around}
+use Rattle.tui_calendar.specs.Month.{DateData, date_data, weeks_of}
+use Rattle.tui_calendar.specs.declared.monthly.Monthly.{Monthly}
+use Rattle.tui_calendar.specs.declared.monthly.rendering.Slot.{Slot}
+
+-- the styles of the two headers and of the days around the month, where they are shown
+pub record MonthlyData : Type 0 where
+  pub block : Option BlockData
+  pub date : DateData
+  pub month_header : Option Style
+  pub weekdays_header : Option Style
+  pub surrounding : Option Style
+  pub default_style : Style
+
+abbrev pub monthly_data : {DS : Type 0} → Monthly DS → MonthlyData
+monthly_data m = record {
+  block = option_map block_data m.block;
+  date = date_data m.display_date;
+  month_header = m.month_header;
+  weekdays_header = m.weekdays_header;
+  surrounding = m.surrounding;
+  default_style = m.default_style;
+}
+
+-- the weeks of a date's month alone
+abbrev pub weeks_alone : DateData → MonthlyData
+weeks_alone date = record { block = None; date = date; month_header = None; weekdays_header = None; surrounding = None; default_style = no_style }
+
+-- the rows of a header that is shown or not
+abbrev pub rows_of : Option Style → ℕ
+rows_of None = 0
+rows_of (Some _) = 1
+
+-- the columns and the rows that the month and its block take
+abbrev pub monthly_width : MonthlyData → ℕ
+monthly_width m = min (beside 21 (option_map columns_around m.block)) 65535
+
+abbrev pub monthly_height : MonthlyData → ℕ
+monthly_height m = min (beside (weeks_of m.date + (rows_of m.month_header + rows_of m.weekdays_header)) (option_map rows_around m.block)) 65535
+
+abbrev pub month_names : List (List ℕ)
+month_names =
+    codes "January" ∷ codes "February" ∷ codes "March" ∷ codes "April" ∷ codes "May" ∷ codes "June" ∷ codes "July" ∷ codes "August"
+    ∷ codes "September" ∷ codes "October" ∷ codes "November" ∷ codes "December" ∷ []
+
+abbrev pub month_name : ℕ → List ℕ
+month_name month = get_or month_names (month - 1) []
+
+-- the month and the year
+unfoldable pub heading_text : DateData → List ℕ
+heading_text d = month_name d.month ++ (codes " " ++ signed_decimal d.year)
+
+abbrev pub weekdays_text : List ℕ
+weekdays_text = codes " Su Mo Tu We Th Fr Sa"
+
+-- a day at the right of two places
+unfoldable pub day_text : ℕ → List ℕ
+day_text day = (if nat_lt day 10 then 32 else 48 + day / 10) ∷ (48 + day % 10) ∷ []
+
+-- two characters and their style
+pub record SlotData : Type 0 where
+  pub text : List ℕ
+  pub style : Style
+
+abbrev pub slot_data : Slot → SlotData
+slot_data s = record { text = s.text.bytes; style = s.style }
+
+-- the background of a style alone
+abbrev pub background : Style → Style
+background s = record no_style { bg = s.bg }
+
+abbrev pub blanks : MonthlyData → SlotData
+blanks m = record { text = codes "  "; style = background m.default_style }
+
+-- a day of another month, which is shown where the days around have a style
+abbrev pub day_around : MonthlyData → DateData → Style → Option Style → SlotData
+day_around m d event None = blanks m
+day_around m d event (Some s) = record { text = day_text d.day; style = patched (patched m.default_style s) event }
+
+-- what a place shows, by the styles of the dates: a day of the month, a day of another one, and blanks where there is no date
+unfoldable pub slot_of : (DateData → Style) → MonthlyData → Option DateData → SlotData
+slot_of style_of m None = blanks m
+slot_of style_of m (Some d) =
+    if d.month == m.date.month then record { text = day_text d.day; style = patched m.default_style (style_of d) }
+    else day_around m d (style_of d) m.surrounding
+
+-- the style of the blank before a day
+abbrev pub gap_style : MonthlyData → ℕ → Style
+gap_style m column = if column == 0 then no_style else background m.default_style

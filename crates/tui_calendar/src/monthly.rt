@@ -1,0 +1,119 @@
+//! The calendar of a month.
+
+ghost use Rattle.std.specs.Prelude.{◌≡◌, ◌≤◌, Some};
+ghost use Rattle.tui_calendar.specs.Month.{date_data};
+ghost use Rattle.tui_calendar.specs.Monthly.{monthly_data, monthly_height, monthly_width, rows_of, weeks_alone};
+ghost use Rattle.tui_frames.specs.Block.{block_data};
+
+mod rendering;
+mod words;
+
+use crate::date_styler::DateStyler;
+use crate::month::weeks;
+use jiff::civil::Date;
+use tui_cells::Style;
+use tui_frames::{Block, beside, columns_if_some, rows_if_some};
+
+/// The days of a month week by week, each week from Sunday on in a row of its own, 21 columns wide. Each day has a style by its
+/// date. The name of the month and those of the days stand above, where they are shown.
+#[derive(Debug, PartialEq, Eq, Hash, Drop)]
+pub struct Monthly<'a, DS: DateStyler> {
+    display_date: Date,
+    events: DS,
+    month_header: Option<Style>,
+    weekdays_header: Option<Style>,
+    surrounding: Option<Style>,
+    default_style: Style,
+    block: Option<Block<'a>>,
+}
+
+impl<'a, DS: DateStyler> Monthly<'a, DS> {
+    /// The month of a date, with the styles of its days: without headers, without the days around the month, and without a block.
+    pub fn new(display_date: Date, events: DS) -> Monthly<'a, DS>
+        ensures is { monthly_data result ≡ weeks_alone (date_data display_date) }
+        ensures events { result.events ≡ events }
+    {
+        Monthly {
+            display_date,
+            events,
+            month_header: None,
+            weekdays_header: None,
+            surrounding: None,
+            default_style: Style::new(),
+            block: None,
+        }
+    }
+
+    /// Shows the days of the months before and after in the first and in the last week, in a style between the default one and
+    /// that of their date.
+    pub fn show_surrounding(mut self, style: Style) -> Monthly<'a, DS>
+        ensures is { monthly_data result ≡ record (monthly_data self.entry) { surrounding = Some style } }
+        ensures events { result.events ≡ self.entry.events }
+    {
+        self.surrounding = Some(style);
+        self
+    }
+
+    /// Shows the names of the days, in a style.
+    pub fn show_weekdays_header(mut self, style: Style) -> Monthly<'a, DS>
+        ensures is { monthly_data result ≡ record (monthly_data self.entry) { weekdays_header = Some style } }
+        ensures events { result.events ≡ self.entry.events }
+    {
+        self.weekdays_header = Some(style);
+        self
+    }
+
+    /// Shows the name of the month and the year, in a style.
+    pub fn show_month_header(mut self, style: Style) -> Monthly<'a, DS>
+        ensures is { monthly_data result ≡ record (monthly_data self.entry) { month_header = Some style } }
+        ensures events { result.events ≡ self.entry.events }
+    {
+        self.month_header = Some(style);
+        self
+    }
+
+    /// Sets the style of the days, which those of their dates patch. Its background alone is that of the blanks between them.
+    pub fn default_style(mut self, style: Style) -> Monthly<'a, DS>
+        ensures is { monthly_data result ≡ record (monthly_data self.entry) { default_style = style } }
+        ensures events { result.events ≡ self.entry.events }
+    {
+        self.default_style = style;
+        self
+    }
+
+    /// Puts a block around the month, which then has the area inside.
+    pub fn block(mut self, block: Block<'a>) -> Monthly<'a, DS>
+        ensures is { monthly_data result ≡ record (monthly_data self.entry) { block = Some (block_data block.entry) } }
+        ensures events { result.events ≡ self.entry.events }
+    {
+        self.block = Some(block);
+        self
+    }
+
+    /// The columns of a week and of the block, cut at 65535.
+    pub fn width(&self) -> u16
+        ensures { result ≡ monthly_width (monthly_data self.now) }
+    {
+        beside(21, columns_if_some(&self.block)).min(65535) as u16
+    }
+
+    /// The rows of the weeks, of the headers that are shown, and of the block, cut at 65535.
+    pub fn height(&self) -> u16
+        ensures { result ≡ monthly_height (monthly_data self.now) }
+    {
+        let rows = weeks(self.display_date)
+            + (rows_of(self.month_header) + rows_of(self.weekdays_header));
+        beside(usize::from(rows), rows_if_some(&self.block)).min(65535) as u16
+    }
+}
+
+/// The rows of a header that is shown or not.
+fn rows_of(header: Option<Style>) -> u8
+    ensures is { result ≡ rows_of header }
+    ensures few { result ≤ 1 }
+{
+    match header {
+        None => 0,
+        Some(_) => 1,
+    }
+}
