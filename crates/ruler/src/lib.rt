@@ -11,6 +11,7 @@ use tui_cells::{Modifier, Position};
 use tui_text::visible_cells;
 
 /// One symbol in each cell of the first row of its area.
+#[derive(Clone, Copy)]
 pub struct Ruler<'a> {
     pub symbol: &'a str,
     pub style: Style,
