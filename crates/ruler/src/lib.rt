@@ -5,8 +5,13 @@ ghost use Rattle.ruler.specs.Ruler.{ruler_drawing};
 
 use std::alloc::Global;
 use tui_cells::{Buffer, Mem, Rect, Style, Widget};
+#[cfg(test)]
+use tui_cells::{Modifier, Position};
+#[cfg(test)]
+use tui_text::visible_cells;
 
 /// One symbol in each cell of the first row of its area.
+#[derive(Clone, Copy)]
 pub struct Ruler<'a> {
     pub symbol: &'a str,
     pub style: Style,
@@ -19,4 +24,24 @@ impl<'a> Widget for Ruler<'a> {
         let row = area.intersection(buf.area()).rows_from(0, 1);
         buf.fill(alloc, row, self.symbol, self.style)
     }
+}
+
+#[test]
+fn a_ruler_is_the_first_row(rt: HostRuntime) -> Result<(), std::test::Fail> {
+    let alloc = rt.alloc();
+    let area = Rect::new(0, 0, 4, 2);
+    let mut buffer = Buffer::empty(alloc, area)?;
+    let style = Style::new().add_modifier(Modifier::BOLD);
+    Ruler { symbol: "─", style }.render(alloc, area, &mut buffer)?;
+    let mut rows = String::new(alloc);
+    for row in 0..buffer.height() {
+        for (_, cell) in visible_cells(buffer.row_at(row)) {
+            rows.push_str(cell.symbol())?;
+        }
+        rows.push('\n')?;
+    }
+    assert_eq!(rt; rows.as_str(), "────\n    \n");
+    let corner = buffer.cell(Position::new(0, 0));
+    assert!(rt; corner.is_some_and(|cell| cell.modifier() == Modifier::BOLD));
+    Ok(())
 }

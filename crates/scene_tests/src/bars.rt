@@ -43,10 +43,7 @@ fn charts_are_built_and_copied(rt: HostRuntime) -> Result<(), Fail> {
     assert!(rt; upright == BarChart::new(alloc, values(alloc, &[1, 2])?)?);
     let lying = BarChart::horizontal(alloc, values(alloc, &[1, 2])?)?;
     assert!(rt; lying == upright.direction(Direction::Horizontal));
-    assert_eq!(rt;
-        drawn(alloc, &chart, 5, 3)?.as_str(),
-        "┌───┐\n│2 ▄│\n└───┘\n"
-    );
+    assert!(rt; drawn(alloc, &chart, 5, 3)?.as_str() == "┌───┐\n│2 ▄│\n└───┘\n");
     Ok(())
 }
 
@@ -60,7 +57,7 @@ fn bars_of_a_sparkline_are_made_of_values(rt: HostRuntime) -> Result<(), Fail> {
     bars.push(SparklineBar::from(2))?;
     let line = Sparkline::new(alloc).data(bars).absent_value_symbol("x");
     assert!(rt; line.clone()? == line);
-    assert_eq!(rt; drawn(alloc, &line, 4, 1)?.as_str(), "▄x██\n");
+    assert!(rt; drawn(alloc, &line, 4, 1)?.as_str() == "▄x██\n");
     Ok(())
 }
 

@@ -43,10 +43,7 @@ fn a_style_of_ones_own_is_asked_for_each_date(rt: HostRuntime) -> Result<(), Fai
         .show_weekdays_header(style);
     assert!(rt; april.width() == 21 && april.height() == 8);
     // A day is cut where its columns end.
-    assert_eq!(rt;
-        drawn(alloc, &month(2015, 2, 28), 5, 3)?.as_str(),
-        "  1  \n  8  \n 15 1\n"
-    );
+    assert!(rt; drawn(alloc, &month(2015, 2, 28), 5, 3)?.as_str() == "  1  \n  8  \n 15 1\n");
     // The calendar ends with 31 December 9999, a Friday.
     assert!(rt; month(9999, 12, 31).show_month_header(style).height() == 6);
     Ok(())
@@ -87,10 +84,7 @@ fn stores_keep_a_style_for_a_date(rt: HostRuntime) -> Result<(), Fail> {
     assert!(rt; one != other.default_style(red));
     let lent = CalendarEventStore::on(alloc, date(2023, 4, 1), red)?;
     let april = Monthly::new(date(2023, 4, 1), &lent);
-    assert_eq!(rt;
-        drawn(alloc, &april, 21, 1)?.as_str(),
-        "                    1\n"
-    );
+    assert!(rt; drawn(alloc, &april, 21, 1)?.as_str() == "                    1\n");
     Ok(())
 }
 
@@ -104,6 +98,6 @@ fn the_logo_has_two_sizes(rt: HostRuntime) -> Result<(), Fail> {
     assert!(rt; Size::from_str("Small") == Ok(Size::Small));
     assert!(rt; Size::from_str("tiny") == Err(ParseError::VariantNotFound));
     let name = format!(in alloc; "{}", Size::Tiny)?;
-    assert_eq!(rt; name.as_str(), "Tiny");
+    assert!(rt; name.as_str() == "Tiny");
     Ok(())
 }

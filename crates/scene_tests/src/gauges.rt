@@ -3,11 +3,11 @@
 use crate::drawing::drawn;
 use std::test::Fail;
 use tui_bars::{Gauge, GaugeError, LineGauge};
-use tui_cells::{Buffer, Color, Position, Rect, Style, Styled, Widget, line};
+use tui_cells::{Attributes, Buffer, Color, Rect, Style, Styled, Widget, line};
 use tui_frames::Block;
 use tui_layout::Fraction;
 use tui_text::{Line, Span};
-use widget_tests::shown;
+use widget_tests::{attributes_at, shown};
 
 #[test]
 fn shares_out_of_range_are_refused(rt: HostRuntime) -> Result<(), Fail> {
@@ -39,10 +39,7 @@ fn gauges_are_built_and_copied(rt: HostRuntime) -> Result<(), Fail> {
         .style(red);
     assert!(rt; gauge.clone()? == gauge);
     assert!(rt; Styled::style(&gauge) == red);
-    assert_eq!(rt;
-        drawn(alloc, &gauge, 5, 3)?.as_str(),
-        "┌───┐\n│50%│\n└───┘\n"
-    );
+    assert!(rt; drawn(alloc, &gauge, 5, 3)?.as_str() == "┌───┐\n│50%│\n└───┘\n");
     let lines = LineGauge::default()
         .block(Block::bordered(alloc))
         .label(Line::raw(alloc, "a")?)
@@ -53,13 +50,12 @@ fn gauges_are_built_and_copied(rt: HostRuntime) -> Result<(), Fail> {
     let area = Rect::new(0, 0, 6, 3);
     let mut buffer = Buffer::empty(alloc, area)?;
     lines.render(alloc, area, &mut buffer)?;
-    assert_eq!(rt; shown(alloc, &buffer)?.as_str(), "┌────┐\n│a ━━│\n└────┘\n");
-    let colours = |x| {
-        buffer
-            .cell(Position::new(x, 1))
-            .map(|cell| (cell.fg(), cell.bg()))
+    assert!(rt; shown(alloc, &buffer)?.as_str() == "┌────┐\n│a ━━│\n└────┘\n");
+    let blue = Attributes {
+        fg: Color::Blue,
+        ..Attributes::at_rest()
     };
-    assert!(rt; colours(3) == Some((Color::Reset, Color::Reset)));
-    assert!(rt; colours(4) == Some((Color::Blue, Color::Reset)));
+    assert!(rt; attributes_at(&buffer, 3, 1) == Some(Attributes::at_rest()));
+    assert!(rt; attributes_at(&buffer, 4, 1) == Some(blue));
     Ok(())
 }

@@ -42,7 +42,7 @@ fn items_are_replaced(rt: HostRuntime) -> Result<(), Fail> {
     let mut list = list(alloc, &["a"])?;
     assert!(rt; (list.len(), list.is_empty()) == (1, false));
     list.items(items(alloc, &["b", "c"])?)?;
-    assert_eq!(rt; list.len(), 2);
+    assert!(rt; list.len() == 2);
     list.items(Vec::new(alloc))?;
     assert!(rt; list.is_empty());
     Ok(())
@@ -66,14 +66,14 @@ fn a_list_is_drawn_from_its_first_item(rt: HostRuntime) -> Result<(), Fail> {
     let mut buffer = Buffer::empty(alloc, Rect::new(0, 0, 4, 3))?;
     let list = list(alloc, &["i0", "i1"])?.block(Block::bordered(alloc));
     Widget::render(&list, alloc, Rect::new(0, 0, 9, 9), &mut buffer)?;
-    assert_eq!(rt; shown(alloc, &buffer)?.as_str(), "┌──┐\n│i0│\n└──┘\n");
+    assert!(rt; shown(alloc, &buffer)?.as_str() == "┌──┐\n│i0│\n└──┘\n");
     Ok(())
 }
 
 #[test]
 fn directions_have_names(rt: HostRuntime) -> Result<(), Fail> {
     let name = format!(in rt.alloc(); "{}", ListDirection::default())?;
-    assert_eq!(rt; name.as_str(), "TopToBottom");
+    assert!(rt; name.as_str() == "TopToBottom");
     assert!(rt; ListDirection::from_str("BottomToTop") == Ok(ListDirection::BottomToTop));
     assert!(rt; ListDirection::from_str("topToBottom") == Err(ParseError::VariantNotFound));
     Ok(())
@@ -90,16 +90,16 @@ fn selections_move(rt: HostRuntime) -> Result<(), Fail> {
     let mut now = state(4, Some(1));
     assert!(rt; (now.offset(), now.selected()) == (4, Some(1)));
     now.select_last();
-    assert_eq!(rt; now.selected(), Some(MOST));
+    assert!(rt; now.selected() == Some(MOST));
     now.select_next();
-    assert_eq!(rt; now.selected(), Some(MOST));
+    assert!(rt; now.selected() == Some(MOST));
     now.scroll_down_by(9);
-    assert_eq!(rt; now.selected(), Some(MOST));
+    assert!(rt; now.selected() == Some(MOST));
     now.select_previous();
-    assert_eq!(rt; now.selected(), Some(MOST - 1));
+    assert!(rt; now.selected() == Some(MOST - 1));
     now.select_first();
     now.select_previous();
-    assert_eq!(rt; now.selected(), Some(0));
+    assert!(rt; now.selected() == Some(0));
     now.scroll_down_by(7);
     now.scroll_up_by(4);
     assert!(rt; now == state(4, Some(3)));
@@ -115,16 +115,16 @@ fn selections_move(rt: HostRuntime) -> Result<(), Fail> {
 fn selections_begin(rt: HostRuntime) -> Result<(), Fail> {
     let mut now = ListState::default();
     now.select_previous();
-    assert_eq!(rt; now.selected(), Some(MOST));
+    assert!(rt; now.selected() == Some(MOST));
     *now.selected_mut() = None;
     *now.offset_mut() = 6;
     now.select_next();
     assert!(rt; now == state(6, Some(0)));
     *now.selected_mut() = None;
     now.scroll_down_by(2);
-    assert_eq!(rt; now.selected(), Some(2));
+    assert!(rt; now.selected() == Some(2));
     *now.selected_mut() = None;
     now.scroll_up_by(2);
-    assert_eq!(rt; now.selected(), Some(0));
+    assert!(rt; now.selected() == Some(0));
     Ok(())
 }

@@ -6,7 +6,7 @@ use tui_scene::{DrawError, drawing_laws};
 #[test]
 fn refusals(rt: HostRuntime) -> Result<(), Fail> {
     let text = format!(in rt.alloc(); "{}", DrawError::NoMemory { at: 2 })?;
-    assert_eq!(rt; text.as_str(), "NoMemory");
+    assert!(rt; text.as_str() == "NoMemory");
     drawing_laws();
     Ok(())
 }

@@ -48,7 +48,7 @@ fn an_orientation_may_bring_its_symbols(rt: HostRuntime) -> Result<(), Fail> {
 #[test]
 fn orientations_have_names(rt: HostRuntime) -> Result<(), Fail> {
     let name = format!(in rt.alloc(); "{}", ScrollbarOrientation::default())?;
-    assert_eq!(rt; name.as_str(), "VerticalRight");
+    assert!(rt; name.as_str() == "VerticalRight");
     let left = ScrollbarOrientation::from_str("VerticalLeft");
     assert!(rt; left == Ok(ScrollbarOrientation::VerticalLeft));
     assert!(rt; ScrollbarOrientation::from_str("") == Err(ParseError::VariantNotFound));
@@ -60,7 +60,7 @@ fn orientations_have_names(rt: HostRuntime) -> Result<(), Fail> {
 #[test]
 fn directions_have_names(rt: HostRuntime) -> Result<(), Fail> {
     let name = format!(in rt.alloc(); "{}", ScrollDirection::default())?;
-    assert_eq!(rt; name.as_str(), "Forward");
+    assert!(rt; name.as_str() == "Forward");
     assert!(rt; ScrollDirection::from_str("Backward") == Ok(ScrollDirection::Backward));
     Ok(())
 }
@@ -69,21 +69,21 @@ fn directions_have_names(rt: HostRuntime) -> Result<(), Fail> {
 fn positions_stay_in_the_content(rt: HostRuntime) -> Result<(), Fail> {
     let mut state = ScrollbarState::new(3);
     state.prev();
-    assert_eq!(rt; state.get_position(), 0);
+    assert!(rt; state.get_position() == 0);
     state.next();
     state.scroll(ScrollDirection::Forward);
     state.next();
-    assert_eq!(rt; state.get_position(), 2);
+    assert!(rt; state.get_position() == 2);
     state.scroll(ScrollDirection::Backward);
-    assert_eq!(rt; state.get_position(), 1);
+    assert!(rt; state.get_position() == 1);
     state.last();
-    assert_eq!(rt; state.get_position(), 2);
+    assert!(rt; state.get_position() == 2);
     state.first();
-    assert_eq!(rt; state.get_position(), 0);
+    assert!(rt; state.get_position() == 0);
     let mut none = ScrollbarState::default().position(usize::MAX);
     none.next();
-    assert_eq!(rt; none.get_position(), 0);
+    assert!(rt; none.get_position() == 0);
     none.last();
-    assert_eq!(rt; none.get_position(), 0);
+    assert!(rt; none.get_position() == 0);
     Ok(())
 }

@@ -92,10 +92,7 @@ fn a_table_is_drawn_from_its_first_row(rt: HostRuntime) -> Result<(), Fail> {
         .highlight_spacing(HighlightSpacing::Always)
         .highlight_symbol(Text::raw(alloc, ">")?)
         .flex(Flex::End);
-    assert_eq!(rt;
-        drawn(alloc, &table, 6, 3)?.as_str(),
-        "┌────┐\n│   a│\n└────┘\n"
-    );
+    assert!(rt; drawn(alloc, &table, 6, 3)?.as_str() == "┌────┐\n│   a│\n└────┘\n");
     Ok(())
 }
 
@@ -149,16 +146,16 @@ fn a_percentage_of_100_is_taken(rt: HostRuntime) -> Result<(), Fail> {
 fn rows_are_selected(rt: HostRuntime) -> Result<(), Fail> {
     let mut state = TableState::default();
     state.select_last();
-    assert_eq!(rt; state.selected(), Some(usize::MAX));
+    assert!(rt; state.selected() == Some(usize::MAX));
     state.select_next();
-    assert_eq!(rt; state.selected(), Some(usize::MAX));
+    assert!(rt; state.selected() == Some(usize::MAX));
     state.select_previous();
-    assert_eq!(rt; state.selected(), Some(usize::MAX - 1));
+    assert!(rt; state.selected() == Some(usize::MAX - 1));
     let mut state = TableState::new().with_offset(7);
     state.select_previous();
-    assert_eq!(rt; state.selected(), Some(usize::MAX));
+    assert!(rt; state.selected() == Some(usize::MAX));
     state.scroll_down_by(5);
-    assert_eq!(rt; (state.offset(), state.selected()), (7, Some(usize::MAX)));
+    assert!(rt; (state.offset(), state.selected()) == (7, Some(usize::MAX)));
     Ok(())
 }
 
@@ -167,12 +164,12 @@ fn columns_are_selected(rt: HostRuntime) -> Result<(), Fail> {
     let mut state = TableState::new().with_offset(7).with_selected(Some(5));
     state.select_column(Some(12));
     state.scroll_right_by(4);
-    assert_eq!(rt; state.selected_cell(), Some((5, 16)));
+    assert!(rt; state.selected_cell() == Some((5, 16)));
     state.scroll_left_by(20);
-    assert_eq!(rt; state.selected_column(), Some(0));
+    assert!(rt; state.selected_column() == Some(0));
     state.select(None);
     assert!(rt; state == TableState::new().with_selected_column(Some(0)));
-    assert_eq!(rt; state.selected_cell(), None);
+    assert!(rt; state.selected_cell() == None);
     Ok(())
 }
 

@@ -3,7 +3,7 @@
 
 use std::alloc::Global;
 use tui::buffer::{Buffer, Mem, visible_cells};
-use tui::layout::{Alignment, Constraint, Fraction, Position, Rect};
+use tui::layout::{Alignment, Constraint, Fraction, Rect};
 use tui::style::{Color, Modifier, Style};
 use tui::symbols::MergeStrategy;
 use tui::text::{Line, Text};
@@ -167,24 +167,4 @@ fn draw_with_bar(
         .viewport_content_length(rows);
     let bar = Scrollbar::default().begin_symbol(None).end_symbol(None);
     bar.render(alloc, area, buffer, &mut seen)
-}
-
-#[test]
-fn a_dialog_stands_in_the_middle(rt: HostRuntime) -> Result<(), std::test::Fail> {
-    let alloc = rt.alloc();
-    let area = Rect::new(0, 0, 20, 3);
-    let mut buffer = Buffer::empty(alloc, area)?;
-    draw_dialog(alloc, area, &mut buffer)?;
-    let mut rows = String::new(alloc);
-    for row in 0..buffer.height() {
-        for (_, cell) in visible_cells(buffer.row_at(row)) {
-            rows.push_str(cell.symbol())?;
-        }
-        rows.push('\n')?;
-    }
-    let wanted = "·┌────────────────┐·\n·│   Leave? y/n   │·\n·└────────────────┘·\n";
-    assert_eq!(rt; rows.as_str(), wanted);
-    let corner = buffer.cell(Position::new(1, 0));
-    assert!(rt; corner.is_some_and(|cell| cell.modifier() == Modifier::empty()));
-    Ok(())
 }

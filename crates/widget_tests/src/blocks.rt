@@ -4,13 +4,13 @@ ghost use Rattle.std.specs.Prelude.{⊤};
 ghost use Rattle.tui_cells.specs.Layers.{KeptOutside};
 ghost use Rattle.tui_frames.specs.Shadow.{in_shadow};
 
-use crate::symbols::shown;
+use crate::symbols::{attributes_at, shown};
 use std::alloc::Global;
 use std::str::FromStr;
 use std::test::Fail;
 use tui_cells::{
-    Buffer, Color, Mem, MergeStrategy, Modifier, Offset, ParseError, Position, Rect, Style, Styled,
-    Widget, border as symbols,
+    Attributes, Buffer, Color, Mem, MergeStrategy, Modifier, Offset, ParseError, Position, Rect,
+    Style, Styled, Widget, border as symbols,
 };
 use tui_frames::{
     Block, BlockExt, BorderType, Borders, CellEffect, Dimmed, Padding, Shadow, TitlePosition,
@@ -53,7 +53,7 @@ fn effects_are_applied_in_the_shadow(rt: HostRuntime) -> Result<(), Fail> {
     let area = Rect::new(0, 0, 2, 2);
     let mut buffer = blank(alloc, 4, 4)?;
     Block::new(alloc).render_with_effect(alloc, area, &mut buffer, &Plus)?;
-    assert_eq!(rt; shown(alloc, &buffer)?.as_str(), "    \n  + \n ++ \n    \n");
+    assert!(rt; shown(alloc, &buffer)?.as_str() == "    \n  + \n ++ \n    \n");
     Ok(())
 }
 
@@ -64,9 +64,12 @@ fn a_shadow_is_dimmed(rt: HostRuntime) -> Result<(), Fail> {
     let dark = Style::new().fg(Color::Red);
     let block = Block::new(alloc).shadow(Shadow::block().style(dark).offset(Offset::new(-1, 0)));
     block.render_with_effect(alloc, Rect::new(1, 3, 1, 1), &mut buffer, &Dimmed::new())?;
-    let cell = buffer.cell(Position::new(0, 3));
-    assert_eq!(rt; cell.map(|cell| cell.fg()), Some(Color::Red));
-    assert_eq!(rt; cell.map(|cell| cell.modifier()), Some(Modifier::DIM));
+    let dark = Attributes {
+        fg: Color::Red,
+        modifier: Modifier::DIM,
+        ..Attributes::at_rest()
+    };
+    assert!(rt; attributes_at(&buffer, 0, 3) == Some(dark));
     Ok(())
 }
 
@@ -104,8 +107,8 @@ fn titles_stand_above_and_below(rt: HostRuntime) -> Result<(), Fail> {
     block.title_bottom(Line::raw(alloc, "c")?.alignment(Alignment::Right))?;
     let mut buffer = blank(alloc, 5, 3)?;
     block.render(alloc, Rect::new(0, 0, 5, 3), &mut buffer)?;
-    assert_eq!(rt; shown(alloc, &buffer)?.as_str(), "a    \n     \nb   c\n");
-    assert_eq!(rt; block.inner(Rect::new(0, 0, 5, 3)), Rect::new(0, 1, 5, 1));
+    assert!(rt; shown(alloc, &buffer)?.as_str() == "a    \n     \nb   c\n");
+    assert!(rt; block.inner(Rect::new(0, 0, 5, 3)) == Rect::new(0, 1, 5, 1));
     Ok(())
 }
 
@@ -139,12 +142,12 @@ fn blocks_take_room(rt: HostRuntime) -> Result<(), Fail> {
     let block = Block::new(rt.alloc())
         .borders(Borders::TOP | Borders::LEFT)
         .padding(Padding::new(2, 3, 1, 2));
-    assert_eq!(rt; block.horizontal_space(), (3, 3));
-    assert_eq!(rt; block.vertical_space(), (2, 2));
+    assert!(rt; block.horizontal_space() == (3, 3));
+    assert!(rt; block.vertical_space() == (2, 2));
     let area = Rect::new(1, 1, 10, 6);
-    assert_eq!(rt; block.inner(area), Rect::new(4, 3, 4, 2));
-    assert_eq!(rt; Some(block).inner_if_some(area), Rect::new(4, 3, 4, 2));
-    assert_eq!(rt; None.inner_if_some(area), area);
+    assert!(rt; block.inner(area) == Rect::new(4, 3, 4, 2));
+    assert!(rt; Some(block).inner_if_some(area) == Rect::new(4, 3, 4, 2));
+    assert!(rt; None.inner_if_some(area) == area);
     Ok(())
 }
 
@@ -161,7 +164,7 @@ fn sets_of_borders(rt: HostRuntime) -> Result<(), Fail> {
     assert!(rt; Borders::from_bits(10) == Some(Borders::RIGHT | Borders::LEFT));
     assert!(rt; Borders::from_bits(16) == None);
     let sides = border!(TOP, LEFT);
-    assert_eq!(rt; sides.bits(), 9);
+    assert!(rt; sides.bits() == 9);
     assert!(rt; sides.contains(Borders::TOP) && !sides.contains(Borders::ALL));
     assert!(rt; sides.intersects(border!(LEFT, RIGHT)) && !sides.intersects(Borders::RIGHT));
     assert!(rt; sides.union(border!(RIGHT, BOTTOM)).is_all() && !sides.is_all());
@@ -188,7 +191,7 @@ fn paddings(rt: HostRuntime) {
         (Padding::bottom(3), (0, 0, 0, 3)),
     ];
     for (padding, (left, right, top, bottom)) in cases {
-        assert_eq!(rt; padding, Padding::new(left, right, top, bottom));
+        assert!(rt; padding == Padding::new(left, right, top, bottom));
     }
     assert!(rt; Padding::left(1) > Padding::new(0, 9, 9, 9));
 }
@@ -202,7 +205,7 @@ fn names(rt: HostRuntime) -> Result<(), Fail> {
     }
     assert!(rt; BorderType::from_str("") == Err(ParseError::VariantNotFound));
     let name = format!(in alloc; "{}", TitlePosition::default())?;
-    assert_eq!(rt; name.as_str(), "Top");
+    assert!(rt; name.as_str() == "Top");
     assert!(rt; TitlePosition::from_str("Bottom") == Ok(TitlePosition::Bottom));
     assert!(rt; BorderType::border_symbols(BorderType::Double) == symbols::DOUBLE);
     Ok(())

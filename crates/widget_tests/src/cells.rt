@@ -1,30 +1,22 @@
 //! Values worked by hand, and each call once with ample memory.
 
-use crate::symbols::shown;
+use crate::symbols::{attributes_at, shown, symbol_at};
 use bitflags::Flags;
-use std::alloc::Global;
 use std::test::Fail;
-use tui_cells::{Buffer, Cell, Color, Mem, Modifier, ParseError, Position, Rect, Style};
-
-fn symbol_at(buffer: &Buffer, x: u16, y: u16) -> Option<&str> {
-    buffer.cell(Position::new(x, y)).map(|cell| cell.symbol())
-}
+use tui_cells::{Attributes, Buffer, Cell, Color, Modifier, ParseError, Position, Rect, Style};
 
 #[test]
 fn areas(rt: HostRuntime) {
     let cut = Rect::new(65530, 65534, 10, 3);
-    assert_eq!(rt;
-        (cut.left(), cut.top(), cut.right(), cut.bottom()),
-        (65530, 65534, 65535, 65535)
-    );
-    assert_eq!(rt; (cut.width, cut.height), (5, 1));
+    assert!(rt; (cut.left(), cut.top(), cut.right(), cut.bottom()) == (65530, 65534, 65535, 65535));
+    assert!(rt; (cut.width, cut.height) == (5, 1));
     let wide = Rect {
         x: 65530,
         y: 0,
         width: 10,
         height: 1,
     };
-    assert_eq!(rt; wide.right(), 65535);
+    assert!(rt; wide.right() == 65535);
     assert!(rt; Rect::ZERO.is_empty() && !cut.is_empty());
 }
 
@@ -37,8 +29,8 @@ fn areas_overlap(rt: HostRuntime) {
         (Rect::new(100, 0, 5, 5), Rect::new(100, 0, 0, 2)),
     ];
     for (area, both) in cases {
-        assert_eq!(rt; area.intersection(small), both);
-        assert_eq!(rt; small.intersection(area), both);
+        assert!(rt; area.intersection(small) == both);
+        assert!(rt; small.intersection(area) == both);
     }
 }
 
@@ -47,7 +39,7 @@ fn areas_contain_positions(rt: HostRuntime) {
     let small = Rect::new(0, 0, 3, 2);
     let corners = [(0, 0, true), (2, 1, true), (3, 1, false), (2, 2, false)];
     for (x, y, inside) in corners {
-        assert_eq!(rt; small.contains(Position::new(x, y)), inside);
+        assert!(rt; small.contains(Position::new(x, y)) == inside);
     }
 }
 
@@ -95,7 +87,7 @@ fn modifiers(rt: HostRuntime) {
         ("CROSSED_OUT", Modifier::CROSSED_OUT, 256),
     ];
     for (name, modifier, bits) in names {
-        assert_eq!(rt; modifier.bits(), bits, "at {name}");
+        assert!(rt; modifier.bits() == bits, "at {name}");
         assert!(rt; Modifier::from_name(name) == Some(modifier), "at {name}");
     }
 }
@@ -103,11 +95,11 @@ fn modifiers(rt: HostRuntime) {
 #[test]
 fn modifiers_are_joined(rt: HostRuntime) {
     let both = Modifier::BOLD.union(Modifier::ITALIC);
-    assert_eq!(rt; both.bits(), 5);
+    assert!(rt; both.bits() == 5);
     assert!(rt;
         both.contains(Modifier::ITALIC) && !both.contains(Modifier::BOLD.union(Modifier::DIM))
     );
-    assert_eq!(rt; Modifier::empty().bits(), 0);
+    assert!(rt; Modifier::empty().bits() == 0);
 }
 
 #[test]
@@ -120,11 +112,8 @@ fn styles(rt: HostRuntime) {
         .remove_modifier(Modifier::BOLD)
         .add_modifier(Modifier::ITALIC);
     let both = first.patch(later);
-    assert_eq!(rt; (both.fg, both.bg), (Some(Color::Red), Some(Color::Blue)));
-    assert_eq!(rt;
-        (both.add_modifier.bits(), both.sub_modifier.bits()),
-        (6, 1)
-    );
+    assert!(rt; (both.fg, both.bg) == (Some(Color::Red), Some(Color::Blue)));
+    assert!(rt; (both.add_modifier.bits(), both.sub_modifier.bits()) == (6, 1));
 }
 
 #[test]
@@ -134,23 +123,20 @@ fn a_later_style_wins(rt: HostRuntime) {
         .add_modifier(Modifier::BOLD.union(Modifier::DIM));
     let later = Style::new().bg(Color::Blue).remove_modifier(Modifier::BOLD);
     let back = later.patch(first);
-    assert_eq!(rt; (back.fg, back.bg), (Some(Color::Red), Some(Color::Blue)));
-    assert_eq!(rt;
-        (back.add_modifier.bits(), back.sub_modifier.bits()),
-        (3, 0)
-    );
-    assert_eq!(rt; first.patch(first.fg(Color::Green)).fg, Some(Color::Green));
-    assert_eq!(rt; first.patch(Style::default()), first);
+    assert!(rt; (back.fg, back.bg) == (Some(Color::Red), Some(Color::Blue)));
+    assert!(rt; (back.add_modifier.bits(), back.sub_modifier.bits()) == (3, 0));
+    assert!(rt; first.patch(first.fg(Color::Green)).fg == Some(Color::Green));
+    assert!(rt; first.patch(Style::default()) == first);
 }
 
 #[test]
 fn cells(rt: HostRuntime) -> Result<(), Fail> {
     let mut cell = Cell::new(rt.alloc());
-    assert_eq!(rt; cell.symbol(), " ");
+    assert!(rt; cell.symbol() == " ");
     cell.set_symbol("\u{30b3}")?;
-    assert_eq!(rt; cell.symbol(), "\u{30b3}");
+    assert!(rt; cell.symbol() == "\u{30b3}");
     cell.set_symbol("")?;
-    assert_eq!(rt; cell.symbol(), " ");
+    assert!(rt; cell.symbol() == " ");
     Ok(())
 }
 
@@ -167,14 +153,13 @@ fn cells_have_styles(rt: HostRuntime) -> Result<(), Fail> {
             .bg(Color::Indexed(7))
             .remove_modifier(Modifier::DIM),
     );
-    assert_eq!(rt;
-        (cell.fg(), cell.bg(), cell.modifier()),
-        (Color::Red, Color::Indexed(7), Modifier::BOLD)
+    assert!(rt;
+        (cell.fg(), cell.bg(), cell.modifier()) == (Color::Red, Color::Indexed(7), Modifier::BOLD)
     );
-    assert_eq!(rt; cell.attributes().bg, Color::Indexed(7));
+    assert!(rt; cell.attributes().bg == Color::Indexed(7));
     cell.reset();
-    assert_eq!(rt; cell.attributes(), Cell::new(rt.alloc()).attributes());
-    assert_eq!(rt; cell.fg(), Color::Reset);
+    assert!(rt; cell.attributes() == Cell::new(rt.alloc()).attributes());
+    assert!(rt; cell.fg() == Color::Reset);
     Ok(())
 }
 
@@ -189,7 +174,10 @@ fn texts(rt: HostRuntime) -> Result<(), Fail> {
     ];
     for (text, width, height, rows) in cases {
         let buffer = Buffer::from_rows(alloc, text)?;
-        assert_eq!(rt; buffer.area(), Rect::new(0, 0, width, height), "at {text}");
+        assert!(rt;
+            buffer.area() == Rect::new(0, 0, width, height),
+            "at {text}"
+        );
         assert!(rt; shown(alloc, &buffer)?.as_str() == rows, "at {text}");
     }
     Ok(())
@@ -198,8 +186,8 @@ fn texts(rt: HostRuntime) -> Result<(), Fail> {
 #[test]
 fn cells_are_found(rt: HostRuntime) -> Result<(), Fail> {
     let buffer = Buffer::from_rows(rt.alloc(), "ab\ncd")?;
-    assert_eq!(rt; symbol_at(&buffer, 1, 1), Some("d"));
-    assert_eq!(rt; symbol_at(&buffer, 2, 0), None);
+    assert!(rt; symbol_at(&buffer, 1, 1) == Some("d"));
+    assert!(rt; symbol_at(&buffer, 2, 0) == None);
     Ok(())
 }
 
@@ -209,7 +197,7 @@ fn buffers(rt: HostRuntime) -> Result<(), Fail> {
     let mut cell = Cell::new(alloc);
     cell.set_symbol("x")?;
     let mut buffer = Buffer::filled(alloc, Rect::new(0, 0, 2, 1), &cell)?;
-    assert_eq!(rt; shown(alloc, &buffer)?.as_str(), "xx\n");
+    assert!(rt; shown(alloc, &buffer)?.as_str() == "xx\n");
     Ok(())
 }
 
@@ -220,17 +208,15 @@ fn cells_of_a_buffer_are_set(rt: HostRuntime) -> Result<(), Fail> {
     buffer.set_symbol(Position::new(1, 0), "yz")?;
     buffer.set_symbol(Position::new(2, 0), "a symbol of more than 8 bytes")?;
     buffer.set_style(Rect::new(1, 0, 9, 9), Style::new().bg(Color::Blue));
-    assert_eq!(rt; shown(alloc, &buffer)?.as_str(), "xyz\n");
-    assert_eq!(rt;
-        buffer.cell(Position::new(0, 0)).map(|cell| cell.bg()),
-        Some(Color::Reset)
-    );
-    assert_eq!(rt;
-        buffer.cell(Position::new(1, 0)).map(|cell| cell.bg()),
-        Some(Color::Blue)
-    );
+    assert!(rt; shown(alloc, &buffer)?.as_str() == "xyz\n");
+    let blue = Attributes {
+        bg: Color::Blue,
+        ..Attributes::at_rest()
+    };
+    assert!(rt; attributes_at(&buffer, 0, 0) == Some(Attributes::at_rest()));
+    assert!(rt; attributes_at(&buffer, 1, 0) == Some(blue));
     buffer.reset(Rect::new(1, 0, 1, 1));
-    assert_eq!(rt; shown(alloc, &buffer)?.as_str(), "x \n");
+    assert!(rt; shown(alloc, &buffer)?.as_str() == "x \n");
     Ok(())
 }
 
@@ -253,21 +239,22 @@ fn fills(rt: HostRuntime) -> Result<(), Fail> {
         (1, 1, LONG, Color::Red),
         (2, 1, LONG, Color::Red),
     ] {
-        assert_eq!(rt; symbol_at(&buffer, x, y), Some(symbol));
-        assert_eq!(rt;
-            buffer.cell(Position::new(x, y)).map(|cell| cell.fg()),
-            Some(fg)
-        );
+        assert!(rt; symbol_at(&buffer, x, y) == Some(symbol));
+        let wanted = Attributes {
+            fg,
+            ..Attributes::at_rest()
+        };
+        assert!(rt; attributes_at(&buffer, x, y) == Some(wanted));
     }
     buffer.fill(alloc, Rect::new(0, 0, 2, 2), "\u{30b3}", Style::new())?;
-    assert_eq!(rt; symbol_at(&buffer, 1, 1), Some("\u{30b3}"));
-    assert_eq!(rt; symbol_at(&buffer, 2, 1), Some(LONG));
+    assert!(rt; symbol_at(&buffer, 1, 1) == Some("\u{30b3}"));
+    assert!(rt; symbol_at(&buffer, 2, 1) == Some(LONG));
     Ok(())
 }
 
 #[test]
 fn refusals(rt: HostRuntime) -> Result<(), Fail> {
     let text = format!(in rt.alloc(); "{}", ParseError::VariantNotFound)?;
-    assert_eq!(rt; text.as_str(), "VariantNotFound");
+    assert!(rt; text.as_str() == "VariantNotFound");
     Ok(())
 }

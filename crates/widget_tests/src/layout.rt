@@ -52,9 +52,9 @@ fn windows_move_least(rt: HostRuntime) -> Result<(), Fail> {
     ];
     for (heights, height, offset, selected, padding, first, end) in cases {
         let sums = sums_of(rt.alloc(), heights)?;
-        assert_eq!(rt; sums.len(), heights.len());
+        assert!(rt; sums.len() == heights.len());
         let found = uncounted_window(&sums, height, offset, selected, padding);
-        assert_eq!(rt; found, Window { first, end });
+        assert!(rt; found == Window { first, end });
     }
     Ok(())
 }
@@ -65,22 +65,22 @@ fn windows_of_many_items(rt: HostRuntime) -> Result<(), Fail> {
     for _i in 0..1000 {
         sums.push(1)?;
     }
-    assert_eq!(rt;
-        uncounted_window(&sums, 10, 0, Some(999), 0),
-        Window {
-            first: 990,
-            end: 1000
-        }
+    assert!(rt;
+        uncounted_window(&sums, 10, 0, Some(999), 0)
+            == Window {
+                first: 990,
+                end: 1000
+            }
     );
     for _i in 1000..65536 {
         sums.push(1)?;
     }
-    assert_eq!(rt;
-        uncounted_window(&sums, 1000, 70000, Some(40000), 5),
-        Window {
-            first: 39995,
-            end: 40995
-        }
+    assert!(rt;
+        uncounted_window(&sums, 1000, 70000, Some(40000), 5)
+            == Window {
+                first: 39995,
+                end: 40995
+            }
     );
     Ok(())
 }

@@ -21,4 +21,4 @@ mod symbols;
 #[cfg(test)]
 mod text;
 
-pub use symbols::shown;
+pub use symbols::{attributes_at, shown, symbol_at};

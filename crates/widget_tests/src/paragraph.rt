@@ -2,54 +2,57 @@
 
 use tui_cells::{Color, Mem, Style, Styled};
 use tui_para::{Paragraph, Wrap};
-use tui_text::{Alignment, Line, Text};
+use tui_text::{Alignment, Text};
 
-/// Texts, widths, how they are wrapped, and how many lines there are.
-const COUNTS: [(&str, u16, Option<Wrap>, usize); 7] = [
-    ("foo bar", 3, Some(Wrap { trim: true }), 2),
-    ("foo bar", 0, Some(Wrap { trim: true }), 0),
-    ("foo bar\n\nbaz", 3, Some(Wrap { trim: true }), 4),
-    ("   abc", 5, Some(Wrap { trim: true }), 1),
-    ("   abc", 5, Some(Wrap { trim: false }), 2),
-    ("foo bar\nbaz", 3, None, 2),
-    ("foo bar\nbaz", 0, None, 0),
+/// Texts, widths, `trim` of the wrapping, and how many lines there are.
+const COUNTS: [(&str, u16, bool, usize); 5] = [
+    ("foo bar", 3, true, 2),
+    ("foo bar", 0, true, 0),
+    ("foo bar\n\nbaz", 3, true, 4),
+    ("   abc", 5, true, 1),
+    ("   abc", 5, false, 2),
 ];
 
-fn wrapped_so(paragraph: Paragraph<'_>, wrap: Option<Wrap>) -> Paragraph<'_> {
-    match wrap {
-        Some(wrap) => paragraph.wrap(wrap),
-        None => paragraph,
-    }
-}
-
 #[test]
-fn lines_are_counted(rt: HostRuntime) -> Mem<()> {
-    for (content, width, wrap, count) in COUNTS {
-        let paragraph = wrapped_so(Paragraph::new(Text::raw(rt.alloc(), content)?), wrap);
-        let counted = paragraph.line_count(rt.alloc(), width)?;
-        assert_eq!(&rt; counted, count, "of {content:?} at {width}");
+fn wrapped_lines_are_counted(rt: HostRuntime) -> Mem<()> {
+    let alloc = rt.alloc();
+    for (content, width, trim, count) in COUNTS {
+        let counted = Paragraph::new(Text::raw(alloc, content)?)
+            .wrap(Wrap { trim })
+            .line_count(alloc, width)?;
+        assert!(&rt; counted == count, "of {content:?} at {width}");
     }
-    let none = Paragraph::new(Text::new(rt.alloc())).wrap(Wrap::default());
-    assert_eq!(&rt; none.line_count(rt.alloc(), 9)?, 0);
-    let plain = Paragraph::new(Text::raw(rt.alloc(), "foo bar\nbaz")?);
-    assert_eq!(&rt; plain.line_width(), 7);
     Ok(())
 }
 
 #[test]
-fn paragraphs_are_built(rt: HostRuntime) -> Mem<()> {
+fn lines_are_counted(rt: HostRuntime) -> Mem<()> {
+    let alloc = rt.alloc();
+    let plain = Paragraph::new(Text::raw(alloc, "foo bar\nbaz")?);
+    assert!(&rt; plain.line_count(alloc, 3)? == 2 && plain.line_count(alloc, 0)? == 0);
+    assert!(&rt; plain.line_width() == 7);
+    let none = Paragraph::new(Text::new(alloc)).wrap(Wrap::default());
+    assert!(&rt; none.line_count(alloc, 9)? == 0);
+    Ok(())
+}
+
+#[test]
+fn paragraphs_are_aligned(rt: HostRuntime) -> Mem<()> {
+    let right = Paragraph::new(Text::raw(rt.alloc(), "a")?)
+        .left_aligned()
+        .right_aligned();
+    let centered = Paragraph::new(Text::raw(rt.alloc(), "a")?).centered();
+    assert!(&rt; right != centered);
+    assert!(&rt; right == centered.alignment(Alignment::Right));
+    Ok(())
+}
+
+#[test]
+fn paragraphs_have_a_style(rt: HostRuntime) -> Mem<()> {
     let red = Style::new().fg(Color::Red);
-    let mut text = Text::new(rt.alloc()).alignment(Alignment::Right);
-    text.push_line(Line::raw(rt.alloc(), "a")?)?;
-    let right = Paragraph::new(text.clone()?);
-    assert!(&rt; right == Paragraph::new(text.clone()?).right_aligned());
-    assert!(&rt; right != Paragraph::new(text.clone()?).left_aligned());
-    let centered = Paragraph::new(text).centered().scroll((1, 2)).style(red);
-    assert!(&rt; Styled::style(&centered) == red);
-    let copy = centered
-        .clone()?
-        .set_style(red)
-        .alignment(Alignment::Center);
-    assert!(&rt; copy == centered);
+    let styled = Paragraph::new(Text::raw(rt.alloc(), "a")?).style(red);
+    assert!(&rt; Styled::style(&styled) == red);
+    let copy = styled.clone()?.scroll((1, 2)).set_style(red);
+    assert!(&rt; copy.scroll((0, 0)) == styled);
     Ok(())
 }

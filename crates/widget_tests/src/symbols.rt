@@ -1,7 +1,7 @@
 //! What a buffer shows.
 
 use std::alloc::Global;
-use tui_cells::{Buffer, Mem};
+use tui_cells::{Attributes, Buffer, Cell, Mem, Position};
 
 /// The symbols of a buffer, with a newline after each row.
 pub fn shown(alloc: Global, buffer: &Buffer) -> Mem<String> {
@@ -13,4 +13,14 @@ pub fn shown(alloc: Global, buffer: &Buffer) -> Mem<String> {
         text.push('\n')?;
     }
     Ok(text)
+}
+
+/// The symbol of the cell in a column and a row; none where there is no cell.
+pub fn symbol_at(buffer: &Buffer, x: u16, y: u16) -> Option<&str> {
+    buffer.cell(Position::new(x, y)).map(Cell::symbol)
+}
+
+/// The colours and modifiers of the cell in a column and a row; none where there is no cell.
+pub fn attributes_at(buffer: &Buffer, x: u16, y: u16) -> Option<Attributes> {
+    buffer.cell(Position::new(x, y)).map(Cell::attributes)
 }
