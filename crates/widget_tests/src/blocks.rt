@@ -66,8 +66,8 @@ fn a_shadow_is_dimmed(rt: HostRuntime) -> Result<(), Fail> {
     block.render_with_effect(alloc, Rect::new(1, 3, 1, 1), &mut buffer, &Dimmed::new())?;
     let dark = Attributes {
         fg: Color::Red,
+        bg: Color::Black,
         modifier: Modifier::DIM,
-        ..Attributes::at_rest()
     };
     assert!(rt; attributes_at(&buffer, 0, 3) == Some(dark));
     Ok(())
