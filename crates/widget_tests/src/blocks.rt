@@ -128,6 +128,13 @@ fn blocks_are_built_and_copied(rt: HostRuntime) -> Result<(), Fail> {
     block.title(Line::raw(alloc, "abc")?)?;
     assert!(rt; block.clone()? == block);
     assert!(rt; Styled::style(&block) == bold);
+    Ok(())
+}
+
+#[test]
+fn a_border_type_is_its_set(rt: HostRuntime) -> Result<(), Fail> {
+    let alloc = rt.alloc();
+    let bold = Style::new().add_modifier(Modifier::BOLD);
     let plain = Block::new(alloc)
         .borders(Borders::all())
         .border_set(symbols::ROUNDED)

@@ -131,25 +131,36 @@ fn texts_end_lines_at_newlines(rt: HostRuntime) -> Mem<()> {
 
 #[test]
 fn lines_are_built(rt: HostRuntime) -> Mem<()> {
-    let red = Style::new().fg(Color::Red);
     let blue = Style::new().bg(Color::Blue);
     let mut line = Line::new(rt.alloc())
         .style(blue)
         .alignment(Alignment::Right);
-    line.push_span(Span::styled("e", red))?;
+    line.push_span(Span::raw("e"))?;
     line.push_span(Span::raw("\u{301}\u{a1}"))?;
-    assert!(&rt; line.width() == 2);
-    assert!(&rt; line.width_cjk() == 3);
+    assert!(&rt; line.width() == 2 && line.width_cjk() == 3);
     assert!(&rt; line.line_style() == blue);
     assert!(&rt; line.line_alignment() == Some(Alignment::Right));
     assert!(&rt; line == line.clone()?);
-    let mut graphemes = line.styled_graphemes(Style::new());
+    Ok(())
+}
+
+#[test]
+fn graphemes_have_the_style_of_their_span_over_that_of_the_line(rt: HostRuntime) -> Mem<()> {
+    let red = Style::new().fg(Color::Red);
+    let mut line = Line::new(rt.alloc()).style(Style::new().bg(Color::Blue));
+    line.push_span(Span::styled("e", red))?;
     let first = StyledGrapheme {
         symbol: "e",
         style: red.bg(Color::Blue),
     };
+    let mut graphemes = line.styled_graphemes(Style::new());
     assert!(&rt; graphemes.next() == Some(first));
-    let styled = Line::styled(rt.alloc(), "a", red)?;
+    Ok(())
+}
+
+#[test]
+fn a_styled_line_is_not_the_raw_one(rt: HostRuntime) -> Mem<()> {
+    let styled = Line::styled(rt.alloc(), "a", Style::new().fg(Color::Red))?;
     assert!(&rt; styled.line_alignment().is_none());
     assert!(&rt; styled != Line::raw(rt.alloc(), "a")?);
     Ok(())
