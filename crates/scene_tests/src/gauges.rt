@@ -30,26 +30,45 @@ fn shares_out_of_range_are_refused(rt: HostRuntime) -> Result<(), Fail> {
 }
 
 #[test]
-fn gauges_are_built_and_copied(rt: HostRuntime) -> Result<(), Fail> {
-    let alloc = rt.alloc();
+fn gauges_are_copied(rt: HostRuntime) -> Result<(), Fail> {
     let red = Style::new().fg(Color::Red);
-    let gauge = Gauge::default()
-        .block(Block::bordered(alloc))
-        .percent(50)?
-        .style(red);
+    let gauge = Gauge::default().style(red).percent(50)?;
     assert!(rt; gauge.clone()? == gauge);
     assert!(rt; Styled::style(&gauge) == red);
+    Ok(())
+}
+
+#[test]
+fn a_gauge_stands_in_its_block(rt: HostRuntime) -> Result<(), Fail> {
+    let alloc = rt.alloc();
+    let gauge = Gauge::default().block(Block::bordered(alloc)).percent(50)?;
     assert!(rt; drawn(alloc, &gauge, 5, 3)?.as_str() == "┌───┐\n│50%│\n└───┘\n");
-    let lines = LineGauge::default()
+    Ok(())
+}
+
+#[test]
+fn line_gauges_are_copied(rt: HostRuntime) -> Result<(), Fail> {
+    let label = Line::raw(rt.alloc(), "a")?;
+    let gauge = LineGauge::default()
+        .label(label)
+        .ratio(Fraction::new(1, 2))?;
+    assert!(rt; gauge.clone()? == gauge);
+    Ok(())
+}
+
+#[test]
+fn the_background_of_a_gauge_style_is_the_filled_part(rt: HostRuntime) -> Result<(), Fail> {
+    let alloc = rt.alloc();
+    let label = Line::raw(alloc, "a")?;
+    let gauge = LineGauge::default()
         .block(Block::bordered(alloc))
-        .label(Line::raw(alloc, "a")?)
+        .label(label)
         .line_set(line::THICK)
         .gauge_style(Style::new().bg(Color::Blue))
         .ratio(Fraction::new(1, 2))?;
-    assert!(rt; lines.clone()? == lines);
     let area = Rect::new(0, 0, 6, 3);
     let mut buffer = Buffer::empty(alloc, area)?;
-    lines.render(alloc, area, &mut buffer)?;
+    gauge.render(alloc, area, &mut buffer)?;
     assert!(rt; shown(alloc, &buffer)?.as_str() == "┌────┐\n│a ━━│\n└────┘\n");
     let blue = Attributes {
         fg: Color::Blue,
