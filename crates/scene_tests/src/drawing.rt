@@ -1,8 +1,8 @@
 //! What a widget draws into a blank buffer.
 
 use std::alloc::Global;
+use text_tests::shown;
 use tui_cells::{Buffer, Mem, Rect, Widget};
-use widget_tests::shown;
 
 /// The rows of a widget in an area of so many columns and rows, each with a newline behind it.
 pub fn drawn<W: Widget>(alloc: Global, widget: &W, width: u16, height: u16) -> Mem<String> {

@@ -2,12 +2,12 @@
 
 use crate::drawing::drawn;
 use std::test::Fail;
+use text_tests::{attributes_at, shown};
 use tui_bars::{Gauge, GaugeError, LineGauge};
 use tui_cells::{Attributes, Buffer, Color, Rect, Style, Styled, Widget, line};
 use tui_frames::Block;
 use tui_layout::Fraction;
 use tui_text::{Line, Span};
-use widget_tests::{attributes_at, shown};
 
 #[test]
 fn shares_out_of_range_are_refused(rt: HostRuntime) -> Result<(), Fail> {

@@ -3,11 +3,11 @@
 use std::alloc::Global;
 use std::str::FromStr;
 use std::test::Fail;
+use text_tests::shown;
 use tui_cells::{Buffer, Color, Mem, Modifier, ParseError, Rect, Style, Styled, Widget};
 use tui_frames::Block;
 use tui_lists::{List, ListDirection, ListItem, ListState};
 use tui_text::Text;
-use widget_tests::shown;
 
 const MOST: usize = usize::MAX;
 

@@ -4,10 +4,10 @@ ghost use Rattle.std.specs.Prelude.{⊤};
 ghost use Rattle.tui_cells.specs.Layers.{KeptOutside};
 ghost use Rattle.tui_frames.specs.Shadow.{in_shadow};
 
-use crate::symbols::{attributes_at, shown};
 use std::alloc::Global;
 use std::str::FromStr;
 use std::test::Fail;
+use text_tests::{attributes_at, shown};
 use tui_cells::{
     Attributes, Buffer, Color, Mem, MergeStrategy, Modifier, Offset, ParseError, Position, Rect,
     Style, Styled, Widget, border as symbols,
