@@ -24,19 +24,27 @@ pub fn draw_gauge(alloc: Global, buffer: &mut Buffer) -> anyhow::Result<()> {
     Ok(())
 }
 
-pub fn draw_line_gauge(alloc: Global, buffer: &mut Buffer) -> anyhow::Result<()> {
-    let share = LineGauge::default()
-        .ratio(Fraction::new(3, 4))?
+fn thick_line<'a>(share: Fraction) -> anyhow::Result<LineGauge<'a>> {
+    let line = LineGauge::default()
         .filled_symbol("━")
         .filled_style(Style::new().fg(Color::Green))
         .unfilled_style(Style::new().fg(Color::DarkGray));
-    share.render(alloc, Rect::new(0, 0, 30, 1), buffer)?;
-    let tests = LineGauge::default()
-        .ratio(Fraction::new(9, 20))?
-        .label(Line::raw(alloc, "tests")?)
+    Ok(line.ratio(share)?)
+}
+
+fn shaded_line<'a>(label: Line<'a>, share: Fraction) -> anyhow::Result<LineGauge<'a>> {
+    let line = LineGauge::default()
+        .label(label)
         .filled_symbol("█")
         .unfilled_symbol("░")
         .filled_style(Style::new().fg(Color::Yellow));
+    Ok(line.ratio(share)?)
+}
+
+pub fn draw_line_gauge(alloc: Global, buffer: &mut Buffer) -> anyhow::Result<()> {
+    let share = thick_line(Fraction::new(3, 4))?;
+    share.render(alloc, Rect::new(0, 0, 30, 1), buffer)?;
+    let tests = shaded_line(Line::raw(alloc, "tests")?, Fraction::new(9, 20))?;
     tests.render(alloc, Rect::new(0, 2, 30, 1), buffer)?;
     Ok(())
 }

@@ -1,7 +1,7 @@
 //! Clear, Fill and Block.
 
 use std::alloc::Global;
-use tui::buffer::Buffer;
+use tui::buffer::{Buffer, Mem};
 use tui::layout::{Alignment, Rect};
 use tui::style::{Color, Modifier, Style};
 use tui::text::{Line, Text};
@@ -28,25 +28,32 @@ pub fn draw_fill(alloc: Global, buffer: &mut Buffer) -> anyhow::Result<()> {
     Ok(())
 }
 
-pub fn draw_block(alloc: Global, buffer: &mut Buffer) -> anyhow::Result<()> {
-    let mut inbox = Block::bordered(alloc)
+fn inbox<'a>(alloc: Global) -> Mem<Block<'a>> {
+    let mut block = Block::bordered(alloc)
         .border_type(BorderType::Rounded)
         .border_style(Style::new().fg(Color::Cyan))
         .title_style(Style::new().add_modifier(Modifier::BOLD))
         .shadow(Shadow::dark_shade().style(Style::new().fg(Color::DarkGray)));
-    inbox.title(Line::raw(alloc, "Inbox")?)?;
-    inbox.title(Line::raw(alloc, "3 new")?.alignment(Alignment::Right))?;
-    inbox.title_bottom(Line::raw(alloc, "q quits")?)?;
-    inbox.render(alloc, Rect::new(1, 0, 18, 5), buffer)?;
+    block.title(Line::raw(alloc, "Inbox")?)?;
+    block.title(Line::raw(alloc, "3 new")?.alignment(Alignment::Right))?;
+    block.title_bottom(Line::raw(alloc, "q quits")?)?;
+    Ok(block)
+}
 
-    let mut double = Block::bordered(alloc).border_type(BorderType::Double);
-    double.title(Line::raw(alloc, "Double")?.alignment(Alignment::Center))?;
-    double.render(alloc, Rect::new(22, 0, 17, 3), buffer)?;
+fn titled<'a>(mut block: Block<'a>, title: Line<'a>) -> Mem<Block<'a>> {
+    block.title(title)?;
+    Ok(block)
+}
 
-    let mut thick = Block::new(alloc)
+pub fn draw_block(alloc: Global, buffer: &mut Buffer) -> anyhow::Result<()> {
+    inbox(alloc)?.render(alloc, Rect::new(1, 0, 18, 5), buffer)?;
+    let title = Line::raw(alloc, "Double")?.alignment(Alignment::Center);
+    let double = Block::bordered(alloc).border_type(BorderType::Double);
+    titled(double, title)?.render(alloc, Rect::new(22, 0, 17, 3), buffer)?;
+    let title = Line::raw(alloc, "Thick")?;
+    let thick = Block::new(alloc)
         .border_type(BorderType::Thick)
         .borders(Borders::LEFT | Borders::BOTTOM);
-    thick.title(Line::raw(alloc, "Thick")?)?;
-    thick.render(alloc, Rect::new(22, 3, 17, 3), buffer)?;
+    titled(thick, title)?.render(alloc, Rect::new(22, 3, 17, 3), buffer)?;
     Ok(())
 }
