@@ -1,11 +1,11 @@
 //! Bar charts and sparklines by their calls.
 
-use crate::drawing::drawn;
+use crate::drawing::draws;
 use std::alloc::Global;
-use std::str::FromStr;
 use std::test::Fail;
+use text_tests::{are_named, is_no_name};
 use tui_bars::{Bar, BarChart, BarGroup, RenderDirection, Sparkline, SparklineBar};
-use tui_cells::{Color, Mem, ParseError, Style};
+use tui_cells::{Color, Mem, Style};
 use tui_frames::Block;
 use tui_layout::Direction;
 use tui_text::Line;
@@ -27,23 +27,57 @@ fn pairs<'a>(alloc: Global, label: &'a str, pairs: &[(&'a str, u64)]) -> Mem<Bar
 }
 
 #[test]
+fn bars_are_copied(rt: HostRuntime) -> Result<(), Fail> {
+    let blue = Style::new().bg(Color::Blue);
+    let bar = Bar::default().value(7).value_style(blue);
+    assert!(rt; bar.clone()? == bar);
+    Ok(())
+}
+
+#[test]
 fn charts_are_built_and_copied(rt: HostRuntime) -> Result<(), Fail> {
     let alloc = rt.alloc();
-    let bar = Bar::default()
-        .value(7)
-        .value_style(Style::new().bg(Color::Blue));
-    assert!(rt; bar.clone()? == bar);
     let group = pairs(alloc, "g", &[("a", 2), ("b", 1)])?;
-    assert!(rt; group.clone()? == group);
     let mut chart = BarChart::grouped(Vec::new(alloc)).block(Block::bordered(alloc));
-    chart.data(group)?;
-    assert!(rt; chart.clone()? == chart);
-    assert!(rt; BarChart::new(alloc, Vec::new(alloc))? == BarChart::grouped(Vec::new(alloc)));
+    chart.data(copy_of(&group)?)?;
+    assert!(rt; is_chart_copied(&chart)?);
+    assert!(rt; draws(alloc, &chart, (5, 3), "┌───┐\n│2 ▄│\n└───┘\n")?);
+    Ok(())
+}
+
+fn copy_of<'a>(group: &BarGroup<'a>) -> Mem<BarGroup<'a>> {
+    group.clone()
+}
+
+fn is_chart_copied(chart: &BarChart) -> Mem<bool> {
+    Ok(chart.clone()? == *chart)
+}
+
+#[test]
+fn a_chart_of_bars_stands_upright(rt: HostRuntime) -> Result<(), Fail> {
+    let alloc = rt.alloc();
     let upright = BarChart::vertical(alloc, values(alloc, &[1, 2])?)?;
-    assert!(rt; upright == BarChart::new(alloc, values(alloc, &[1, 2])?)?);
+    assert!(rt; is_chart_of(alloc, &upright)?);
+    Ok(())
+}
+
+fn is_chart_of(alloc: Global, chart: &BarChart) -> Mem<bool> {
+    Ok(BarChart::new(alloc, values(alloc, &[1, 2])?)? == *chart)
+}
+
+#[test]
+fn a_chart_of_bars_may_lie(rt: HostRuntime) -> Result<(), Fail> {
+    let alloc = rt.alloc();
     let lying = BarChart::horizontal(alloc, values(alloc, &[1, 2])?)?;
-    assert!(rt; lying == upright.direction(Direction::Horizontal));
-    assert!(rt; drawn(alloc, &chart, 5, 3)?.as_str() == "┌───┐\n│2 ▄│\n└───┘\n");
+    assert!(rt; is_chart_of(alloc, &lying.direction(Direction::Vertical))?);
+    Ok(())
+}
+
+#[test]
+fn a_chart_may_have_no_bars(rt: HostRuntime) -> Result<(), Fail> {
+    let alloc = rt.alloc();
+    let none = BarChart::new(alloc, Vec::new(alloc))?;
+    assert!(rt; none == BarChart::grouped(Vec::new(alloc)));
     Ok(())
 }
 
@@ -57,15 +91,17 @@ fn bars_of_a_sparkline_are_made_of_values(rt: HostRuntime) -> Result<(), Fail> {
     bars.push(SparklineBar::from(2))?;
     let line = Sparkline::new(alloc).data(bars).absent_value_symbol("x");
     assert!(rt; line.clone()? == line);
-    assert!(rt; drawn(alloc, &line, 4, 1)?.as_str() == "▄x██\n");
+    assert!(rt; draws(alloc, &line, (4, 1), "▄x██\n")?);
     Ok(())
 }
 
 #[test]
 fn directions_have_names(rt: HostRuntime) -> Result<(), Fail> {
-    let left = RenderDirection::from_str("RightToLeft");
-    assert!(rt; left == Ok(RenderDirection::RightToLeft));
-    assert!(rt; RenderDirection::from_str("") == Err(ParseError::VariantNotFound));
-    assert!(rt; RenderDirection::default() == RenderDirection::LeftToRight);
+    let names = [
+        (RenderDirection::default(), "LeftToRight"),
+        (RenderDirection::RightToLeft, "RightToLeft"),
+    ];
+    assert!(rt; are_named(rt.alloc(), &names)?);
+    assert!(rt; is_no_name::<RenderDirection>(""));
     Ok(())
 }

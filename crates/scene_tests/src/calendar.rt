@@ -1,12 +1,12 @@
 //! Months and the logo by their calls.
 
-use crate::drawing::drawn;
+use crate::drawing::draws;
 use jiff::civil::Date;
 use std::alloc::Global;
-use std::str::FromStr;
 use std::test::Fail;
+use text_tests::{are_named, is_no_name};
 use tui_calendar::{CalendarEventStore, DateStyler, Monthly};
-use tui_cells::{Color, Mem, ParseError, Style};
+use tui_cells::{Color, Mem, Style};
 use tui_frames::{Block, Padding};
 use tui_para::{RatatuiLogo, Size};
 
@@ -43,7 +43,7 @@ fn a_style_of_ones_own_is_asked_for_each_date(rt: HostRuntime) -> Result<(), Fai
         .show_weekdays_header(style);
     assert!(rt; april.width() == 21 && april.height() == 8);
     // A day is cut where its columns end.
-    assert!(rt; drawn(alloc, &month(2015, 2, 28), 5, 3)?.as_str() == "  1  \n  8  \n 15 1\n");
+    assert!(rt; draws(alloc, &month(2015, 2, 28), (5, 3), "  1  \n  8  \n 15 1\n")?);
     // The calendar ends with 31 December 9999, a Friday.
     assert!(rt; month(9999, 12, 31).show_month_header(style).height() == 6);
     Ok(())
@@ -63,41 +63,57 @@ fn a_block_counts_in_a_months_size(rt: HostRuntime) -> Result<(), Fail> {
     Ok(())
 }
 
+fn red() -> Style {
+    Style::new().fg(Color::Red)
+}
+
+fn store(alloc: Global) -> Mem<CalendarEventStore> {
+    CalendarEventStore::on(alloc, date(2023, 4, 1), red())
+}
+
 #[test]
 fn stores_keep_a_style_for_a_date(rt: HostRuntime) -> Result<(), Fail> {
-    let alloc = rt.alloc();
-    let red = Style::new().fg(Color::Red);
-    let mut store = CalendarEventStore::on(alloc, date(2023, 4, 1), red)?;
-    assert!(rt; store.get_style(date(2023, 4, 1)) == red);
+    let store = store(rt.alloc())?;
+    assert!(rt; store.get_style(date(2023, 4, 1)) == red());
     assert!(rt; store.get_style(date(2023, 4, 2)) == Style::new());
+    Ok(())
+}
+
+#[test]
+fn a_later_style_of_a_date_replaces_the_one_before(rt: HostRuntime) -> Result<(), Fail> {
+    let mut store = store(rt.alloc())?;
     let copy = store.clone()?;
-    assert!(rt; copy == store);
-    store.add(date(2023, 4, 1), Style::new().fg(Color::Blue))?;
+    store.add(date(2023, 4, 1), Style::new())?;
     assert!(rt; copy != store);
-    store.add(date(2023, 4, 1), red)?;
+    store.add(date(2023, 4, 1), red())?;
     assert!(rt; copy == store);
-    let (one, other) = (
-        Monthly::new(date(2023, 4, 1), store),
-        Monthly::new(date(2023, 4, 1), copy),
-    );
+    Ok(())
+}
+
+#[test]
+fn months_are_compared(rt: HostRuntime) -> Result<(), Fail> {
+    let one = Monthly::new(date(2023, 4, 1), store(rt.alloc())?);
+    let other = Monthly::new(date(2023, 4, 1), store(rt.alloc())?);
     assert!(rt; one == other);
-    assert!(rt; one != other.default_style(red));
-    let lent = CalendarEventStore::on(alloc, date(2023, 4, 1), red)?;
+    assert!(rt; one != other.default_style(red()));
+    Ok(())
+}
+
+#[test]
+fn a_store_may_be_lent(rt: HostRuntime) -> Result<(), Fail> {
+    let lent = store(rt.alloc())?;
     let april = Monthly::new(date(2023, 4, 1), &lent);
-    assert!(rt; drawn(alloc, &april, 21, 1)?.as_str() == "                    1\n");
+    assert!(rt; draws(rt.alloc(), &april, (21, 1), "                    1\n")?);
     Ok(())
 }
 
 #[test]
 fn the_logo_has_two_sizes(rt: HostRuntime) -> Result<(), Fail> {
-    let alloc = rt.alloc();
     let tiny = RatatuiLogo::default();
     assert!(rt; tiny == RatatuiLogo::tiny() && tiny == RatatuiLogo::new(Size::default()));
-    let small = tiny.size(Size::Small);
-    assert!(rt; small == RatatuiLogo::small());
-    assert!(rt; Size::from_str("Small") == Ok(Size::Small));
-    assert!(rt; Size::from_str("tiny") == Err(ParseError::VariantNotFound));
-    let name = format!(in alloc; "{}", Size::Tiny)?;
-    assert!(rt; name.as_str() == "Tiny");
+    assert!(rt; tiny.size(Size::Small) == RatatuiLogo::small());
+    let names = [(Size::Tiny, "Tiny"), (Size::Small, "Small")];
+    assert!(rt; are_named(rt.alloc(), &names)?);
+    assert!(rt; is_no_name::<Size>("tiny"));
     Ok(())
 }

@@ -1,13 +1,18 @@
 //! What a widget draws into a blank buffer.
 
 use std::alloc::Global;
-use text_tests::shown;
+use text_tests::shows;
 use tui_cells::{Buffer, Mem, Rect, Widget};
 
-/// The rows of a widget in an area of so many columns and rows, each with a newline behind it.
-pub fn drawn<W: Widget>(alloc: Global, widget: &W, width: u16, height: u16) -> Mem<String> {
+/// Whether a widget draws these rows in an area of so many columns and rows.
+pub fn draws<W: Widget>(
+    alloc: Global,
+    widget: &W,
+    (width, height): (u16, u16),
+    rows: &str,
+) -> Mem<bool> {
     let area = Rect::new(0, 0, width, height);
     let mut buffer = Buffer::empty(alloc, area)?;
     widget.render(alloc, area, &mut buffer)?;
-    shown(alloc, &buffer)
+    shows(alloc, &buffer, rows)
 }

@@ -1,8 +1,8 @@
 //! Gauges and line gauges by their calls.
 
-use crate::drawing::drawn;
+use crate::drawing::draws;
 use std::test::Fail;
-use text_tests::{attributes_at, shown};
+use text_tests::{attributes_at, shows};
 use tui_bars::{Gauge, GaugeError, LineGauge};
 use tui_cells::{Attributes, Buffer, Color, Rect, Style, Styled, Widget, line};
 use tui_frames::Block;
@@ -42,7 +42,7 @@ fn gauges_are_copied(rt: HostRuntime) -> Result<(), Fail> {
 fn a_gauge_stands_in_its_block(rt: HostRuntime) -> Result<(), Fail> {
     let alloc = rt.alloc();
     let gauge = Gauge::default().block(Block::bordered(alloc)).percent(50)?;
-    assert!(rt; drawn(alloc, &gauge, 5, 3)?.as_str() == "┌───┐\n│50%│\n└───┘\n");
+    assert!(rt; draws(alloc, &gauge, (5, 3), "┌───┐\n│50%│\n└───┘\n")?);
     Ok(())
 }
 
@@ -69,7 +69,7 @@ fn the_background_of_a_gauge_style_is_the_filled_part(rt: HostRuntime) -> Result
     let area = Rect::new(0, 0, 6, 3);
     let mut buffer = Buffer::empty(alloc, area)?;
     gauge.render(alloc, area, &mut buffer)?;
-    assert!(rt; shown(alloc, &buffer)?.as_str() == "┌────┐\n│a ━━│\n└────┘\n");
+    assert!(rt; shows(alloc, &buffer, "┌────┐\n│a ━━│\n└────┘\n")?);
     let blue = Attributes {
         fg: Color::Blue,
         ..Attributes::at_rest()

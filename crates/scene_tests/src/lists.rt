@@ -1,10 +1,10 @@
 //! Lists by their calls, and their states; what they draw in a scene stands in scene_rows.
 
+use crate::drawing::draws;
 use std::alloc::Global;
-use std::str::FromStr;
 use std::test::Fail;
-use text_tests::shown;
-use tui_cells::{Buffer, Color, Mem, Modifier, ParseError, Rect, Style, Styled, Widget};
+use text_tests::{are_named, is_no_name};
+use tui_cells::{Color, Mem, Modifier, Style, Styled};
 use tui_frames::Block;
 use tui_lists::{List, ListDirection, ListItem, ListState};
 use tui_text::Text;
@@ -25,57 +25,69 @@ fn items(alloc: Global, texts: &[&'static str]) -> Mem<Vec<ListItem<'static>>> {
 
 #[test]
 fn items_are_built(rt: HostRuntime) -> Result<(), Fail> {
-    let alloc = rt.alloc();
     let italic = Style::new().add_modifier(Modifier::ITALIC);
-    let plain = ListItem::new(Text::raw(alloc, "Item 1")?);
+    let plain = ListItem::new(Text::raw(rt.alloc(), "Item 1")?);
     assert!(rt; (plain.height(), plain.width()) == (1, 6));
     let item = plain.style(italic);
     assert!(rt; Styled::style(&item) == italic);
-    assert!(rt; item.clone()?.set_style(italic) == item);
-    assert!(rt; item.clone()?.set_style(Style::new()) != item);
+    assert!(rt; is_item_of(&item, italic)? && !is_item_of(&item, Style::new())?);
     Ok(())
+}
+
+/// Whether an item's copy is the item, with this style.
+fn is_item_of(item: &ListItem, style: Style) -> Mem<bool> {
+    Ok(item.clone()?.set_style(style) == *item)
 }
 
 #[test]
 fn items_are_replaced(rt: HostRuntime) -> Result<(), Fail> {
     let alloc = rt.alloc();
-    let mut list = list(alloc, &["a"])?;
-    assert!(rt; (list.len(), list.is_empty()) == (1, false));
-    list.items(items(alloc, &["b", "c"])?)?;
-    assert!(rt; list.len() == 2);
-    list.items(Vec::new(alloc))?;
-    assert!(rt; list.is_empty());
+    let list = with_items(list(alloc, &["a"])?, items(alloc, &["b", "c"])?)?;
+    assert!(rt; (list.len(), list.is_empty()) == (2, false));
+    Ok(())
+}
+
+fn with_items<'a>(mut list: List<'a>, items: Vec<ListItem<'a>>) -> Mem<List<'a>> {
+    list.items(items)?;
+    Ok(list)
+}
+
+#[test]
+fn a_list_may_be_empty(rt: HostRuntime) -> Result<(), Fail> {
+    let list = list(rt.alloc(), &[])?;
+    assert!(rt; (list.len(), list.is_empty()) == (0, true));
     Ok(())
 }
 
 #[test]
 fn lists_are_compared(rt: HostRuntime) -> Result<(), Fail> {
-    let alloc = rt.alloc();
     let red = Style::new().fg(Color::Red);
-    let list = list(alloc, &["a"])?.style(red);
+    let list = list(rt.alloc(), &["a"])?.style(red);
     assert!(rt; Styled::style(&list) == red);
-    let copy = list.clone()?.set_style(red);
-    assert!(rt; copy == list);
-    assert!(rt; copy.scroll_padding(1) != list);
+    assert!(rt; is_list_copied(&list, red)?);
     Ok(())
+}
+
+fn is_list_copied(list: &List, style: Style) -> Mem<bool> {
+    Ok(list.clone()?.set_style(style) == *list && list.clone()?.scroll_padding(1) != *list)
 }
 
 #[test]
 fn a_list_is_drawn_from_its_first_item(rt: HostRuntime) -> Result<(), Fail> {
     let alloc = rt.alloc();
-    let mut buffer = Buffer::empty(alloc, Rect::new(0, 0, 4, 3))?;
     let list = list(alloc, &["i0", "i1"])?.block(Block::bordered(alloc));
-    Widget::render(&list, alloc, Rect::new(0, 0, 9, 9), &mut buffer)?;
-    assert!(rt; shown(alloc, &buffer)?.as_str() == "┌──┐\n│i0│\n└──┘\n");
+    assert!(rt; draws(alloc, &list, (4, 3), "┌──┐\n│i0│\n└──┘\n")?);
     Ok(())
 }
 
 #[test]
 fn directions_have_names(rt: HostRuntime) -> Result<(), Fail> {
-    let name = format!(in rt.alloc(); "{}", ListDirection::default())?;
-    assert!(rt; name.as_str() == "TopToBottom");
-    assert!(rt; ListDirection::from_str("BottomToTop") == Ok(ListDirection::BottomToTop));
-    assert!(rt; ListDirection::from_str("topToBottom") == Err(ParseError::VariantNotFound));
+    let names = [
+        (ListDirection::default(), "TopToBottom"),
+        (ListDirection::BottomToTop, "BottomToTop"),
+    ];
+    assert!(rt; are_named(rt.alloc(), &names)?);
+    assert!(rt; is_no_name::<ListDirection>("topToBottom"));
     Ok(())
 }
 

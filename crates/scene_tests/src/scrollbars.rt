@@ -1,8 +1,8 @@
 //! Scrollbars by their calls, and their states; what they draw in a scene stands in scene_rows.
 
-use std::str::FromStr;
 use std::test::Fail;
-use tui_cells::{Color, ParseError, Style, scrollbar};
+use text_tests::{are_named, is_no_name};
+use tui_cells::{Color, Style, scrollbar};
 use tui_lists::{ScrollDirection, Scrollbar, ScrollbarOrientation, ScrollbarState};
 
 #[test]
@@ -47,11 +47,12 @@ fn an_orientation_may_bring_its_symbols(rt: HostRuntime) -> Result<(), Fail> {
 
 #[test]
 fn orientations_have_names(rt: HostRuntime) -> Result<(), Fail> {
-    let name = format!(in rt.alloc(); "{}", ScrollbarOrientation::default())?;
-    assert!(rt; name.as_str() == "VerticalRight");
-    let left = ScrollbarOrientation::from_str("VerticalLeft");
-    assert!(rt; left == Ok(ScrollbarOrientation::VerticalLeft));
-    assert!(rt; ScrollbarOrientation::from_str("") == Err(ParseError::VariantNotFound));
+    let names = [
+        (ScrollbarOrientation::default(), "VerticalRight"),
+        (ScrollbarOrientation::VerticalLeft, "VerticalLeft"),
+    ];
+    assert!(rt; are_named(rt.alloc(), &names)?);
+    assert!(rt; is_no_name::<ScrollbarOrientation>(""));
     assert!(rt; ScrollbarOrientation::HorizontalTop.is_horizontal());
     assert!(rt; ScrollbarOrientation::VerticalLeft.is_vertical());
     Ok(())
@@ -59,9 +60,11 @@ fn orientations_have_names(rt: HostRuntime) -> Result<(), Fail> {
 
 #[test]
 fn directions_have_names(rt: HostRuntime) -> Result<(), Fail> {
-    let name = format!(in rt.alloc(); "{}", ScrollDirection::default())?;
-    assert!(rt; name.as_str() == "Forward");
-    assert!(rt; ScrollDirection::from_str("Backward") == Ok(ScrollDirection::Backward));
+    let names = [
+        (ScrollDirection::default(), "Forward"),
+        (ScrollDirection::Backward, "Backward"),
+    ];
+    assert!(rt; are_named(rt.alloc(), &names)?);
     Ok(())
 }
 

@@ -1,6 +1,6 @@
 //! Tables by their calls, and their states; what they draw in a scene stands in scene_rows.
 
-use crate::drawing::drawn;
+use crate::drawing::draws;
 use std::alloc::Global;
 use std::test::Fail;
 use tui_cells::{Color, Mem, NoMemory, Style, Styled};
@@ -17,11 +17,20 @@ fn row_of<'a>(alloc: Global, texts: &[&'a str]) -> Mem<Row<'a>> {
     Ok(Row::new(cells))
 }
 
+/// One row of one cell.
+fn rows_of(alloc: Global, text: &'static str) -> Mem<Vec<Row<'static>>> {
+    Ok(vec![in alloc; row_of(alloc, &[text])?]?)
+}
+
 /// A table of one row of one cell, in a column of one.
 fn table_of(alloc: Global, text: &'static str) -> Mem<Table<'static>> {
-    let mut rows = Vec::with_capacity(alloc, 1)?;
-    rows.push(row_of(alloc, &[text])?)?;
-    unrefused(Table::new(alloc, rows, widths_of(alloc, &[Constraint::Length(1)])?))
+    let widths = widths_of(alloc, &[Constraint::Length(1)])?;
+    unrefused(Table::new(alloc, rows_of(alloc, text)?, widths))
+}
+
+fn with_rows<'a>(mut table: Table<'a>, rows: Vec<Row<'a>>) -> Mem<Table<'a>> {
+    table.rows(rows)?;
+    Ok(table)
 }
 
 fn widths_of(alloc: Global, widths: &[Constraint]) -> Mem<Vec<Constraint>> {
@@ -41,11 +50,15 @@ fn cells_are_built(rt: HostRuntime) -> Result<(), Fail> {
     let alloc = rt.alloc();
     let red = Style::new().fg(Color::Red);
     let cell = Cell::new(Text::raw(alloc, "a")?).style(red);
-    assert!(rt; Styled::style(&cell) == red);
-    assert!(rt; cell.clone()? == cell);
     let empty = Cell::new(Text::new(alloc)).set_style(red);
-    assert!(rt; empty.content(Text::raw(alloc, "a")?) == cell);
+    assert!(rt; is_cell(&cell, empty.content(Text::raw(alloc, "a")?))?);
+    assert!(rt; Styled::style(&cell) == red);
     Ok(())
+}
+
+/// Whether a cell and its copy are the other one.
+fn is_cell<'a>(cell: &Cell<'a>, other: Cell<'a>) -> Mem<bool> {
+    Ok(other == *cell && cell.clone()? == *cell)
 }
 
 #[test]
@@ -53,25 +66,28 @@ fn rows_are_built(rt: HostRuntime) -> Result<(), Fail> {
     let alloc = rt.alloc();
     let red = Style::new().fg(Color::Red);
     let row = row_of(alloc, &["a"])?.style(red);
+    let cells = vec![in alloc; Cell::new(Text::raw(alloc, "a")?)]?;
+    assert!(rt; is_row(&row, Row::new(Vec::new(alloc)).set_style(red).cells(cells))?);
     assert!(rt; Styled::style(&row) == red);
-    assert!(rt; row.clone()? == row);
-    let mut cells = Vec::with_capacity(alloc, 1)?;
-    cells.push(Cell::new(Text::raw(alloc, "a")?))?;
-    let empty = Row::new(Vec::new(alloc)).set_style(red);
-    assert!(rt; empty.cells(cells) == row);
     Ok(())
+}
+
+/// Whether a row and its copy are the other one.
+fn is_row<'a>(row: &Row<'a>, other: Row<'a>) -> Mem<bool> {
+    Ok(other == *row && row.clone()? == *row)
 }
 
 #[test]
 fn tables_are_compared(rt: HostRuntime) -> Result<(), Fail> {
-    let alloc = rt.alloc();
     let red = Style::new().fg(Color::Red);
-    let table = table_of(alloc, "a")?.style(red);
+    let table = table_of(rt.alloc(), "a")?.style(red);
+    assert!(rt; is_table_copied(&table)?);
     assert!(rt; Styled::style(&table) == red);
-    let copy = table.clone()?;
-    assert!(rt; copy == table);
-    assert!(rt; copy.column_spacing(2) != table);
     Ok(())
+}
+
+fn is_table_copied(table: &Table) -> Mem<bool> {
+    Ok(table.clone()? == *table && table.clone()?.column_spacing(2) != *table)
 }
 
 #[test]
@@ -86,26 +102,25 @@ fn a_highlight_is_the_one_of_the_row(rt: HostRuntime) -> Result<(), Fail> {
 #[test]
 fn a_table_is_drawn_from_its_first_row(rt: HostRuntime) -> Result<(), Fail> {
     let alloc = rt.alloc();
-    let table = table_of(alloc, "a")?
-        .block(Block::bordered(alloc))
+    let symbol = Text::raw(alloc, ">")?;
+    let table = marked(table_of(alloc, "a")?, symbol).block(Block::bordered(alloc));
+    assert!(rt; draws(alloc, &table, (6, 3), "┌────┐\n│   a│\n└────┘\n")?);
+    Ok(())
+}
+
+fn marked<'a>(table: Table<'a>, symbol: Text<'a>) -> Table<'a> {
+    table
         .column_spacing(0)
         .highlight_spacing(HighlightSpacing::Always)
-        .highlight_symbol(Text::raw(alloc, ">")?)
-        .flex(Flex::End);
-    assert!(rt; drawn(alloc, &table, 6, 3)?.as_str() == "┌────┐\n│   a│\n└────┘\n");
-    Ok(())
+        .highlight_symbol(symbol)
+        .flex(Flex::End)
 }
 
 #[test]
 fn rows_are_replaced(rt: HostRuntime) -> Result<(), Fail> {
     let alloc = rt.alloc();
-    let mut table = table_of(alloc, "a")?;
-    let other = table_of(alloc, "b")?;
-    assert!(rt; table != other);
-    let mut rows = Vec::with_capacity(alloc, 1)?;
-    rows.push(row_of(alloc, &["b"])?)?;
-    table.rows(rows)?;
-    assert!(rt; table == other);
+    let table = with_rows(table_of(alloc, "a")?, rows_of(alloc, "b")?)?;
+    assert!(rt; is_table_of(alloc, &table, "b")?);
     Ok(())
 }
 
@@ -128,8 +143,12 @@ fn refused_widths_leave_the_table(rt: HostRuntime) -> Result<(), Fail> {
     ];
     let refused = table.widths(widths_of(alloc, &above)?);
     assert!(rt; refused == Err(WidthsError::PercentageAbove100 { index: 0 }));
-    assert!(rt; table == table_of(alloc, "a")?);
+    assert!(rt; is_table_of(alloc, &table, "a")?);
     Ok(())
+}
+
+fn is_table_of(alloc: Global, table: &Table<'static>, text: &'static str) -> Mem<bool> {
+    Ok(*table == table_of(alloc, text)?)
 }
 
 #[test]
@@ -138,7 +157,6 @@ fn a_percentage_of_100_is_taken(rt: HostRuntime) -> Result<(), Fail> {
     let mut table = table_of(alloc, "a")?;
     let whole = [Constraint::Percentage(100)];
     assert!(rt; table.widths(widths_of(alloc, &whole)?) == Ok(()));
-    assert!(rt; table != table_of(alloc, "a")?);
     Ok(())
 }
 

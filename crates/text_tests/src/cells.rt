@@ -1,6 +1,6 @@
 //! Values worked by hand, and each call once with ample memory.
 
-use crate::symbols::{attributes_at, shown, symbol_at};
+use crate::symbols::{attributes_at, shows, symbol_at};
 use bitflags::Flags;
 use std::test::Fail;
 use tui_cells::{Attributes, Buffer, Cell, Color, Modifier, ParseError, Position, Rect, Style};
@@ -178,7 +178,7 @@ fn texts(rt: HostRuntime) -> Result<(), Fail> {
             buffer.area() == Rect::new(0, 0, width, height),
             "at {text}"
         );
-        assert!(rt; shown(alloc, &buffer)?.as_str() == rows, "at {text}");
+        assert!(rt; shows(alloc, &buffer, rows)?);
     }
     Ok(())
 }
@@ -197,7 +197,7 @@ fn buffers(rt: HostRuntime) -> Result<(), Fail> {
     let mut cell = Cell::new(alloc);
     cell.set_symbol("x")?;
     let mut buffer = Buffer::filled(alloc, Rect::new(0, 0, 2, 1), &cell)?;
-    assert!(rt; shown(alloc, &buffer)?.as_str() == "xx\n");
+    assert!(rt; shows(alloc, &buffer, "xx\n")?);
     Ok(())
 }
 
@@ -208,7 +208,7 @@ fn cells_of_a_buffer_are_set(rt: HostRuntime) -> Result<(), Fail> {
     buffer.set_symbol(Position::new(1, 0), "yz")?;
     buffer.set_symbol(Position::new(2, 0), "a symbol of more than 8 bytes")?;
     buffer.set_style(Rect::new(1, 0, 9, 9), Style::new().bg(Color::Blue));
-    assert!(rt; shown(alloc, &buffer)?.as_str() == "xyz\n");
+    assert!(rt; shows(alloc, &buffer, "xyz\n")?);
     let blue = Attributes {
         bg: Color::Blue,
         ..Attributes::at_rest()
@@ -216,7 +216,7 @@ fn cells_of_a_buffer_are_set(rt: HostRuntime) -> Result<(), Fail> {
     assert!(rt; attributes_at(&buffer, 0, 0) == Some(Attributes::at_rest()));
     assert!(rt; attributes_at(&buffer, 1, 0) == Some(blue));
     buffer.reset(Rect::new(1, 0, 1, 1));
-    assert!(rt; shown(alloc, &buffer)?.as_str() == "x \n");
+    assert!(rt; shows(alloc, &buffer, "x \n")?);
     Ok(())
 }
 

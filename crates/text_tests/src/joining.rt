@@ -1,10 +1,10 @@
 //! Border symbols joined, and rectangles moved, by values worked by hand.
 
+use crate::names::{are_named, is_no_name};
 use crate::symbols::symbol_at;
-use std::str::FromStr;
 use std::test::Fail;
 use tui_cells::MergeStrategy::{Exact, Fuzzy, Replace};
-use tui_cells::{Buffer, MergeStrategy, Offset, ParseError, Position, Rect};
+use tui_cells::{Buffer, MergeStrategy, Offset, Position, Rect};
 
 fn joins(strategy: MergeStrategy, old: &str, new: &str, joined: &str) -> bool {
     strategy.merge(old, new) == joined
@@ -35,11 +35,9 @@ fn cells(rt: HostRuntime) -> Result<(), Fail> {
 
 #[test]
 fn names(rt: HostRuntime) -> Result<(), Fail> {
-    for strategy in [Replace, Exact, Fuzzy] {
-        let name = format!(in rt.alloc(); "{strategy}")?;
-        assert!(&rt; MergeStrategy::from_str(name.as_str()) == Ok(strategy));
-    }
-    assert!(&rt; MergeStrategy::from_str("exact") == Err(ParseError::VariantNotFound));
+    let names = [(Replace, "Replace"), (Exact, "Exact"), (Fuzzy, "Fuzzy")];
+    assert!(rt; are_named(rt.alloc(), &names)?);
+    assert!(rt; is_no_name::<MergeStrategy>("exact"));
     Ok(())
 }
 

@@ -1,9 +1,9 @@
 //! Windows and columns worked by hand.
 
+use crate::names::{are_named, is_no_name};
 use std::alloc::Global;
-use std::str::FromStr;
 use std::test::Fail;
-use tui_cells::{Mem, ParseError};
+use tui_cells::Mem;
 use tui_layout::{
     Constraint, Direction, Flex, Fraction, HighlightSpacing, Segment, Sums, Window, split,
     uncounted_window,
@@ -52,9 +52,8 @@ fn windows_move_least(rt: HostRuntime) -> Result<(), Fail> {
     ];
     for (heights, height, offset, selected, padding, first, end) in cases {
         let sums = sums_of(rt.alloc(), heights)?;
-        assert!(rt; sums.len() == heights.len());
         let found = uncounted_window(&sums, height, offset, selected, padding);
-        assert!(rt; found == Window { first, end });
+        assert!(rt; (sums.len(), found) == (heights.len(), Window { first, end }));
     }
     Ok(())
 }
@@ -134,7 +133,7 @@ fn columns_share_their_length(rt: HostRuntime) -> Result<(), Fail> {
     ];
     for (constraints, length, spacing, wanted) in cases {
         let columns = split(rt.alloc(), length, spacing, constraints, Flex::End)?;
-        assert!(rt; are_columns(&columns, wanted), "at {columns:?}");
+        assert!(rt; are_columns(&columns, wanted));
     }
     Ok(())
 }
@@ -196,10 +195,7 @@ fn flexes_move_columns(rt: HostRuntime) -> Result<(), Fail> {
         ];
         for (length, wanted) in lengths {
             let columns = split(alloc, length, 1, &constraints, flex)?;
-            assert!(rt;
-                are_columns(&columns, &wanted),
-                "at {flex} and {length}: {columns:?}"
-            );
+            assert!(rt; are_columns(&columns, &wanted));
         }
     }
     let one = split(alloc, 10, 1, &[Constraint::Length(3)], Flex::SpaceBetween)?;
@@ -209,8 +205,7 @@ fn flexes_move_columns(rt: HostRuntime) -> Result<(), Fail> {
 
 #[test]
 fn flexes_have_names(rt: HostRuntime) -> Mem<()> {
-    let alloc = rt.alloc();
-    for (flex, name) in [
+    let names = [
         (Flex::Legacy, "Legacy"),
         (Flex::Start, "Start"),
         (Flex::End, "End"),
@@ -218,44 +213,44 @@ fn flexes_have_names(rt: HostRuntime) -> Mem<()> {
         (Flex::SpaceBetween, "SpaceBetween"),
         (Flex::SpaceEvenly, "SpaceEvenly"),
         (Flex::SpaceAround, "SpaceAround"),
-    ] {
-        assert!(&rt; Flex::from_str(name) == Ok(flex));
-        assert!(&rt; format!(in alloc; "{flex}")?.as_str() == name);
-    }
-    assert!(&rt; Flex::from_str("start") == Err(ParseError::VariantNotFound));
-    assert!(&rt; Flex::default() == Flex::Start);
+    ];
+    assert!(&rt; are_named(rt.alloc(), &names)?);
+    assert!(&rt; is_no_name::<Flex>("start") && Flex::default() == Flex::Start);
     Ok(())
 }
 
 #[test]
 fn directions_have_names(rt: HostRuntime) -> Mem<()> {
-    let alloc = rt.alloc();
-    for (direction, name) in [
+    let names = [
         (Direction::Horizontal, "Horizontal"),
         (Direction::Vertical, "Vertical"),
-    ] {
-        assert!(&rt; Direction::from_str(name) == Ok(direction));
-        assert!(&rt; format!(in alloc; "{direction}")?.as_str() == name);
-    }
-    assert!(&rt; Direction::from_str("Vertical ") == Err(ParseError::VariantNotFound));
+    ];
+    assert!(&rt; are_named(rt.alloc(), &names)?);
+    assert!(&rt; is_no_name::<Direction>("Vertical "));
     Ok(())
 }
 
 #[test]
 fn spacings_have_names(rt: HostRuntime) -> Mem<()> {
-    let alloc = rt.alloc();
-    for (spacing, name, without, with) in [
-        (HighlightSpacing::Always, "Always", true, true),
-        (HighlightSpacing::WhenSelected, "WhenSelected", false, true),
-        (HighlightSpacing::Never, "Never", false, false),
-    ] {
-        assert!(&rt; HighlightSpacing::from_str(name) == Ok(spacing));
-        assert!(&rt; format!(in alloc; "{spacing}")?.as_str() == name);
-        assert!(&rt; spacing.should_add(false) == without && spacing.should_add(true) == with);
-    }
-    assert!(&rt; HighlightSpacing::from_str("") == Err(ParseError::VariantNotFound));
-    assert!(&rt; HighlightSpacing::default() == HighlightSpacing::WhenSelected);
+    let names = [
+        (HighlightSpacing::Always, "Always"),
+        (HighlightSpacing::WhenSelected, "WhenSelected"),
+        (HighlightSpacing::Never, "Never"),
+    ];
+    assert!(&rt; are_named(rt.alloc(), &names)?);
+    assert!(&rt; is_no_name::<HighlightSpacing>(""));
     Ok(())
+}
+
+#[test]
+fn spacings_add_a_column(rt: HostRuntime) {
+    for (spacing, without, with) in [
+        (HighlightSpacing::Always, true, true),
+        (HighlightSpacing::default(), false, true),
+        (HighlightSpacing::Never, false, false),
+    ] {
+        assert!(&rt; (spacing.should_add(false), spacing.should_add(true)) == (without, with));
+    }
 }
 
 #[test]

@@ -7,10 +7,12 @@ mod cells;
 mod joining;
 #[cfg(test)]
 mod layout;
+mod names;
 #[cfg(test)]
 mod painting;
 mod symbols;
 #[cfg(test)]
 mod text;
 
-pub use symbols::{attributes_at, shown, symbol_at};
+pub use names::{are_named, is_no_name};
+pub use symbols::{attributes_at, shown, shows, symbol_at};

@@ -15,6 +15,11 @@ pub fn shown(alloc: Global, buffer: &Buffer) -> Mem<String> {
     Ok(text)
 }
 
+/// Whether a buffer shows these rows.
+pub fn shows(alloc: Global, buffer: &Buffer, rows: &str) -> Mem<bool> {
+    Ok(shown(alloc, buffer)?.as_str() == rows)
+}
+
 /// The symbol of the cell in a column and a row; none where there is no cell.
 pub fn symbol_at(buffer: &Buffer, x: u16, y: u16) -> Option<&str> {
     buffer.cell(Position::new(x, y)).map(Cell::symbol)

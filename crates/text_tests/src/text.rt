@@ -1,7 +1,7 @@
 //! Values from the standards, and each public call once.
 
-use std::str::FromStr;
-use tui_cells::{Color, Mem, ParseError, Style};
+use crate::names::{are_named, is_no_name};
+use tui_cells::{Color, Mem, Style};
 use tui_text::{Alignment, Line, Span, StyledGrapheme, Text, cell_width};
 
 /// Texts and their graphemes, with a bar between two: samples of UAX #29, table 1a and its test
@@ -36,18 +36,17 @@ const CLUSTERS: [(&str, &str); 15] = [
     ("a\u{a0}b", "a|\u{a0}|b"),
 ];
 
+fn are_graphemes(line: &Line, wanted: &str) -> bool {
+    line.styled_graphemes(Style::new())
+        .map(|grapheme| grapheme.symbol)
+        .eq(wanted.split('|'))
+}
+
 #[test]
 fn graphemes_are_extended_clusters(rt: HostRuntime) -> Mem<()> {
     for (text, clusters) in CLUSTERS {
         let line = Line::raw(rt.alloc(), text)?;
-        let mut shown = String::new(rt.alloc());
-        for grapheme in line.styled_graphemes(Style::new()) {
-            if !shown.is_empty() {
-                shown.push('|')?;
-            }
-            shown.push_str(grapheme.symbol)?;
-        }
-        assert!(&rt; shown.as_str() == clusters, "in {text:?}");
+        assert!(&rt; are_graphemes(&line, clusters), "in {text:?}");
     }
     Ok(())
 }
@@ -111,20 +110,20 @@ const LINES: [(&str, &str); 9] = [
     ("a\rb\n\r", "a\rb|\r"),
 ];
 
+/// Whether each line has one span, and these are their contents.
+fn are_lines(text: &Text, wanted: &str) -> bool {
+    text.lines()
+        .iter()
+        .flat_map(|line| line.spans())
+        .map(|span| span.content)
+        .eq(wanted.split('|'))
+}
+
 #[test]
 fn texts_end_lines_at_newlines(rt: HostRuntime) -> Mem<()> {
     for (content, lines) in LINES {
         let text = Text::raw(rt.alloc(), content)?;
-        let mut cut = String::new(rt.alloc());
-        for (i, line) in text.lines().iter().enumerate() {
-            if i > 0 {
-                cut.push('|')?;
-            }
-            for span in line.spans() {
-                cut.push_str(span.content)?;
-            }
-        }
-        assert!(&rt; cut.as_str() == lines, "in {content:?}");
+        assert!(&rt; are_lines(&text, lines), "in {content:?}");
     }
     Ok(())
 }
@@ -137,11 +136,18 @@ fn lines_are_built(rt: HostRuntime) -> Mem<()> {
         .alignment(Alignment::Right);
     line.push_span(Span::raw("e"))?;
     line.push_span(Span::raw("\u{301}\u{a1}"))?;
-    assert!(&rt; line.width() == 2 && line.width_cjk() == 3);
-    assert!(&rt; line.line_style() == blue);
-    assert!(&rt; line.line_alignment() == Some(Alignment::Right));
-    assert!(&rt; line == line.clone()?);
+    assert!(&rt; is_built(&line)?);
     Ok(())
+}
+
+fn is_built(line: &Line) -> Mem<bool> {
+    Ok(
+        line.width() == 2
+            && line.width_cjk() == 3
+            && line.line_style().bg == Some(Color::Blue)
+            && line.line_alignment() == Some(Alignment::Right)
+            && line.clone()? == *line,
+    )
 }
 
 #[test]
@@ -172,28 +178,31 @@ fn texts_are_built(rt: HostRuntime) -> Mem<()> {
     let mut text = Text::new(rt.alloc())
         .style(red)
         .alignment(Alignment::Center);
-    assert!(&rt; text.width() == 0);
+    assert!(&rt; (text.width(), text.height()) == (0, 0));
     text.push_line(Line::raw(rt.alloc(), "a")?)?;
     text.push_line(Line::raw(rt.alloc(), "\u{4e00}")?)?;
-    assert!(&rt; text.height() == 2);
-    assert!(&rt; text.width() == 2);
-    assert!(&rt; text.text_style() == red);
-    assert!(&rt; text.text_alignment() == Some(Alignment::Center));
-    assert!(&rt; text == text.clone()?);
+    assert!(&rt; has_two_lines(&text)?);
     Ok(())
+}
+
+fn has_two_lines(text: &Text) -> Mem<bool> {
+    Ok(
+        text.height() == 2
+            && text.width() == 2
+            && text.text_style().fg == Some(Color::Red)
+            && text.text_alignment() == Some(Alignment::Center)
+            && text.clone()? == *text,
+    )
 }
 
 #[test]
 fn alignments_have_names(rt: HostRuntime) -> Mem<()> {
-    for (alignment, name) in [
+    let names = [
         (Alignment::Left, "Left"),
         (Alignment::Center, "Center"),
         (Alignment::Right, "Right"),
-    ] {
-        assert!(&rt; Alignment::from_str(name) == Ok(alignment));
-        assert!(&rt; format!(in rt.alloc(); "{alignment}")?.as_str() == name);
-    }
-    assert!(&rt; Alignment::from_str("left") == Err(ParseError::VariantNotFound));
-    assert!(&rt; Alignment::default() == Alignment::Left);
+    ];
+    assert!(&rt; are_named(rt.alloc(), &names)?);
+    assert!(&rt; is_no_name::<Alignment>("left") && Alignment::default() == Alignment::Left);
     Ok(())
 }

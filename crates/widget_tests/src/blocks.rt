@@ -5,12 +5,11 @@ ghost use Rattle.tui_cells.specs.Layers.{KeptOutside};
 ghost use Rattle.tui_frames.specs.Shadow.{in_shadow};
 
 use std::alloc::Global;
-use std::str::FromStr;
 use std::test::Fail;
-use text_tests::{attributes_at, shown};
+use text_tests::{are_named, attributes_at, is_no_name, shows};
 use tui_cells::{
-    Attributes, Buffer, Color, Mem, MergeStrategy, Modifier, Offset, ParseError, Position, Rect,
-    Style, Styled, Widget, border as symbols,
+    Attributes, Buffer, Color, Mem, MergeStrategy, Modifier, Offset, Position, Rect, Style, Styled,
+    Widget, border as symbols,
 };
 use tui_frames::{
     Block, BlockExt, BorderType, Borders, CellEffect, Dimmed, Padding, Shadow, TitlePosition,
@@ -53,7 +52,7 @@ fn effects_are_applied_in_the_shadow(rt: HostRuntime) -> Result<(), Fail> {
     let area = Rect::new(0, 0, 2, 2);
     let mut buffer = blank(alloc, 4, 4)?;
     Block::new(alloc).render_with_effect(alloc, area, &mut buffer, &Plus)?;
-    assert!(rt; shown(alloc, &buffer)?.as_str() == "    \n  + \n ++ \n    \n");
+    assert!(rt; shows(alloc, &buffer, "    \n  + \n ++ \n    \n")?);
     Ok(())
 }
 
@@ -89,7 +88,7 @@ fn shadows_lie_outside_their_base(rt: HostRuntime) -> Result<(), Fail> {
     for (shadow, rows) in cases {
         let mut buffer = blank(alloc, 3, 2)?;
         shadow.render(alloc, Rect::new(0, 0, 2, 1), &mut buffer)?;
-        assert!(rt; shown(alloc, &buffer)?.as_str() == rows);
+        assert!(rt; shows(alloc, &buffer, rows)?);
     }
     let bold = Style::new().add_modifier(Modifier::BOLD);
     let shadow = Shadow::default().set_style(bold);
@@ -101,34 +100,47 @@ fn shadows_lie_outside_their_base(rt: HostRuntime) -> Result<(), Fail> {
 #[test]
 fn titles_stand_above_and_below(rt: HostRuntime) -> Result<(), Fail> {
     let alloc = rt.alloc();
+    let block = titled(alloc)?;
+    let mut buffer = blank(alloc, 5, 3)?;
+    block.render(alloc, Rect::new(0, 0, 5, 3), &mut buffer)?;
+    assert!(rt; shows(alloc, &buffer, "a    \n     \nb   c\n")?);
+    assert!(rt; block.inner(Rect::new(0, 0, 5, 3)) == Rect::new(0, 1, 5, 1));
+    Ok(())
+}
+
+fn titled<'a>(alloc: Global) -> Mem<Block<'a>> {
     let mut block = Block::new(alloc).title_position(TitlePosition::Bottom);
     block.title_top(Line::raw(alloc, "a")?)?;
     block.title(Line::raw(alloc, "b")?)?;
     block.title_bottom(Line::raw(alloc, "c")?.alignment(Alignment::Right))?;
-    let mut buffer = blank(alloc, 5, 3)?;
-    block.render(alloc, Rect::new(0, 0, 5, 3), &mut buffer)?;
-    assert!(rt; shown(alloc, &buffer)?.as_str() == "a    \n     \nb   c\n");
-    assert!(rt; block.inner(Rect::new(0, 0, 5, 3)) == Rect::new(0, 1, 5, 1));
-    Ok(())
+    Ok(block)
 }
 
 #[test]
 fn blocks_are_built_and_copied(rt: HostRuntime) -> Result<(), Fail> {
     let alloc = rt.alloc();
     let bold = Style::new().add_modifier(Modifier::BOLD);
-    let mut block = Block::bordered(alloc)
+    let mut block = dressed(Block::bordered(alloc), bold);
+    block.title(Line::raw(alloc, "abc")?)?;
+    assert!(rt; is_copied(&block)?);
+    assert!(rt; Styled::style(&block) == bold);
+    Ok(())
+}
+
+fn dressed<'a>(block: Block<'a>, style: Style) -> Block<'a> {
+    block
         .title_alignment(Alignment::Center)
-        .title_style(bold)
-        .border_style(bold)
-        .style(bold)
+        .title_style(style)
+        .border_style(style)
+        .style(style)
         .borders(Borders::TOP | Borders::LEFT)
         .border_type(BorderType::Rounded)
         .merge_borders(MergeStrategy::Exact)
-        .shadow(Shadow::dimmed());
-    block.title(Line::raw(alloc, "abc")?)?;
-    assert!(rt; block.clone()? == block);
-    assert!(rt; Styled::style(&block) == bold);
-    Ok(())
+        .shadow(Shadow::dimmed())
+}
+
+fn is_copied(block: &Block) -> Mem<bool> {
+    Ok(block.clone()? == *block)
 }
 
 #[test]
@@ -205,15 +217,16 @@ fn paddings(rt: HostRuntime) {
 
 #[test]
 fn names(rt: HostRuntime) -> Result<(), Fail> {
-    let alloc = rt.alloc();
-    for kind in [BorderType::default(), BorderType::LightQuadrupleDashed] {
-        let name = format!(in alloc; "{kind}")?;
-        assert!(rt; BorderType::from_str(name.as_str()) == Ok(kind));
-    }
-    assert!(rt; BorderType::from_str("") == Err(ParseError::VariantNotFound));
-    let name = format!(in alloc; "{}", TitlePosition::default())?;
-    assert!(rt; name.as_str() == "Top");
-    assert!(rt; TitlePosition::from_str("Bottom") == Ok(TitlePosition::Bottom));
+    let kinds = [
+        (BorderType::default(), "Plain"),
+        (BorderType::LightQuadrupleDashed, "LightQuadrupleDashed"),
+    ];
+    assert!(rt; are_named(rt.alloc(), &kinds)? && is_no_name::<BorderType>(""));
+    let places = [
+        (TitlePosition::default(), "Top"),
+        (TitlePosition::Bottom, "Bottom"),
+    ];
+    assert!(rt; are_named(rt.alloc(), &places)?);
     assert!(rt; BorderType::border_symbols(BorderType::Double) == symbols::DOUBLE);
     Ok(())
 }

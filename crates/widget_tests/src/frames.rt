@@ -2,7 +2,7 @@
 
 use std::alloc::Global;
 use std::test::Fail;
-use text_tests::shown;
+use text_tests::shows;
 use tui_cells::{Buffer, Color, Mem, Modifier, Rect, Style, Styled, Widget};
 use tui_frames::{Clear, Fill};
 
@@ -22,8 +22,8 @@ fn fills_are_built_and_cleared(rt: HostRuntime) -> Result<(), Fail> {
     assert!(rt; fill == Fill::new("x").set_style(bold));
     assert!(rt; Styled::style(&Fill::default()) == Style::new());
     let mut buffer = drawn(alloc, &fill, Rect::new(1, 1, 100, 100), 3, 2)?;
-    assert!(rt; shown(alloc, &buffer)?.as_str() == "   \n xx\n");
+    assert!(rt; shows(alloc, &buffer, "   \n xx\n")?);
     Clear.render(alloc, Rect::new(2, 0, 1, 9), &mut buffer)?;
-    assert!(rt; shown(alloc, &buffer)?.as_str() == "   \n x \n");
+    assert!(rt; shows(alloc, &buffer, "   \n x \n")?);
     Ok(())
 }

@@ -52,7 +52,11 @@ fn paragraphs_have_a_style(rt: HostRuntime) -> Mem<()> {
     let red = Style::new().fg(Color::Red);
     let styled = Paragraph::new(Text::raw(rt.alloc(), "a")?).style(red);
     assert!(&rt; Styled::style(&styled) == red);
-    let copy = styled.clone()?.scroll((1, 2)).set_style(red);
-    assert!(&rt; copy.scroll((0, 0)) == styled);
+    assert!(&rt; is_copied(&styled, red)?);
     Ok(())
+}
+
+fn is_copied(paragraph: &Paragraph, style: Style) -> Mem<bool> {
+    let copy = paragraph.clone()?.scroll((1, 2)).set_style(style);
+    Ok(copy.scroll((0, 0)) == *paragraph)
 }
