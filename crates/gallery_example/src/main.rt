@@ -1,10 +1,11 @@
-//! Draws each widget of docs/GALLERY.md by calls, and prints its rows.
+//! Draws each widget of docs/GALLERY.md by calls, and prints its rows; then the dialog of docs/TASKS.md.
 #![tactic(auto)]
 
 mod bars;
 mod frames;
 mod lists;
 mod months;
+mod tasks;
 mod texts;
 
 use std::alloc::Global;
@@ -37,7 +38,8 @@ fn main(rt: HostRuntime) -> anyhow::Result<()> {
         let rows = rows_of(alloc, &buffer)?;
         print!(rt; "== {name}\n{}", rows.as_str())?;
     }
-    Ok(())
+    println!(rt; "== dialog")?;
+    tasks::main(rt)
 }
 
 /// The rows as a terminal shows them: a cell that a wide symbol before it covers is left out.

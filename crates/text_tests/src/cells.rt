@@ -2,8 +2,11 @@
 
 use crate::symbols::{attributes_at, shows, symbol_at};
 use bitflags::Flags;
+use std::alloc::Global;
 use std::test::Fail;
-use tui_cells::{Attributes, Buffer, Cell, Color, Modifier, ParseError, Position, Rect, Style};
+use tui_cells::{
+    Attributes, Buffer, Cell, Color, Mem, Modifier, ParseError, Position, Rect, Style,
+};
 
 #[test]
 fn areas(rt: HostRuntime) {
@@ -43,52 +46,59 @@ fn areas_contain_positions(rt: HostRuntime) {
     }
 }
 
+/// All colours with a name, and one of each kind with numbers.
+const COLORS: [(Color, &str); 19] = [
+    (Color::Reset, "Reset"),
+    (Color::Black, "Black"),
+    (Color::Red, "Red"),
+    (Color::Green, "Green"),
+    (Color::Yellow, "Yellow"),
+    (Color::Blue, "Blue"),
+    (Color::Magenta, "Magenta"),
+    (Color::Cyan, "Cyan"),
+    (Color::Gray, "Gray"),
+    (Color::DarkGray, "DarkGray"),
+    (Color::LightRed, "LightRed"),
+    (Color::LightGreen, "LightGreen"),
+    (Color::LightYellow, "LightYellow"),
+    (Color::LightBlue, "LightBlue"),
+    (Color::LightMagenta, "LightMagenta"),
+    (Color::LightCyan, "LightCyan"),
+    (Color::White, "White"),
+    (Color::Rgb(100, 120, 140), "Rgb(100, 120, 140)"),
+    (Color::Indexed(7), "Indexed(7)"),
+];
+
+fn is_written(alloc: Global, color: Color, text: &str) -> Mem<bool> {
+    Ok(format!(in alloc; "{color:?}")?.as_str() == text)
+}
+
 #[test]
 fn colors(rt: HostRuntime) -> Result<(), Fail> {
-    let names = [
-        (Color::Reset, "Reset"),
-        (Color::Black, "Black"),
-        (Color::Red, "Red"),
-        (Color::Green, "Green"),
-        (Color::Yellow, "Yellow"),
-        (Color::Blue, "Blue"),
-        (Color::Magenta, "Magenta"),
-        (Color::Cyan, "Cyan"),
-        (Color::Gray, "Gray"),
-        (Color::DarkGray, "DarkGray"),
-        (Color::LightRed, "LightRed"),
-        (Color::LightGreen, "LightGreen"),
-        (Color::LightYellow, "LightYellow"),
-        (Color::LightBlue, "LightBlue"),
-        (Color::LightMagenta, "LightMagenta"),
-        (Color::LightCyan, "LightCyan"),
-        (Color::White, "White"),
-        (Color::Rgb(100, 120, 140), "Rgb(100, 120, 140)"),
-        (Color::Indexed(7), "Indexed(7)"),
-    ];
-    for (color, name) in names {
-        let text = format!(in rt.alloc(); "{color:?}")?;
-        assert!(rt; text.as_str() == name, "at {text}");
+    for &(color, text) in &COLORS {
+        assert!(rt; is_written(rt.alloc(), color, text)?);
     }
     Ok(())
 }
 
+/// The names of the modifiers, and their bits.
+const MODIFIERS: [(&str, Modifier, u16); 9] = [
+    ("BOLD", Modifier::BOLD, 1),
+    ("DIM", Modifier::DIM, 2),
+    ("ITALIC", Modifier::ITALIC, 4),
+    ("UNDERLINED", Modifier::UNDERLINED, 8),
+    ("SLOW_BLINK", Modifier::SLOW_BLINK, 16),
+    ("RAPID_BLINK", Modifier::RAPID_BLINK, 32),
+    ("REVERSED", Modifier::REVERSED, 64),
+    ("HIDDEN", Modifier::HIDDEN, 128),
+    ("CROSSED_OUT", Modifier::CROSSED_OUT, 256),
+];
+
 #[test]
 fn modifiers(rt: HostRuntime) {
-    let names = [
-        ("BOLD", Modifier::BOLD, 1),
-        ("DIM", Modifier::DIM, 2),
-        ("ITALIC", Modifier::ITALIC, 4),
-        ("UNDERLINED", Modifier::UNDERLINED, 8),
-        ("SLOW_BLINK", Modifier::SLOW_BLINK, 16),
-        ("RAPID_BLINK", Modifier::RAPID_BLINK, 32),
-        ("REVERSED", Modifier::REVERSED, 64),
-        ("HIDDEN", Modifier::HIDDEN, 128),
-        ("CROSSED_OUT", Modifier::CROSSED_OUT, 256),
-    ];
-    for (name, modifier, bits) in names {
-        assert!(rt; modifier.bits() == bits, "at {name}");
-        assert!(rt; Modifier::from_name(name) == Some(modifier), "at {name}");
+    for &(name, modifier, bits) in &MODIFIERS {
+        assert!(rt; modifier.bits() == bits);
+        assert!(rt; Modifier::from_name(name) == Some(modifier));
     }
 }
 
@@ -133,11 +143,14 @@ fn a_later_style_wins(rt: HostRuntime) {
 fn cells(rt: HostRuntime) -> Result<(), Fail> {
     let mut cell = Cell::new(rt.alloc());
     assert!(rt; cell.symbol() == " ");
-    cell.set_symbol("\u{30b3}")?;
-    assert!(rt; cell.symbol() == "\u{30b3}");
-    cell.set_symbol("")?;
-    assert!(rt; cell.symbol() == " ");
+    assert!(rt; is_set(&mut cell, "\u{30b3}", "\u{30b3}")?);
+    assert!(rt; is_set(&mut cell, "", " ")?);
     Ok(())
+}
+
+fn is_set(cell: &mut Cell, symbol: &str, shown: &str) -> Mem<bool> {
+    cell.set_symbol(symbol)?;
+    Ok(cell.symbol() == shown)
 }
 
 #[test]
@@ -163,21 +176,20 @@ fn cells_have_styles(rt: HostRuntime) -> Result<(), Fail> {
     Ok(())
 }
 
+/// Texts, the columns and rows of their buffers, and what these show.
+const TEXTS: [(&str, u16, u16, &str); 4] = [
+    ("ab\ncd", 2, 2, "ab\ncd\n"),
+    ("", 0, 1, "\n"),
+    ("ab\n", 2, 2, "ab\n  \n"),
+    ("a\n\n\u{30b3}bc", 3, 3, "a  \n   \n\u{30b3}bc\n"),
+];
+
 #[test]
 fn texts(rt: HostRuntime) -> Result<(), Fail> {
     let alloc = rt.alloc();
-    let cases = [
-        ("ab\ncd", 2, 2, "ab\ncd\n"),
-        ("", 0, 1, "\n"),
-        ("ab\n", 2, 2, "ab\n  \n"),
-        ("a\n\n\u{30b3}bc", 3, 3, "a  \n   \n\u{30b3}bc\n"),
-    ];
-    for (text, width, height, rows) in cases {
+    for &(text, width, height, rows) in &TEXTS {
         let buffer = Buffer::from_rows(alloc, text)?;
-        assert!(rt;
-            buffer.area() == Rect::new(0, 0, width, height),
-            "at {text}"
-        );
+        assert!(rt; buffer.area() == Rect::new(0, 0, width, height));
         assert!(rt; shows(alloc, &buffer, rows)?);
     }
     Ok(())
@@ -205,51 +217,86 @@ fn buffers(rt: HostRuntime) -> Result<(), Fail> {
 fn cells_of_a_buffer_are_set(rt: HostRuntime) -> Result<(), Fail> {
     let alloc = rt.alloc();
     let mut buffer = Buffer::from_rows(alloc, "xx")?;
-    buffer.set_symbol(Position::new(1, 0), "yz")?;
-    buffer.set_symbol(Position::new(2, 0), "a symbol of more than 8 bytes")?;
-    buffer.set_style(Rect::new(1, 0, 9, 9), Style::new().bg(Color::Blue));
+    set_symbols(&mut buffer)?;
     assert!(rt; shows(alloc, &buffer, "xyz\n")?);
+    buffer.reset(Rect::new(1, 0, 1, 1));
+    assert!(rt; shows(alloc, &buffer, "x \n")?);
+    Ok(())
+}
+
+/// Puts a symbol into the second column, and one where there is no cell.
+fn set_symbols(buffer: &mut Buffer) -> Mem<()> {
+    buffer.set_symbol(Position::new(1, 0), "yz")?;
+    buffer.set_symbol(Position::new(2, 0), "a symbol of more than 8 bytes")
+}
+
+#[test]
+fn cells_of_a_buffer_are_styled(rt: HostRuntime) -> Result<(), Fail> {
+    let mut buffer = Buffer::from_rows(rt.alloc(), "xx")?;
+    buffer.set_style(Rect::new(1, 0, 9, 9), Style::new().bg(Color::Blue));
     let blue = Attributes {
         bg: Color::Blue,
         ..Attributes::at_rest()
     };
     assert!(rt; attributes_at(&buffer, 0, 0) == Some(Attributes::at_rest()));
     assert!(rt; attributes_at(&buffer, 1, 0) == Some(blue));
-    buffer.reset(Rect::new(1, 0, 1, 1));
-    assert!(rt; shows(alloc, &buffer, "x \n")?);
     Ok(())
 }
 
 // 31 bytes, which the cells share.
 const LONG: &str = "0123456789abcdef0123456789abcde";
 
-#[test]
-fn fills(rt: HostRuntime) -> Result<(), Fail> {
-    let alloc = rt.alloc();
+/// Three columns and two rows, with the long symbol in the second and the third column of the second row.
+const FILLED: &str = "   \n 0123456789abcdef0123456789abcde0123456789abcdef0123456789abcde\n";
+
+/// Columns, rows, and the foreground there.
+const FOREGROUNDS: [(u16, u16, Color); 4] = [
+    (0, 0, Color::Reset),
+    (0, 1, Color::Reset),
+    (1, 1, Color::Red),
+    (2, 1, Color::Red),
+];
+
+/// A buffer with the long symbol in red, but for the cells of its first column and row.
+fn long_cells(alloc: Global) -> Mem<Buffer> {
     let mut buffer = Buffer::empty(alloc, Rect::new(0, 0, 3, 2))?;
-    buffer.fill(
-        alloc,
-        Rect::new(1, 1, 100, 100),
-        LONG,
-        Style::new().fg(Color::Red),
-    )?;
-    for (x, y, symbol, fg) in [
-        (0, 0, " ", Color::Reset),
-        (0, 1, " ", Color::Reset),
-        (1, 1, LONG, Color::Red),
-        (2, 1, LONG, Color::Red),
-    ] {
-        assert!(rt; symbol_at(&buffer, x, y) == Some(symbol));
-        let wanted = Attributes {
-            fg,
-            ..Attributes::at_rest()
-        };
-        assert!(rt; attributes_at(&buffer, x, y) == Some(wanted));
-    }
-    buffer.fill(alloc, Rect::new(0, 0, 2, 2), "\u{30b3}", Style::new())?;
-    assert!(rt; symbol_at(&buffer, 1, 1) == Some("\u{30b3}"));
-    assert!(rt; symbol_at(&buffer, 2, 1) == Some(LONG));
+    let red = Style::new().fg(Color::Red);
+    buffer.fill(alloc, Rect::new(1, 1, 100, 100), LONG, red)?;
+    Ok(buffer)
+}
+
+#[test]
+fn fills_set_symbols(rt: HostRuntime) -> Result<(), Fail> {
+    let alloc = rt.alloc();
+    let mut buffer = long_cells(alloc)?;
+    assert!(rt; shows(alloc, &buffer, FILLED)?);
+    assert!(rt; is_filled_again(alloc, &mut buffer)?);
     Ok(())
+}
+
+/// Whether a later fill sets the symbols of its area alone.
+fn is_filled_again(alloc: Global, buffer: &mut Buffer) -> Mem<bool> {
+    buffer.fill(alloc, Rect::new(0, 0, 2, 2), "\u{30b3}", Style::new())?;
+    Ok(symbol_at(buffer, 1, 1) == Some("\u{30b3}") && symbol_at(buffer, 2, 1) == Some(LONG))
+}
+
+#[test]
+fn fills_set_styles(rt: HostRuntime) -> Result<(), Fail> {
+    let buffer = long_cells(rt.alloc())?;
+    for &(x, y, fg) in &FOREGROUNDS {
+        assert!(rt; foreground_at(&buffer, x, y) == Some(fg));
+    }
+    Ok(())
+}
+
+/// The foreground of a cell that has no other colour and no modifier.
+fn foreground_at(buffer: &Buffer, x: u16, y: u16) -> Option<Color> {
+    let Attributes { fg, bg, modifier } = attributes_at(buffer, x, y)?;
+    if bg == Color::Reset && modifier == Modifier::empty() {
+        Some(fg)
+    } else {
+        None
+    }
 }
 
 #[test]

@@ -4,39 +4,56 @@ use crate::names::{are_named, is_no_name};
 use crate::symbols::symbol_at;
 use std::test::Fail;
 use tui_cells::MergeStrategy::{Exact, Fuzzy, Replace};
-use tui_cells::{Buffer, MergeStrategy, Offset, Position, Rect};
+use tui_cells::{Buffer, Mem, MergeStrategy, Offset, Position, Rect};
 
 fn joins(strategy: MergeStrategy, old: &str, new: &str, joined: &str) -> bool {
     strategy.merge(old, new) == joined
 }
 
+/// Strategies, the symbols that are there, those that come, and what they join to.
+const JOINED: [(MergeStrategy, &str, &str, &str); 8] = [
+    (Exact, "│", "─", "┼"),
+    (Exact, "║", "─", "╫"),
+    (Exact, "┃", "═", "═"),
+    (Fuzzy, "┃", "═", "╂"),
+    (Exact, "╭", "╭", "╭"),
+    (Fuzzy, "╭", "╭", "┌"),
+    (Exact, " ", "┌", "┌"),
+    (Replace, "│", "─", "─"),
+];
+
 #[test]
 fn symbols(rt: HostRuntime) {
-    assert!(&rt; joins(Exact, "│", "─", "┼"));
-    assert!(&rt; joins(Exact, "║", "─", "╫"));
-    assert!(&rt; joins(Exact, "┃", "═", "═"));
-    assert!(&rt; joins(Fuzzy, "┃", "═", "╂"));
-    assert!(&rt; joins(Exact, "╭", "╭", "╭"));
-    assert!(&rt; joins(Fuzzy, "╭", "╭", "┌"));
-    assert!(&rt; joins(Exact, " ", "┌", "┌"));
-    assert!(&rt; joins(Replace, "│", "─", "─"));
+    for &(strategy, old, new, joined) in &JOINED {
+        assert!(&rt; joins(strategy, old, new, joined));
+    }
+}
+
+/// Puts a corner into the second column and another one on it, and one where there is no cell.
+fn merge_corners(buffer: &mut Buffer) -> Mem<()> {
+    let corner = Position::new(1, 0);
+    buffer.set_symbol(corner, "┐")?;
+    buffer.merge_symbol(corner, "┌", Exact)?;
+    buffer.merge_symbol(Position::new(2, 0), "┌", Exact)
 }
 
 #[test]
 fn cells(rt: HostRuntime) -> Result<(), Fail> {
-    let corner = Position::new(1, 0);
     let mut buffer = Buffer::empty(rt.alloc(), Rect::new(0, 0, 2, 1))?;
-    buffer.set_symbol(corner, "┐")?;
-    buffer.merge_symbol(corner, "┌", Exact)?;
-    buffer.merge_symbol(Position::new(2, 0), "┌", Exact)?;
+    merge_corners(&mut buffer)?;
     assert!(rt; symbol_at(&buffer, 1, 0) == Some("┬"));
     Ok(())
 }
 
+const NAMES: [(MergeStrategy, &str); 3] = [
+    (Replace, "Replace"),
+    (Exact, "Exact"),
+    (Fuzzy, "Fuzzy"),
+];
+
 #[test]
 fn names(rt: HostRuntime) -> Result<(), Fail> {
-    let names = [(Replace, "Replace"), (Exact, "Exact"), (Fuzzy, "Fuzzy")];
-    assert!(rt; are_named(rt.alloc(), &names)?);
+    assert!(rt; are_named(rt.alloc(), &NAMES)?);
     assert!(rt; is_no_name::<MergeStrategy>("exact"));
     Ok(())
 }

@@ -11,19 +11,22 @@ where
     T: Copy + Display + FromStr<Err = ParseError> + PartialEq,
 {
     for (value, name) in names {
-        if !is_named(alloc, *value, name)? {
+        if !is_printed(alloc, *value, name)? || !is_read(*value, name) {
             return Ok(false);
         }
     }
     Ok(true)
 }
 
-fn is_named<T>(alloc: Global, value: T, name: &str) -> Mem<bool>
+fn is_printed<T: Copy + Display>(alloc: Global, value: T, name: &str) -> Mem<bool> {
+    Ok(format!(in alloc; "{value}")?.as_str() == name)
+}
+
+fn is_read<T>(value: T, name: &str) -> bool
 where
-    T: Copy + Display + FromStr<Err = ParseError> + PartialEq,
+    T: Copy + FromStr<Err = ParseError> + PartialEq,
 {
-    let printed = format!(in alloc; "{value}")?;
-    Ok(printed.as_str() == name && T::from_str(name) == Ok(value))
+    T::from_str(name) == Ok(value)
 }
 
 /// Whether a text is refused, since it is no name.

@@ -7,12 +7,16 @@ use tui_cells::{Attributes, Buffer, Cell, Mem, Position};
 pub fn shown(alloc: Global, buffer: &Buffer) -> Mem<String> {
     let mut text = String::new(alloc);
     for y in 0..buffer.height() {
-        for cell in buffer.row_at(y) {
-            text.push_str(cell.symbol())?;
-        }
-        text.push('\n')?;
+        put_row(&mut text, buffer.row_at(y))?;
     }
     Ok(text)
+}
+
+fn put_row(text: &mut String, row: &[Cell]) -> Mem<()> {
+    for cell in row {
+        text.push_str(cell.symbol())?;
+    }
+    Ok(text.push('\n')?)
 }
 
 /// Whether a buffer shows these rows.
@@ -22,10 +26,10 @@ pub fn shows(alloc: Global, buffer: &Buffer, rows: &str) -> Mem<bool> {
 
 /// The symbol of the cell in a column and a row; none where there is no cell.
 pub fn symbol_at(buffer: &Buffer, x: u16, y: u16) -> Option<&str> {
-    buffer.cell(Position::new(x, y)).map(Cell::symbol)
+    Some(buffer.cell(Position::new(x, y))?.symbol())
 }
 
 /// The colours and modifiers of the cell in a column and a row; none where there is no cell.
 pub fn attributes_at(buffer: &Buffer, x: u16, y: u16) -> Option<Attributes> {
-    buffer.cell(Position::new(x, y)).map(Cell::attributes)
+    Some(buffer.cell(Position::new(x, y))?.attributes())
 }

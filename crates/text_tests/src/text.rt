@@ -1,6 +1,7 @@
 //! Values from the standards, and each public call once.
 
 use crate::names::{are_named, is_no_name};
+use std::alloc::Global;
 use tui_cells::{Color, Mem, Style};
 use tui_text::{Alignment, Line, Span, StyledGrapheme, Text, cell_width};
 
@@ -37,16 +38,20 @@ const CLUSTERS: [(&str, &str); 15] = [
 ];
 
 fn are_graphemes(line: &Line, wanted: &str) -> bool {
-    line.styled_graphemes(Style::new())
-        .map(|grapheme| grapheme.symbol)
-        .eq(wanted.split('|'))
+    let mut symbols = wanted.split('|');
+    for grapheme in line.styled_graphemes(Style::new()) {
+        if symbols.next() != Some(grapheme.symbol) {
+            return false;
+        }
+    }
+    symbols.next().is_none()
 }
 
 #[test]
 fn graphemes_are_extended_clusters(rt: HostRuntime) -> Mem<()> {
-    for (text, clusters) in CLUSTERS {
+    for (text, clusters) in &CLUSTERS {
         let line = Line::raw(rt.alloc(), text)?;
-        assert!(&rt; are_graphemes(&line, clusters), "in {text:?}");
+        assert!(&rt; are_graphemes(&line, clusters));
     }
     Ok(())
 }
@@ -67,37 +72,37 @@ const WIDTHS: [(&str, u16, usize); 10] = [
 
 #[test]
 fn widths_are_columns(rt: HostRuntime) {
-    for (text, width, width_cjk) in WIDTHS {
-        assert!(&rt; cell_width(text) == width, "of {text:?}");
-        assert!(&rt;
-            Span::raw(text).width() == usize::from(width),
-            "of {text:?}"
-        );
-        assert!(&rt; Span::raw(text).width_cjk() == width_cjk, "of {text:?}");
+    for &(text, width, width_cjk) in &WIDTHS {
+        assert!(&rt; cell_width(text) == width);
+        assert!(&rt; Span::raw(text).width() == usize::from(width));
+        assert!(&rt; Span::raw(text).width_cjk() == width_cjk);
     }
     assert!(&rt; Span::raw("a\tb\u{4e00}\r\n").width() == 4);
 }
 
+/// Graphemes, and whether they are white space.
+const BLANKS: [(&str, bool); 7] = [
+    ("", true),
+    (" ", true),
+    ("\u{3000}", true),
+    ("\u{200b}", true),
+    ("\u{a0}", false),
+    ("a", false),
+    (" \u{301}", false),
+];
+
 #[test]
 fn blanks_are_white_space(rt: HostRuntime) {
-    for (symbol, is_blank) in [
-        ("", true),
-        (" ", true),
-        ("\u{3000}", true),
-        ("\u{200b}", true),
-        ("\u{a0}", false),
-        ("a", false),
-        (" \u{301}", false),
-    ] {
+    for &(symbol, is_blank) in &BLANKS {
         let grapheme = StyledGrapheme {
             symbol,
             style: Style::new(),
         };
-        assert!(&rt; grapheme.is_whitespace() == is_blank, "at {symbol:?}");
+        assert!(&rt; grapheme.is_whitespace() == is_blank);
     }
 }
 
-/// Texts and their lines, with a bar between two.
+/// Texts and the contents of their lines, with a bar between two.
 const LINES: [(&str, &str); 9] = [
     ("", ""),
     ("a", "a"),
@@ -110,20 +115,24 @@ const LINES: [(&str, &str); 9] = [
     ("a\rb\n\r", "a\rb|\r"),
 ];
 
-/// Whether each line has one span, and these are their contents.
-fn are_lines(text: &Text, wanted: &str) -> bool {
-    text.lines()
-        .iter()
-        .flat_map(|line| line.spans())
-        .map(|span| span.content)
-        .eq(wanted.split('|'))
+/// Whether these are the contents of the spans of all lines, one after another.
+fn are_spans(text: &Text, wanted: &str) -> bool {
+    let mut contents = wanted.split('|');
+    for line in text.lines() {
+        for span in line.spans() {
+            if contents.next() != Some(span.content) {
+                return false;
+            }
+        }
+    }
+    contents.next().is_none()
 }
 
 #[test]
 fn texts_end_lines_at_newlines(rt: HostRuntime) -> Mem<()> {
-    for (content, lines) in LINES {
+    for (content, lines) in &LINES {
         let text = Text::raw(rt.alloc(), content)?;
-        assert!(&rt; are_lines(&text, lines), "in {content:?}");
+        assert!(&rt; are_spans(&text, lines));
     }
     Ok(())
 }
@@ -168,8 +177,12 @@ fn graphemes_have_the_style_of_their_span_over_that_of_the_line(rt: HostRuntime)
 fn a_styled_line_is_not_the_raw_one(rt: HostRuntime) -> Mem<()> {
     let styled = Line::styled(rt.alloc(), "a", Style::new().fg(Color::Red))?;
     assert!(&rt; styled.line_alignment().is_none());
-    assert!(&rt; styled != Line::raw(rt.alloc(), "a")?);
+    assert!(&rt; !is_raw(rt.alloc(), &styled, "a")?);
     Ok(())
+}
+
+fn is_raw(alloc: Global, line: &Line, content: &str) -> Mem<bool> {
+    Ok(*line == Line::raw(alloc, content)?)
 }
 
 #[test]
@@ -179,10 +192,18 @@ fn texts_are_built(rt: HostRuntime) -> Mem<()> {
         .style(red)
         .alignment(Alignment::Center);
     assert!(&rt; (text.width(), text.height()) == (0, 0));
-    text.push_line(Line::raw(rt.alloc(), "a")?)?;
-    text.push_line(Line::raw(rt.alloc(), "\u{4e00}")?)?;
+    push_two(rt.alloc(), &mut text)?;
     assert!(&rt; has_two_lines(&text)?);
     Ok(())
+}
+
+fn push_two(alloc: Global, text: &mut Text<'_>) -> Mem<()> {
+    push_raw(alloc, text, "a")?;
+    push_raw(alloc, text, "\u{4e00}")
+}
+
+fn push_raw<'a>(alloc: Global, text: &mut Text<'a>, content: &'a str) -> Mem<()> {
+    text.push_line(Line::raw(alloc, content)?)
 }
 
 fn has_two_lines(text: &Text) -> Mem<bool> {
@@ -195,14 +216,15 @@ fn has_two_lines(text: &Text) -> Mem<bool> {
     )
 }
 
+const ALIGNMENTS: [(Alignment, &str); 3] = [
+    (Alignment::Left, "Left"),
+    (Alignment::Center, "Center"),
+    (Alignment::Right, "Right"),
+];
+
 #[test]
 fn alignments_have_names(rt: HostRuntime) -> Mem<()> {
-    let names = [
-        (Alignment::Left, "Left"),
-        (Alignment::Center, "Center"),
-        (Alignment::Right, "Right"),
-    ];
-    assert!(&rt; are_named(rt.alloc(), &names)?);
+    assert!(&rt; are_named(rt.alloc(), &ALIGNMENTS)?);
     assert!(&rt; is_no_name::<Alignment>("left") && Alignment::default() == Alignment::Left);
     Ok(())
 }

@@ -12,13 +12,26 @@ use tui_cells::{Mem, Style, Styled};
 use tui_text::Line;
 
 /// A value, with a label and styles of its own.
-#[derive(Debug, PartialEq, Eq, Hash, Drop)]
+#[derive(Debug, PartialEq, Eq, Hash)]
 pub struct Bar<'a> {
     pub(crate) label: Option<Line<'a>>,
     pub(crate) value: u64,
     pub(crate) style: Style,
     pub(crate) value_style: Style,
     pub(crate) text_value: Option<&'a str>,
+}
+
+// Written out, so that a crate above proves nothing of what it holds to let it go.
+impl<'a> Drop for Bar<'a> {
+    fn drop(self) {
+        let Bar {
+            label,
+            value,
+            style,
+            value_style,
+            text_value,
+        } = self;
+    }
 }
 
 impl<'a> Bar<'a> {
@@ -43,47 +56,43 @@ impl<'a> Bar<'a> {
     }
 
     /// Sets the value.
-    pub fn value(self, value: u64) -> Bar<'a>
+    pub fn value(mut self, value: u64) -> Bar<'a>
         ensures { bar_data result ≡ record (bar_data self.entry) { value = value } }
     {
-        Bar { value, ..self }
+        self.value = value;
+        self
     }
 
     /// Sets the label, which stands below the bar, or before it in a horizontal chart.
-    pub fn label(self, label: Line<'a>) -> Bar<'a>
+    pub fn label(mut self, label: Line<'a>) -> Bar<'a>
         ensures { bar_data result ≡ record (bar_data self.entry) { label = Some (line_data label.entry) } }
     {
-        Bar {
-            label: Some(label),
-            ..self
-        }
+        self.label = Some(label);
+        self
     }
 
     /// Sets the style that patches the chart's bar style.
-    pub fn style(self, style: Style) -> Bar<'a>
+    pub fn style(mut self, style: Style) -> Bar<'a>
         ensures { bar_data result ≡ record (bar_data self.entry) { style = style } }
     {
-        Bar { style, ..self }
+        self.style = style;
+        self
     }
 
     /// Sets the style that patches the chart's value style.
-    pub fn value_style(self, style: Style) -> Bar<'a>
+    pub fn value_style(mut self, style: Style) -> Bar<'a>
         ensures { bar_data result ≡ record (bar_data self.entry) { value_style = style } }
     {
-        Bar {
-            value_style: style,
-            ..self
-        }
+        self.value_style = style;
+        self
     }
 
     /// Sets the text that is shown in place of the value.
-    pub fn text_value(self, text: &'a str) -> Bar<'a>
+    pub fn text_value(mut self, text: &'a str) -> Bar<'a>
         ensures { bar_data result ≡ record (bar_data self.entry) { text = Some text.now } }
     {
-        Bar {
-            text_value: Some(text),
-            ..self
-        }
+        self.text_value = Some(text);
+        self
     }
 
     /// An equal bar of its own. `NoMemory` where there is none for the label.
@@ -142,7 +151,8 @@ impl<'a> Styled for Bar<'a> {
         self.style
     }
 
-    fn set_style(self, style: Style) -> Bar<'a> {
-        Bar { style, ..self }
+    fn set_style(mut self, style: Style) -> Bar<'a> {
+        self.style = style;
+        self
     }
 }

@@ -21,7 +21,7 @@ use tui_frames::{Block, clone_if_some};
 use tui_layout::Direction;
 
 /// Groups of bars, which stand side by side or lie below each other. The greatest value fills the length that there is.
-#[derive(Debug, PartialEq, Eq, Hash, Drop)]
+#[derive(Debug, PartialEq, Eq, Hash)]
 pub struct BarChart<'a> {
     block: Option<Block<'a>>,
     groups: Vec<BarGroup<'a>>,
@@ -35,6 +35,26 @@ pub struct BarChart<'a> {
     value_style: Style,
     label_style: Style,
     direction: Direction,
+}
+
+// Written out, so that a crate above proves nothing of what it holds to let it go.
+impl<'a> Drop for BarChart<'a> {
+    fn drop(self) {
+        let BarChart {
+            block,
+            groups,
+            style,
+            max,
+            bar_width,
+            bar_gap,
+            group_gap,
+            bar_set,
+            bar_style,
+            value_style,
+            label_style,
+            direction,
+        } = self;
+    }
 }
 
 impl<'a> BarChart<'a> {
@@ -96,107 +116,91 @@ impl<'a> BarChart<'a> {
     }
 
     /// Puts a block around the chart, which then has the area inside.
-    pub fn block(self, block: Block<'a>) -> BarChart<'a>
+    pub fn block(mut self, block: Block<'a>) -> BarChart<'a>
         ensures { bar_chart_data result ≡ record (bar_chart_data self.entry) { block = Some (block_data block.entry) } }
     {
-        BarChart {
-            block: Some(block),
-            ..self
-        }
+        self.block = Some(block);
+        self
     }
 
     /// Sets the value that fills a bar, in place of the greatest of the values. 0 counts as 1.
-    pub fn max(self, max: u64) -> BarChart<'a>
+    pub fn max(mut self, max: u64) -> BarChart<'a>
         ensures { bar_chart_data result ≡ record (bar_chart_data self.entry) { max = Some max } }
     {
-        BarChart {
-            max: Some(max),
-            ..self
-        }
+        self.max = Some(max);
+        self
     }
 
     /// Sets the style of the bars.
-    pub fn bar_style(self, style: Style) -> BarChart<'a>
+    pub fn bar_style(mut self, style: Style) -> BarChart<'a>
         ensures { bar_chart_data result ≡ record (bar_chart_data self.entry) { bar_style = style } }
     {
-        BarChart {
-            bar_style: style,
-            ..self
-        }
+        self.bar_style = style;
+        self
     }
 
     /// Sets the columns of a bar, or its rows in a horizontal chart.
-    pub fn bar_width(self, width: u16) -> BarChart<'a>
+    pub fn bar_width(mut self, width: u16) -> BarChart<'a>
         ensures { bar_chart_data result ≡ record (bar_chart_data self.entry) { width = width } }
     {
-        BarChart {
-            bar_width: width,
-            ..self
-        }
+        self.bar_width = width;
+        self
     }
 
     /// Sets the columns between two bars, or the rows.
-    pub fn bar_gap(self, gap: u16) -> BarChart<'a>
+    pub fn bar_gap(mut self, gap: u16) -> BarChart<'a>
         ensures { bar_chart_data result ≡ record (bar_chart_data self.entry) { gap = gap } }
     {
-        BarChart {
-            bar_gap: gap,
-            ..self
-        }
+        self.bar_gap = gap;
+        self
     }
 
     /// Sets the symbols of cells that are filled in part. A horizontal chart uses the full and the empty one alone.
-    pub fn bar_set(self, set: bar::Set<'a>) -> BarChart<'a>
+    pub fn bar_set(mut self, set: bar::Set<'a>) -> BarChart<'a>
         ensures { bar_chart_data result ≡ record (bar_chart_data self.entry) { symbols = symbols_of set.entry } }
     {
-        BarChart {
-            bar_set: set,
-            ..self
-        }
+        self.bar_set = set;
+        self
     }
 
     /// Sets the style of the values.
-    pub fn value_style(self, style: Style) -> BarChart<'a>
+    pub fn value_style(mut self, style: Style) -> BarChart<'a>
         ensures { bar_chart_data result ≡ record (bar_chart_data self.entry) { value_style = style } }
     {
-        BarChart {
-            value_style: style,
-            ..self
-        }
+        self.value_style = style;
+        self
     }
 
     /// Sets the style under the labels; a horizontal chart uses it for those of groups alone.
-    pub fn label_style(self, style: Style) -> BarChart<'a>
+    pub fn label_style(mut self, style: Style) -> BarChart<'a>
         ensures { bar_chart_data result ≡ record (bar_chart_data self.entry) { label_style = style } }
     {
-        BarChart {
-            label_style: style,
-            ..self
-        }
+        self.label_style = style;
+        self
     }
 
     /// Sets the columns after a group, or the rows, besides the gap of its last bar.
-    pub fn group_gap(self, gap: u16) -> BarChart<'a>
+    pub fn group_gap(mut self, gap: u16) -> BarChart<'a>
         ensures { bar_chart_data result ≡ record (bar_chart_data self.entry) { group_gap = gap } }
     {
-        BarChart {
-            group_gap: gap,
-            ..self
-        }
+        self.group_gap = gap;
+        self
     }
 
     /// Sets the style under all, the block's area included.
-    pub fn style(self, style: Style) -> BarChart<'a>
+    pub fn style(mut self, style: Style) -> BarChart<'a>
         ensures { bar_chart_data result ≡ record (bar_chart_data self.entry) { style = style } }
     {
-        BarChart { style, ..self }
+        self.style = style;
+        self
     }
 
     /// Sets whether the bars stand side by side (`Vertical`) or lie below each other (`Horizontal`).
-    pub fn direction(self, direction: Direction) -> BarChart<'a>
+    pub fn direction(mut self, direction: Direction) -> BarChart<'a>
         ensures { bar_chart_data result ≡ record (bar_chart_data self.entry) { direction = direction } }
     {
-        BarChart { direction, ..self }
+        self.direction = direction;
+        self
     }
 
     /// An equal chart of its own. `NoMemory` where there is none for the block or the groups.
@@ -233,7 +237,8 @@ impl<'a> Styled for BarChart<'a> {
         self.style
     }
 
-    fn set_style(self, style: Style) -> BarChart<'a> {
-        BarChart { style, ..self }
+    fn set_style(mut self, style: Style) -> BarChart<'a> {
+        self.style = style;
+        self
     }
 }

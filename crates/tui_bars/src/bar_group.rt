@@ -10,10 +10,17 @@ use tui_cells::Mem;
 use tui_text::Line;
 
 /// Bars side by side under one label.
-#[derive(Debug, PartialEq, Eq, Hash, Drop)]
+#[derive(Debug, PartialEq, Eq, Hash)]
 pub struct BarGroup<'a> {
     pub(crate) label: Option<Line<'a>>,
     pub(crate) bars: Vec<Bar<'a>>,
+}
+
+// Written out, so that a crate above proves nothing of what it holds to let it go.
+impl<'a> Drop for BarGroup<'a> {
+    fn drop(self) {
+        let BarGroup { label, bars } = self;
+    }
 }
 
 impl<'a> BarGroup<'a> {
@@ -35,20 +42,19 @@ impl<'a> BarGroup<'a> {
     }
 
     /// Sets the label.
-    pub fn label(self, label: Line<'a>) -> BarGroup<'a>
+    pub fn label(mut self, label: Line<'a>) -> BarGroup<'a>
         ensures { group_data result ≡ record (group_data self.entry) { label = Some (line_data label.entry) } }
     {
-        BarGroup {
-            label: Some(label),
-            ..self
-        }
+        self.label = Some(label);
+        self
     }
 
     /// Puts these bars in place of the old ones.
-    pub fn bars(self, bars: Vec<Bar<'a>>) -> BarGroup<'a>
+    pub fn bars(mut self, bars: Vec<Bar<'a>>) -> BarGroup<'a>
         ensures { group_data result ≡ record (group_data self.entry) { bars = map bar_data bars.entry.items } }
     {
-        BarGroup { bars, ..self }
+        self.bars = bars;
+        self
     }
 
     /// Puts a bar of a value with a label at the end. At `NoMemory` the group is as before.

@@ -17,7 +17,7 @@ use tui_text::Span;
 
 /// An area whose first columns are filled by a share, with a label in the middle. The label is the percentage where none is
 /// given. Under it the colours of the filled cells are turned round.
-#[derive(Debug, PartialEq, Eq, Drop)]
+#[derive(Debug, PartialEq, Eq)]
 pub struct Gauge<'a> {
     block: Option<Block<'a>>,
     share: Share,
@@ -25,6 +25,20 @@ pub struct Gauge<'a> {
     style: Style,
     gauge_style: Style,
     use_unicode: bool,
+}
+
+// Written out, so that a crate above proves nothing of what it holds to let it go.
+impl<'a> Drop for Gauge<'a> {
+    fn drop(self) {
+        let Gauge {
+            block,
+            share,
+            label,
+            style,
+            gauge_style,
+            use_unicode,
+        } = self;
+    }
 }
 
 impl<'a> Default for Gauge<'a> {
@@ -45,72 +59,67 @@ impl<'a> Default for Gauge<'a> {
 
 impl<'a> Gauge<'a> {
     /// Puts a block around the gauge, which then has the area inside.
-    pub fn block(self, block: Block<'a>) -> Gauge<'a>
+    pub fn block(mut self, block: Block<'a>) -> Gauge<'a>
         ensures { gauge_data result ≡ record (gauge_data self.entry) { block = Some (block_data block.entry) } }
     {
-        Gauge {
-            block: Some(block),
-            ..self
-        }
+        self.block = Some(block);
+        self
     }
 
     /// Sets the share in percent. Answers `PercentAbove100` exactly above 100; the gauge is gone then.
-    pub fn percent(self, percent: u16) -> Result<Gauge<'a>, GaugeError>
+    pub fn percent(mut self, percent: u16) -> Result<Gauge<'a>, GaugeError>
         ensures ok { percent ≤ 100 → IsOk result }
         ensures is { IfOk result (λ gauge. gauge_data gauge ≡ record (gauge_data self.entry) { num = percent; den = 100 }) }
         ensures refused { 100 < percent → result ≡ Err GaugeError.PercentAbove100 }
     {
         let share = share_of_percent(percent)?;
-        Ok(Gauge { share, ..self })
+        self.share = share;
+        Ok(self)
     }
 
     /// Sets the share. Answers `RatioOutOfRange` exactly where the denominator is 0 or the numerator is above it; the gauge is
     /// gone then.
-    pub fn ratio(self, ratio: Fraction) -> Result<Gauge<'a>, GaugeError>
+    pub fn ratio(mut self, ratio: Fraction) -> Result<Gauge<'a>, GaugeError>
         ensures ok { 0 < ratio.den → ratio.num ≤ ratio.den → IsOk result }
         ensures is { IfOk result (λ gauge. gauge_data gauge ≡ record (gauge_data self.entry) { num = ratio.num; den = ratio.den }) }
         ensures zero { ratio.den ≡ 0 → result ≡ Err GaugeError.RatioOutOfRange }
         ensures above { ratio.den < ratio.num → result ≡ Err GaugeError.RatioOutOfRange }
     {
         let share = share_of(ratio)?;
-        Ok(Gauge { share, ..self })
+        self.share = share;
+        Ok(self)
     }
 
     /// Sets the label in place of the percentage.
-    pub fn label(self, label: Span<'a>) -> Gauge<'a>
+    pub fn label(mut self, label: Span<'a>) -> Gauge<'a>
         ensures { gauge_data result ≡ record (gauge_data self.entry) { label = Some (span_data label.entry) } }
     {
-        Gauge {
-            label: Some(label),
-            ..self
-        }
+        self.label = Some(label);
+        self
     }
 
     /// Sets the style under all, the block's area included.
-    pub fn style(self, style: Style) -> Gauge<'a>
+    pub fn style(mut self, style: Style) -> Gauge<'a>
         ensures { gauge_data result ≡ record (gauge_data self.entry) { style = style } }
     {
-        Gauge { style, ..self }
+        self.style = style;
+        self
     }
 
     /// Sets the style inside the block. Filled cells have its colours, Reset for one that it doesn't set.
-    pub fn gauge_style(self, style: Style) -> Gauge<'a>
+    pub fn gauge_style(mut self, style: Style) -> Gauge<'a>
         ensures { gauge_data result ≡ record (gauge_data self.entry) { gauge_style = style } }
     {
-        Gauge {
-            gauge_style: style,
-            ..self
-        }
+        self.gauge_style = style;
+        self
     }
 
     /// Sets whether the column after the whole ones shows the eighths of it that are filled; else the columns are rounded.
-    pub fn use_unicode(self, use_unicode: bool) -> Gauge<'a>
+    pub fn use_unicode(mut self, use_unicode: bool) -> Gauge<'a>
         ensures { gauge_data result ≡ record (gauge_data self.entry) { use_unicode = use_unicode } }
     {
-        Gauge {
-            use_unicode,
-            ..self
-        }
+        self.use_unicode = use_unicode;
+        self
     }
 
     /// An equal gauge of its own. `NoMemory` where there is none for the block.
@@ -138,7 +147,8 @@ impl<'a> Styled for Gauge<'a> {
         self.style
     }
 
-    fn set_style(self, style: Style) -> Gauge<'a> {
-        Gauge { style, ..self }
+    fn set_style(mut self, style: Style) -> Gauge<'a> {
+        self.style = style;
+        self
     }
 }

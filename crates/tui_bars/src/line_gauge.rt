@@ -18,7 +18,7 @@ use tui_text::Line;
 
 /// A label, and one column after it a line up to the end of the first row, whose first columns are filled by a share. The label
 /// is the percentage in three places where none is given.
-#[derive(Debug, PartialEq, Eq, Drop)]
+#[derive(Debug, PartialEq, Eq)]
 pub struct LineGauge<'a> {
     block: Option<Block<'a>>,
     label: Option<Line<'a>>,
@@ -28,6 +28,22 @@ pub struct LineGauge<'a> {
     unfilled_symbol: &'a str,
     filled_style: Style,
     unfilled_style: Style,
+}
+
+// Written out, so that a crate above proves nothing of what it holds to let it go.
+impl<'a> Drop for LineGauge<'a> {
+    fn drop(self) {
+        let LineGauge {
+            block,
+            label,
+            share,
+            style,
+            filled_symbol,
+            unfilled_symbol,
+            filled_style,
+            unfilled_style,
+        } = self;
+    }
 }
 
 /// A style of which one colour is the symbol's, Reset where it is not set, over the background Reset.
@@ -57,108 +73,94 @@ impl<'a> Default for LineGauge<'a> {
 
 impl<'a> LineGauge<'a> {
     /// Puts a block around the line gauge, which then has the area inside.
-    pub fn block(self, block: Block<'a>) -> LineGauge<'a>
+    pub fn block(mut self, block: Block<'a>) -> LineGauge<'a>
         ensures { line_gauge_data result ≡ record (line_gauge_data self.entry) { block = Some (block_data block.entry) } }
     {
-        LineGauge {
-            block: Some(block),
-            ..self
-        }
+        self.block = Some(block);
+        self
     }
 
     /// Sets the share. Answers `RatioOutOfRange` exactly where the denominator is 0 or the numerator is above it; the line gauge
     /// is gone then.
-    pub fn ratio(self, ratio: Fraction) -> Result<LineGauge<'a>, GaugeError>
+    pub fn ratio(mut self, ratio: Fraction) -> Result<LineGauge<'a>, GaugeError>
         ensures ok { 0 < ratio.den → ratio.num ≤ ratio.den → IsOk result }
         ensures is { IfOk result (λ gauge. line_gauge_data gauge ≡ record (line_gauge_data self.entry) { num = ratio.num; den = ratio.den }) }
         ensures zero { ratio.den ≡ 0 → result ≡ Err GaugeError.RatioOutOfRange }
         ensures above { ratio.den < ratio.num → result ≡ Err GaugeError.RatioOutOfRange }
     {
         let share = share_of(ratio)?;
-        Ok(LineGauge { share, ..self })
+        self.share = share;
+        Ok(self)
     }
 
     /// Sets both symbols to the horizontal one of a set.
-    pub fn line_set(self, set: line::Set<'a>) -> LineGauge<'a>
+    pub fn line_set(mut self, set: line::Set<'a>) -> LineGauge<'a>
         ensures { line_gauge_data result ≡ record (line_gauge_data self.entry) { filled = set.entry.horizontal.now; unfilled = set.entry.horizontal.now } }
     {
-        LineGauge {
-            filled_symbol: set.horizontal,
-            unfilled_symbol: set.horizontal,
-            ..self
-        }
+        self.filled_symbol = set.horizontal;
+        self.unfilled_symbol = set.horizontal;
+        self
     }
 
     /// Sets the symbol of the filled columns.
-    pub fn filled_symbol(self, symbol: &'a str) -> LineGauge<'a>
+    pub fn filled_symbol(mut self, symbol: &'a str) -> LineGauge<'a>
         ensures { line_gauge_data result ≡ record (line_gauge_data self.entry) { filled = symbol.now } }
     {
-        LineGauge {
-            filled_symbol: symbol,
-            ..self
-        }
+        self.filled_symbol = symbol;
+        self
     }
 
     /// Sets the symbol of the other columns.
-    pub fn unfilled_symbol(self, symbol: &'a str) -> LineGauge<'a>
+    pub fn unfilled_symbol(mut self, symbol: &'a str) -> LineGauge<'a>
         ensures { line_gauge_data result ≡ record (line_gauge_data self.entry) { unfilled = symbol.now } }
     {
-        LineGauge {
-            unfilled_symbol: symbol,
-            ..self
-        }
+        self.unfilled_symbol = symbol;
+        self
     }
 
     /// Sets the label in place of the percentage.
-    pub fn label(self, label: Line<'a>) -> LineGauge<'a>
+    pub fn label(mut self, label: Line<'a>) -> LineGauge<'a>
         ensures { line_gauge_data result ≡ record (line_gauge_data self.entry) { label = Some (line_data label.entry) } }
     {
-        LineGauge {
-            label: Some(label),
-            ..self
-        }
+        self.label = Some(label);
+        self
     }
 
     /// Sets the style under all, the block's area included.
-    pub fn style(self, style: Style) -> LineGauge<'a>
+    pub fn style(mut self, style: Style) -> LineGauge<'a>
         ensures { line_gauge_data result ≡ record (line_gauge_data self.entry) { style = style } }
     {
-        LineGauge { style, ..self }
+        self.style = style;
+        self
     }
 
     /// Sets the style of the filled columns.
-    pub fn filled_style(self, style: Style) -> LineGauge<'a>
+    pub fn filled_style(mut self, style: Style) -> LineGauge<'a>
         ensures { line_gauge_data result ≡ record (line_gauge_data self.entry) { filled_style = style } }
     {
-        LineGauge {
-            filled_style: style,
-            ..self
-        }
+        self.filled_style = style;
+        self
     }
 
     /// Sets the style of the other columns.
-    pub fn unfilled_style(self, style: Style) -> LineGauge<'a>
+    pub fn unfilled_style(mut self, style: Style) -> LineGauge<'a>
         ensures { line_gauge_data result ≡ record (line_gauge_data self.entry) { unfilled_style = style } }
     {
-        LineGauge {
-            unfilled_style: style,
-            ..self
-        }
+        self.unfilled_style = style;
+        self
     }
 
     /// Sets both styles: this one with its own colour for the filled columns, with its background as colour for the others,
     /// Reset where it sets none, and with the background Reset.
-    pub fn gauge_style(self, style: Style) -> LineGauge<'a>
+    pub fn gauge_style(mut self, style: Style) -> LineGauge<'a>
         ensures { line_gauge_data result ≡ record (line_gauge_data self.entry) {
           filled_style = drawn_in style style.fg;
           unfilled_style = drawn_in style style.bg;
         } }
     {
-        LineGauge {
-            filled_style: drawn_in(style, style.fg),
-            unfilled_style: drawn_in(style, style.bg),
-            ..self
-        }
+        self.filled_style = drawn_in(style, style.fg);
+        self.unfilled_style = drawn_in(style, style.bg);
+        self
     }
 
     /// An equal line gauge of its own. `NoMemory` where there is none for the block or the label.
@@ -188,7 +190,8 @@ impl<'a> Styled for LineGauge<'a> {
         self.style
     }
 
-    fn set_style(self, style: Style) -> LineGauge<'a> {
-        LineGauge { style, ..self }
+    fn set_style(mut self, style: Style) -> LineGauge<'a> {
+        self.style = style;
+        self
     }
 }

@@ -14,7 +14,7 @@ use tui_cells::{Mem, Style, Styled, bar};
 use tui_frames::{Block, clone_if_some};
 
 /// Values side by side, each as a bar in a column of its own. Values that have no column are left out.
-#[derive(Debug, PartialEq, Eq, Drop)]
+#[derive(Debug, PartialEq, Eq)]
 pub struct Sparkline<'a> {
     block: Option<Block<'a>>,
     bars: Vec<SparklineBar>,
@@ -24,6 +24,22 @@ pub struct Sparkline<'a> {
     max: Option<u64>,
     bar_set: bar::Set<'a>,
     direction: RenderDirection,
+}
+
+// Written out, so that a crate above proves nothing of what it holds to let it go.
+impl<'a> Drop for Sparkline<'a> {
+    fn drop(self) {
+        let Sparkline {
+            block,
+            bars,
+            style,
+            absent_value_style,
+            absent_value_symbol,
+            max,
+            bar_set,
+            direction,
+        } = self;
+    }
 }
 
 impl<'a> Sparkline<'a> {
@@ -44,74 +60,67 @@ impl<'a> Sparkline<'a> {
     }
 
     /// Puts a block around the bars, which then have the area inside.
-    pub fn block(self, block: Block<'a>) -> Sparkline<'a>
+    pub fn block(mut self, block: Block<'a>) -> Sparkline<'a>
         ensures { sparkline_data result ≡ record (sparkline_data self.entry) { block = Some (block_data block.entry) } }
     {
-        Sparkline {
-            block: Some(block),
-            ..self
-        }
+        self.block = Some(block);
+        self
     }
 
     /// Sets the style of the bars.
-    pub fn style(self, style: Style) -> Sparkline<'a>
+    pub fn style(mut self, style: Style) -> Sparkline<'a>
         ensures { sparkline_data result ≡ record (sparkline_data self.entry) { style = style } }
     {
-        Sparkline { style, ..self }
+        self.style = style;
+        self
     }
 
     /// Sets the style that patches it in the column of an absent value.
-    pub fn absent_value_style(self, style: Style) -> Sparkline<'a>
+    pub fn absent_value_style(mut self, style: Style) -> Sparkline<'a>
         ensures { sparkline_data result ≡ record (sparkline_data self.entry) { absent_style = style } }
     {
-        Sparkline {
-            absent_value_style: style,
-            ..self
-        }
+        self.absent_value_style = style;
+        self
     }
 
     /// Sets the symbol in each cell of the column of an absent value.
-    pub fn absent_value_symbol(self, symbol: &'a str) -> Sparkline<'a>
+    pub fn absent_value_symbol(mut self, symbol: &'a str) -> Sparkline<'a>
         ensures { sparkline_data result ≡ record (sparkline_data self.entry) { absent_symbol = symbol.now } }
     {
-        Sparkline {
-            absent_value_symbol: symbol,
-            ..self
-        }
+        self.absent_value_symbol = symbol;
+        self
     }
 
     /// Puts these bars in place of the old ones.
-    pub fn data(self, bars: Vec<SparklineBar>) -> Sparkline<'a>
+    pub fn data(mut self, bars: Vec<SparklineBar>) -> Sparkline<'a>
         ensures { sparkline_data result ≡ record (sparkline_data self.entry) { bars = map sparkline_bar_data bars.items } }
     {
-        Sparkline { bars, ..self }
+        self.bars = bars;
+        self
     }
 
     /// Sets the value that fills a column, in place of the greatest of the values.
-    pub fn max(self, max: u64) -> Sparkline<'a>
+    pub fn max(mut self, max: u64) -> Sparkline<'a>
         ensures { sparkline_data result ≡ record (sparkline_data self.entry) { max = Some max } }
     {
-        Sparkline {
-            max: Some(max),
-            ..self
-        }
+        self.max = Some(max);
+        self
     }
 
     /// Sets the symbols of cells that are filled in part.
-    pub fn bar_set(self, set: bar::Set<'a>) -> Sparkline<'a>
+    pub fn bar_set(mut self, set: bar::Set<'a>) -> Sparkline<'a>
         ensures { sparkline_data result ≡ record (sparkline_data self.entry) { symbols = bar_data set.entry } }
     {
-        Sparkline {
-            bar_set: set,
-            ..self
-        }
+        self.bar_set = set;
+        self
     }
 
     /// Sets the side where the first bar stands.
-    pub fn direction(self, direction: RenderDirection) -> Sparkline<'a>
+    pub fn direction(mut self, direction: RenderDirection) -> Sparkline<'a>
         ensures { sparkline_data result ≡ record (sparkline_data self.entry) { direction = direction } }
     {
-        Sparkline { direction, ..self }
+        self.direction = direction;
+        self
     }
 
     /// An equal sparkline of its own. `NoMemory` where there is none for the block or the bars.
@@ -142,7 +151,8 @@ impl<'a> Styled for Sparkline<'a> {
         self.style
     }
 
-    fn set_style(self, style: Style) -> Sparkline<'a> {
-        Sparkline { style, ..self }
+    fn set_style(mut self, style: Style) -> Sparkline<'a> {
+        self.style = style;
+        self
     }
 }

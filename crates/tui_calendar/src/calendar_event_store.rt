@@ -11,9 +11,16 @@ use std::collections::BTreeMap;
 use tui_cells::{Mem, Style};
 
 /// Dates with a style each, in the order of the dates.
-#[derive(Debug, PartialEq, Eq, Drop)]
+#[derive(Debug, PartialEq, Eq)]
 pub struct CalendarEventStore {
     styles: BTreeMap<Date, Style>,
+}
+
+// Written out, so that a crate above proves nothing of what it holds to let it go.
+impl Drop for CalendarEventStore {
+    fn drop(self) {
+        let CalendarEventStore { styles } = self;
+    }
 }
 
 impl CalendarEventStore {

@@ -26,7 +26,7 @@ use tui_text::{Alignment, Line};
 
 /// A frame round what stands inside: a style in its whole area, borders on some sides, titles in the first and in the last
 /// row, free space inside, and a shadow.
-#[derive(Debug, PartialEq, Eq, Hash, Drop)]
+#[derive(Debug, PartialEq, Eq, Hash)]
 pub struct Block<'a> {
     titles: Vec<Title<'a>>,
     title_style: Style,
@@ -39,6 +39,25 @@ pub struct Block<'a> {
     padding: Padding,
     merge_borders: MergeStrategy,
     shadow: Option<Shadow<'a>>,
+}
+
+// Written out, so that a crate above proves nothing of what it holds to let it go.
+impl<'a> Drop for Block<'a> {
+    fn drop(self) {
+        let Block {
+            titles,
+            title_style,
+            title_alignment,
+            title_position,
+            borders,
+            border_style,
+            border_set,
+            style,
+            padding,
+            merge_borders,
+            shadow,
+        } = self;
+    }
 }
 
 impl<'a> Block<'a> {
@@ -129,111 +148,99 @@ impl<'a> Block<'a> {
     }
 
     /// Puts these titles in place of the old ones.
-    pub fn titles(self, titles: Vec<Title<'a>>) -> Block<'a>
+    pub fn titles(mut self, titles: Vec<Title<'a>>) -> Block<'a>
         ensures { block_data result ≡ record (block_data self.entry) { titles = map title_data titles.entry.items } }
     {
-        Block { titles, ..self }
+        self.titles = titles;
+        self
     }
 
     /// Sets the style under the titles.
-    pub fn title_style(self, style: Style) -> Block<'a>
+    pub fn title_style(mut self, style: Style) -> Block<'a>
         ensures { block_data result ≡ record (block_data self.entry) { title_style = style } }
     {
-        Block {
-            title_style: style,
-            ..self
-        }
+        self.title_style = style;
+        self
     }
 
     /// Sets the alignment of the titles that have none of their own.
-    pub fn title_alignment(self, alignment: Alignment) -> Block<'a>
+    pub fn title_alignment(mut self, alignment: Alignment) -> Block<'a>
         ensures { block_data result ≡ record (block_data self.entry) { title_alignment = alignment } }
     {
-        Block {
-            title_alignment: alignment,
-            ..self
-        }
+        self.title_alignment = alignment;
+        self
     }
 
     /// Sets the side of the titles that have none of their own.
-    pub fn title_position(self, position: TitlePosition) -> Block<'a>
+    pub fn title_position(mut self, position: TitlePosition) -> Block<'a>
         ensures { block_data result ≡ record (block_data self.entry) { title_position = position } }
     {
-        Block {
-            title_position: position,
-            ..self
-        }
+        self.title_position = position;
+        self
     }
 
     /// Sets the style of the borders.
-    pub fn border_style(self, style: Style) -> Block<'a>
+    pub fn border_style(mut self, style: Style) -> Block<'a>
         ensures { block_data result ≡ record (block_data self.entry) { border_style = style } }
     {
-        Block {
-            border_style: style,
-            ..self
-        }
+        self.border_style = style;
+        self
     }
 
     /// Sets the style under all.
-    pub fn style(self, style: Style) -> Block<'a>
+    pub fn style(mut self, style: Style) -> Block<'a>
         ensures { block_data result ≡ record (block_data self.entry) { style = style } }
     {
-        Block { style, ..self }
+        self.style = style;
+        self
     }
 
     /// Sets the sides that have borders.
-    pub fn borders(self, borders: Borders) -> Block<'a>
+    pub fn borders(mut self, borders: Borders) -> Block<'a>
         ensures { block_data result ≡ record (block_data self.entry) { borders = borders } }
     {
-        Block { borders, ..self }
+        self.borders = borders;
+        self
     }
 
     /// Sets the border symbols to those of a kind.
-    pub fn border_type(self, kind: BorderType) -> Block<'a>
+    pub fn border_type(mut self, kind: BorderType) -> Block<'a>
         ensures { block_data result ≡ record (block_data self.entry) { symbols = symbols_of kind } }
     {
-        Block {
-            border_set: kind.to_border_set(),
-            ..self
-        }
+        self.border_set = kind.to_border_set();
+        self
     }
 
     /// Sets the border symbols.
-    pub fn border_set(self, set: border::Set<'a>) -> Block<'a>
+    pub fn border_set(mut self, set: border::Set<'a>) -> Block<'a>
         ensures { block_data result ≡ record (block_data self.entry) { symbols = border_data set.entry } }
     {
-        Block {
-            border_set: set,
-            ..self
-        }
+        self.border_set = set;
+        self
     }
 
     /// Sets the columns and rows that are left free inside.
-    pub fn padding(self, padding: Padding) -> Block<'a>
+    pub fn padding(mut self, padding: Padding) -> Block<'a>
         ensures { block_data result ≡ record (block_data self.entry) { padding = padding } }
     {
-        Block { padding, ..self }
+        self.padding = padding;
+        self
     }
 
     /// Sets how border symbols are joined with what stands there.
-    pub fn merge_borders(self, strategy: MergeStrategy) -> Block<'a>
+    pub fn merge_borders(mut self, strategy: MergeStrategy) -> Block<'a>
         ensures { block_data result ≡ record (block_data self.entry) { strategy = strategy } }
     {
-        Block {
-            merge_borders: strategy,
-            ..self
-        }
+        self.merge_borders = strategy;
+        self
     }
 
     /// Sets the shadow.
-    pub fn shadow(self, shadow: Shadow<'a>) -> Block<'a>
+    pub fn shadow(mut self, shadow: Shadow<'a>) -> Block<'a>
         ensures { block_data result ≡ record (block_data self.entry) { shadow = Some (shadow_data shadow.entry) } }
     {
-        Block {
-            shadow: Some(shadow),
-            ..self
-        }
+        self.shadow = Some(shadow);
+        self
     }
 }
 
@@ -246,7 +253,8 @@ impl<'a> Styled for Block<'a> {
         self.style
     }
 
-    fn set_style(self, style: Style) -> Block<'a> {
-        Block { style, ..self }
+    fn set_style(mut self, style: Style) -> Block<'a> {
+        self.style = style;
+        self
     }
 }

@@ -22,7 +22,7 @@ use tui_text::Line;
 
 /// Items one below the other, of which one may be selected. What a drawing begins with, and what it leaves for the next one, is
 /// kept in a `ListState`: the list scrolls as far as it has to for the selected item to be seen, and no further.
-#[derive(Debug, PartialEq, Eq, Hash, Drop)]
+#[derive(Debug, PartialEq, Eq, Hash)]
 pub struct List<'a> {
     block: Option<Block<'a>>,
     items: Items<'a>,
@@ -33,6 +33,23 @@ pub struct List<'a> {
     highlight_spacing: HighlightSpacing,
     direction: ListDirection,
     scroll_padding: usize,
+}
+
+// Written out, so that a crate above proves nothing of what it holds to let it go.
+impl<'a> Drop for List<'a> {
+    fn drop(self) {
+        let List {
+            block,
+            items,
+            highlight_symbol,
+            style,
+            highlight_style,
+            repeat_highlight_symbol,
+            highlight_spacing,
+            direction,
+            scroll_padding,
+        } = self;
+    }
 }
 
 impl<'a> List<'a> {
@@ -65,77 +82,67 @@ impl<'a> List<'a> {
     }
 
     /// Puts a block around the items, which then have the area inside.
-    pub fn block(self, block: Block<'a>) -> List<'a>
+    pub fn block(mut self, block: Block<'a>) -> List<'a>
         ensures { list_data result ≡ record (list_data self.entry) { block = Some (block_data block.entry) } }
     {
-        List {
-            block: Some(block),
-            ..self
-        }
+        self.block = Some(block);
+        self
     }
 
     /// Sets the style under all.
-    pub fn style(self, style: Style) -> List<'a>
+    pub fn style(mut self, style: Style) -> List<'a>
         ensures { list_data result ≡ record (list_data self.entry) { style = style } }
     {
-        List { style, ..self }
+        self.style = style;
+        self
     }
 
     /// Sets what stands at the left of the selected item, by the line's alignment, else at the left of its columns.
-    pub fn highlight_symbol(self, symbol: Line<'a>) -> List<'a>
+    pub fn highlight_symbol(mut self, symbol: Line<'a>) -> List<'a>
         ensures { list_data result ≡ record (list_data self.entry) { symbol = Some (line_data symbol.entry) } }
     {
-        List {
-            highlight_symbol: Some(symbol),
-            ..self
-        }
+        self.highlight_symbol = Some(symbol);
+        self
     }
 
     /// Sets the style over the rows of the selected item.
-    pub fn highlight_style(self, style: Style) -> List<'a>
+    pub fn highlight_style(mut self, style: Style) -> List<'a>
         ensures { list_data result ≡ record (list_data self.entry) { highlight_style = style } }
     {
-        List {
-            highlight_style: style,
-            ..self
-        }
+        self.highlight_style = style;
+        self
     }
 
     /// Sets whether the symbol stands in each row of the selected item, and not in its first row alone.
-    pub fn repeat_highlight_symbol(self, repeat: bool) -> List<'a>
+    pub fn repeat_highlight_symbol(mut self, repeat: bool) -> List<'a>
         ensures { list_data result ≡ record (list_data self.entry) { repeats = repeat } }
     {
-        List {
-            repeat_highlight_symbol: repeat,
-            ..self
-        }
+        self.repeat_highlight_symbol = repeat;
+        self
     }
 
     /// Sets when the columns of the symbol are kept free.
-    pub fn highlight_spacing(self, spacing: HighlightSpacing) -> List<'a>
+    pub fn highlight_spacing(mut self, spacing: HighlightSpacing) -> List<'a>
         ensures { list_data result ≡ record (list_data self.entry) { spacing = spacing } }
     {
-        List {
-            highlight_spacing: spacing,
-            ..self
-        }
+        self.highlight_spacing = spacing;
+        self
     }
 
     /// Sets the edge from which the items follow one another.
-    pub fn direction(self, direction: ListDirection) -> List<'a>
+    pub fn direction(mut self, direction: ListDirection) -> List<'a>
         ensures { list_data result ≡ record (list_data self.entry) { direction = direction } }
     {
-        List { direction, ..self }
+        self.direction = direction;
+        self
     }
 
     /// Sets how many items are to be seen on each side of the selected one, as far as there are so many and they fit.
-    pub fn scroll_padding(self, padding: usize) -> List<'a>
+    pub fn scroll_padding(mut self, padding: usize) -> List<'a>
         ensures { list_data result ≡ record (list_data self.entry) { padding = padding } }
     {
-        List {
-            scroll_padding: padding,
-            ..self
-        }
+        self.scroll_padding = padding;
+        self
     }
 
     /// The number of items.
@@ -190,7 +197,8 @@ impl<'a> Styled for List<'a> {
         self.style
     }
 
-    fn set_style(self, style: Style) -> List<'a> {
-        List { style, ..self }
+    fn set_style(mut self, style: Style) -> List<'a> {
+        self.style = style;
+        self
     }
 }

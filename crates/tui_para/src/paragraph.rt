@@ -24,7 +24,7 @@ use tui_text::{Alignment, Text};
 
 /// A text shown in rows. Without a wrap each line of the text has one row and is cut at its right
 /// end; with one it is broken into rows of the width that there is.
-#[derive(Debug, PartialEq, Eq, Hash, Drop)]
+#[derive(Debug, PartialEq, Eq, Hash)]
 pub struct Paragraph<'a> {
     block: Option<Block<'a>>,
     text: Text<'a>,
@@ -32,6 +32,20 @@ pub struct Paragraph<'a> {
     wrap: Option<Wrap>,
     scroll: Position,
     alignment: Alignment,
+}
+
+// Written out, so that a crate above proves nothing of what it holds to let it go.
+impl<'a> Drop for Paragraph<'a> {
+    fn drop(self) {
+        let Paragraph {
+            block,
+            text,
+            style,
+            wrap,
+            scroll,
+            alignment,
+        } = self;
+    }
 }
 
 impl<'a> Paragraph<'a> {
@@ -52,49 +66,45 @@ impl<'a> Paragraph<'a> {
     }
 
     /// Puts a block around the text, which then has the area inside.
-    pub fn block(self, block: Block<'a>) -> Paragraph<'a>
+    pub fn block(mut self, block: Block<'a>) -> Paragraph<'a>
         ensures { paragraph_data result ≡ record (paragraph_data self.entry) { block = Some (block_data block.entry) } }
     {
-        Paragraph {
-            block: Some(block),
-            ..self
-        }
+        self.block = Some(block);
+        self
     }
 
     /// Sets the style under the text's style.
-    pub fn style(self, style: Style) -> Paragraph<'a>
+    pub fn style(mut self, style: Style) -> Paragraph<'a>
         ensures { paragraph_data result ≡ record (paragraph_data self.entry) { style = style } }
     {
-        Paragraph { style, ..self }
+        self.style = style;
+        self
     }
 
     /// Has the lines wrapped; without it each text line has one row.
-    pub fn wrap(self, wrap: Wrap) -> Paragraph<'a>
+    pub fn wrap(mut self, wrap: Wrap) -> Paragraph<'a>
         ensures { paragraph_data result ≡ record (paragraph_data self.entry) { wrap = Some wrap } }
     {
-        Paragraph {
-            wrap: Some(wrap),
-            ..self
-        }
+        self.wrap = Some(wrap);
+        self
     }
 
     /// Sets (y, x): the line that the first row shows, and the columns that are left out at the left of each
     /// line that is not wrapped and is aligned to the left.
-    pub fn scroll(self, scroll: (u16, u16)) -> Paragraph<'a>
+    pub fn scroll(mut self, scroll: (u16, u16)) -> Paragraph<'a>
         ensures { paragraph_data result ≡ record (paragraph_data self.entry) { scroll_y = scroll.0; scroll_x = scroll.1 } }
     {
         let (y, x) = scroll;
-        Paragraph {
-            scroll: Position::new(x, y),
-            ..self
-        }
+        self.scroll = Position::new(x, y);
+        self
     }
 
     /// Sets the alignment of the lines that have none of their own.
-    pub fn alignment(self, alignment: Alignment) -> Paragraph<'a>
+    pub fn alignment(mut self, alignment: Alignment) -> Paragraph<'a>
         ensures { paragraph_data result ≡ record (paragraph_data self.entry) { alignment = alignment } }
     {
-        Paragraph { alignment, ..self }
+        self.alignment = alignment;
+        self
     }
 
     /// Aligns the lines without an alignment of their own to the left.
@@ -191,7 +201,8 @@ impl<'a> Styled for Paragraph<'a> {
         self.style
     }
 
-    fn set_style(self, style: Style) -> Paragraph<'a> {
-        Paragraph { style, ..self }
+    fn set_style(mut self, style: Style) -> Paragraph<'a> {
+        self.style = style;
+        self
     }
 }

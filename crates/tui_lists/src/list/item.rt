@@ -10,10 +10,17 @@ use tui_cells::{Mem, Style, Styled};
 use tui_text::Text;
 
 /// A text of a list, with a style under the text's. It has a row for each line of the text.
-#[derive(Debug, PartialEq, Eq, Hash, Drop)]
+#[derive(Debug, PartialEq, Eq, Hash)]
 pub struct ListItem<'a> {
     pub(crate) content: Text<'a>,
     pub(crate) style: Style,
+}
+
+// Written out, so that a crate above proves nothing of what it holds to let it go.
+impl<'a> Drop for ListItem<'a> {
+    fn drop(self) {
+        let ListItem { content, style } = self;
+    }
 }
 
 impl<'a> ListItem<'a> {
@@ -28,10 +35,11 @@ impl<'a> ListItem<'a> {
     }
 
     /// Sets the style under the text's style.
-    pub fn style(self, style: Style) -> ListItem<'a>
+    pub fn style(mut self, style: Style) -> ListItem<'a>
         ensures { list_item_data result ≡ record (list_item_data self.entry) { style = style } }
     {
-        ListItem { style, ..self }
+        self.style = style;
+        self
     }
 
     /// The number of its lines, and so of its rows.
@@ -69,7 +77,8 @@ impl<'a> Styled for ListItem<'a> {
         self.style
     }
 
-    fn set_style(self, style: Style) -> ListItem<'a> {
-        ListItem { style, ..self }
+    fn set_style(mut self, style: Style) -> ListItem<'a> {
+        self.style = style;
+        self
     }
 }

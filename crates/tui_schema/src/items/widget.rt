@@ -1,5 +1,9 @@
 //! The names of widgets.
 
+ghost use Rattle.std.specs.Prelude.{◌≡◌};
+ghost use Rattle.tui_schema.specs.Items.Names.{widget_names};
+ghost use Rattle.tui_schema.specs.Kinds.Members.{named};
+
 use crate::kinds::{Kind, KindError};
 use serde_json::Value;
 use std::alloc::Global;
@@ -23,6 +27,28 @@ pub(crate) enum Widget {
     Logo,
 }
 
+fn named_widget(text: &str) -> Option<Widget>
+    ensures { result ≡ named widget_names text.now }
+{
+    match text {
+        "clear" => Some(Widget::Clear),
+        "fill" => Some(Widget::Fill),
+        "block" => Some(Widget::Block),
+        "paragraph" => Some(Widget::Paragraph),
+        "list" => Some(Widget::List),
+        "table" => Some(Widget::Table),
+        "tabs" => Some(Widget::Tabs),
+        "scrollbar" => Some(Widget::Scrollbar),
+        "gauge" => Some(Widget::Gauge),
+        "line_gauge" => Some(Widget::LineGauge),
+        "bar_chart" => Some(Widget::BarChart),
+        "sparkline" => Some(Widget::Sparkline),
+        "monthly" => Some(Widget::Monthly),
+        "logo" => Some(Widget::Logo),
+        _ => None,
+    }
+}
+
 impl<'v> Kind<'v> for Widget {
     ghost use Rattle.tui_schema.specs.declared.items.widget.Widget.{Widget};
     ghost use Rattle.tui_schema.specs.Items.Names.{widget_of};
@@ -35,22 +61,7 @@ impl<'v> Kind<'v> for Widget {
 
     #[tactic(auto, unfolding(crate::specs::Items::Names::widget_of))]
     fn read(_alloc: Global, value: &'v Value) -> Result<Widget, KindError> {
-        match value.as_str() {
-            Some("clear") => Ok(Widget::Clear),
-            Some("fill") => Ok(Widget::Fill),
-            Some("block") => Ok(Widget::Block),
-            Some("paragraph") => Ok(Widget::Paragraph),
-            Some("list") => Ok(Widget::List),
-            Some("table") => Ok(Widget::Table),
-            Some("tabs") => Ok(Widget::Tabs),
-            Some("scrollbar") => Ok(Widget::Scrollbar),
-            Some("gauge") => Ok(Widget::Gauge),
-            Some("line_gauge") => Ok(Widget::LineGauge),
-            Some("bar_chart") => Ok(Widget::BarChart),
-            Some("sparkline") => Ok(Widget::Sparkline),
-            Some("monthly") => Ok(Widget::Monthly),
-            Some("logo") => Ok(Widget::Logo),
-            _ => Err(KindError::WrongKind),
-        }
+        let name = value.as_str().ok_or(KindError::WrongKind)?;
+        named_widget(name).ok_or(KindError::WrongKind)
     }
 }

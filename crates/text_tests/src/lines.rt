@@ -6,7 +6,7 @@ use tui_para::{
     LineComposer, LineTruncator, TextLines, WordWrapper, text_truncator_lends_one,
     text_wrapper_lends_one, truncator_lends_what_is_known, wrapper_lends_what_is_known,
 };
-use tui_text::{Alignment, Text};
+use tui_text::{Alignment, StyledGrapheme, Text};
 
 /// More lines than any text here has.
 const ENOUGH: usize = 100;
@@ -18,13 +18,17 @@ fn put_line<'a, C: LineComposer<'a>>(lines: &mut String, composer: &mut C) -> Me
     match composer.next_line()? {
         None => Ok(false),
         Some(line) => {
-            for grapheme in line.graphemes {
-                lines.push_str(grapheme.symbol)?;
-            }
-            lines.push('|')?;
+            put_graphemes(lines, line.graphemes)?;
             Ok(true)
         }
     }
+}
+
+fn put_graphemes(lines: &mut String, graphemes: &[StyledGrapheme]) -> Mem<()> {
+    for grapheme in graphemes {
+        lines.push_str(grapheme.symbol)?;
+    }
+    Ok(lines.push('|')?)
 }
 
 fn wrapped(alloc: Global, text: &Text<'_>, width: u16, trim: bool) -> Mem<String> {
@@ -50,10 +54,9 @@ const WRAPPED: [(&str, u16, bool, &str); 5] = [
 
 #[test]
 fn text_is_wrapped_at_blanks(rt: HostRuntime) -> Mem<()> {
-    for (content, width, trim, lines) in WRAPPED {
+    for &(content, width, trim, lines) in &WRAPPED {
         let text = Text::raw(rt.alloc(), content)?;
-        let shown = wrapped(rt.alloc(), &text, width, trim)?;
-        assert!(&rt; shown.as_str() == lines, "of {content:?}: {shown}");
+        assert!(&rt; wrapped(rt.alloc(), &text, width, trim)?.as_str() == lines);
     }
     Ok(())
 }
@@ -87,10 +90,9 @@ const TRUNCATED: [(&str, Alignment, u16, u16, &str); 4] = [
 
 #[test]
 fn text_is_cut_at_the_width(rt: HostRuntime) -> Mem<()> {
-    for (content, alignment, offset, width, lines) in TRUNCATED {
+    for &(content, alignment, offset, width, lines) in &TRUNCATED {
         let text = Text::raw(rt.alloc(), content)?;
-        let shown = truncated(rt.alloc(), &text, alignment, offset, width)?;
-        assert!(&rt; shown.as_str() == lines, "of {content:?}: {shown}");
+        assert!(&rt; truncated(rt.alloc(), &text, alignment, offset, width)?.as_str() == lines);
     }
     Ok(())
 }

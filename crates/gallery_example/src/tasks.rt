@@ -13,7 +13,7 @@ use tui::widgets::{
     Wrap,
 };
 
-fn main(rt: HostRuntime) -> anyhow::Result<()> {
+pub fn main(rt: HostRuntime) -> anyhow::Result<()> {
     let alloc = rt.alloc();
     let area = Rect::new(0, 0, 30, 7);
     let mut buffer = Buffer::empty(alloc, area)?;

@@ -4,9 +4,10 @@ ghost use Rattle.std.specs.Prelude.{⊤};
 ghost use Rattle.tui_cells.specs.Layers.{KeptOutside};
 ghost use Rattle.tui_frames.specs.Shadow.{in_shadow};
 
+use crate::names::{are_named, is_no_name};
+use crate::symbols::{attributes_at, shows};
 use std::alloc::Global;
 use std::test::Fail;
-use text_tests::{are_named, attributes_at, is_no_name, shows};
 use tui_cells::{
     Attributes, Buffer, Color, Mem, MergeStrategy, Modifier, Offset, Position, Rect, Style, Styled,
     Widget, border as symbols,
@@ -72,29 +73,33 @@ fn a_shadow_is_dimmed(rt: HostRuntime) -> Result<(), Fail> {
     Ok(())
 }
 
+// The other shadows stand in scene_rows.
 #[test]
 fn shadows_lie_outside_their_base(rt: HostRuntime) -> Result<(), Fail> {
-    let alloc = rt.alloc();
     let cases = [
         (Shadow::default(), "   \n   \n"),
-        (Shadow::overlay(), "   \n   \n"),
-        (Shadow::dimmed(), "   \n   \n"),
-        (Shadow::symbol("x"), "   \n xx\n"),
         (Shadow::block(), "   \n ██\n"),
-        (Shadow::light_shade(), "   \n ░░\n"),
         (Shadow::medium_shade(), "   \n ▒▒\n"),
-        (Shadow::dark_shade(), "   \n ▓▓\n"),
     ];
-    for (shadow, rows) in cases {
-        let mut buffer = blank(alloc, 3, 2)?;
-        shadow.render(alloc, Rect::new(0, 0, 2, 1), &mut buffer)?;
-        assert!(rt; shows(alloc, &buffer, rows)?);
+    for (shadow, rows) in &cases {
+        assert!(rt; casts(rt.alloc(), shadow, rows)?);
     }
+    Ok(())
+}
+
+/// Whether the shadow of two columns and one row shows these rows.
+fn casts(alloc: Global, shadow: &Shadow, rows: &str) -> Mem<bool> {
+    let mut buffer = blank(alloc, 3, 2)?;
+    shadow.render(alloc, Rect::new(0, 0, 2, 1), &mut buffer)?;
+    shows(alloc, &buffer, rows)
+}
+
+#[test]
+fn shadows_have_a_style(rt: HostRuntime) {
     let bold = Style::new().add_modifier(Modifier::BOLD);
     let shadow = Shadow::default().set_style(bold);
     assert!(rt; Styled::style(&shadow) == bold);
     assert!(rt; shadow == Shadow::overlay().style(bold));
-    Ok(())
 }
 
 #[test]
