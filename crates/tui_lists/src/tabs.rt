@@ -10,12 +10,13 @@ ghost use Rattle.tui_text.specs.Width.{line_width, saturated, span_width};
 mod rendering;
 
 use std::alloc::Global;
+use std::mem;
 use tui_cells::{Mem, Modifier, Style, Styled, line};
 use tui_frames::{Block, clone_if_some};
 use tui_text::{Line, Span};
 
 /// Titles side by side in one row, of which one may be selected, with a divider between two.
-#[derive(Debug, PartialEq, Eq, Hash, Drop)]
+#[derive(Debug, PartialEq, Eq, Hash)]
 pub struct Tabs<'a> {
     block: Option<Block<'a>>,
     titles: Vec<Line<'a>>,
@@ -25,6 +26,22 @@ pub struct Tabs<'a> {
     style: Style,
     highlight_style: Style,
     divider: Span<'a>,
+}
+
+// Written out, so that a crate above proves nothing of what they hold to let them go.
+impl<'a> Drop for Tabs<'a> {
+    fn drop(self) {
+        let Tabs {
+            block,
+            titles,
+            padding_left,
+            padding_right,
+            selected,
+            style,
+            highlight_style,
+            divider,
+        } = self;
+    }
 }
 
 impl<'a> Tabs<'a> {
@@ -60,93 +77,83 @@ impl<'a> Tabs<'a> {
 
     /// Puts these titles in place of the old ones. Without titles none is selected; else the selected one stays or becomes the last
     /// one, and the first is selected where none was.
-    pub fn titles(self, titles: Vec<Line<'a>>) -> Tabs<'a>
+    pub fn titles(mut self, titles: Vec<Line<'a>>) -> Tabs<'a>
         ensures { tabs_data result ≡ record (tabs_data self.entry) {
           titles = map line_data titles.entry.items;
           selected = selected_in (length titles.entry.items) (tabs_data self.entry).selected;
         } }
     {
-        let selected = selected_in(titles.len(), self.selected);
-        Tabs {
-            titles,
-            selected,
-            ..self
-        }
+        self.selected = selected_in(titles.len(), self.selected);
+        self.titles = titles;
+        self
     }
 
     /// Puts a block around the titles, which then stand in the first row inside.
-    pub fn block(self, block: Block<'a>) -> Tabs<'a>
+    pub fn block(mut self, block: Block<'a>) -> Tabs<'a>
         ensures { tabs_data result ≡ record (tabs_data self.entry) { block = Some (block_data block.entry) } }
     {
-        Tabs {
-            block: Some(block),
-            ..self
-        }
+        self.block = Some(block);
+        self
     }
 
     /// Selects a title by its place, or none. A place past the last title selects none.
-    pub fn select(self, selected: Option<usize>) -> Tabs<'a>
+    pub fn select(mut self, selected: Option<usize>) -> Tabs<'a>
         ensures { tabs_data result ≡ record (tabs_data self.entry) { selected = selected } }
     {
-        Tabs { selected, ..self }
+        self.selected = selected;
+        self
     }
 
     /// Sets the style under all.
-    pub fn style(self, style: Style) -> Tabs<'a>
+    pub fn style(mut self, style: Style) -> Tabs<'a>
         ensures { tabs_data result ≡ record (tabs_data self.entry) { style = style } }
     {
-        Tabs { style, ..self }
+        self.style = style;
+        self
     }
 
     /// Sets the style over the selected title, without its paddings.
-    pub fn highlight_style(self, style: Style) -> Tabs<'a>
+    pub fn highlight_style(mut self, style: Style) -> Tabs<'a>
         ensures { tabs_data result ≡ record (tabs_data self.entry) { highlight_style = style } }
     {
-        Tabs {
-            highlight_style: style,
-            ..self
-        }
+        self.highlight_style = style;
+        self
     }
 
     /// Sets what stands between two titles.
-    pub fn divider(self, divider: Span<'a>) -> Tabs<'a>
+    pub fn divider(mut self, divider: Span<'a>) -> Tabs<'a>
         ensures { tabs_data result ≡ record (tabs_data self.entry) { divider = span_data divider.entry } }
     {
-        Tabs { divider, ..self }
+        self.divider = divider;
+        self
     }
 
     /// Sets what stands at the left of each title.
-    pub fn padding_left(self, padding: Line<'a>) -> Tabs<'a>
+    pub fn padding_left(mut self, padding: Line<'a>) -> Tabs<'a>
         ensures { tabs_data result ≡ record (tabs_data self.entry) { padding_left = line_data padding.entry } }
     {
-        Tabs {
-            padding_left: padding,
-            ..self
-        }
+        drop(mem::replace(&mut self.padding_left, padding));
+        self
     }
 
     /// Sets what stands at the right of each title.
-    pub fn padding_right(self, padding: Line<'a>) -> Tabs<'a>
+    pub fn padding_right(mut self, padding: Line<'a>) -> Tabs<'a>
         ensures { tabs_data result ≡ record (tabs_data self.entry) { padding_right = line_data padding.entry } }
     {
-        Tabs {
-            padding_right: padding,
-            ..self
-        }
+        drop(mem::replace(&mut self.padding_right, padding));
+        self
     }
 
     /// Sets what stands on each side of each title.
-    pub fn padding(self, left: Line<'a>, right: Line<'a>) -> Tabs<'a>
+    pub fn padding(mut self, left: Line<'a>, right: Line<'a>) -> Tabs<'a>
         ensures { tabs_data result ≡ record (tabs_data self.entry) {
           padding_left = line_data left.entry;
           padding_right = line_data right.entry;
         } }
     {
-        Tabs {
-            padding_left: left,
-            padding_right: right,
-            ..self
-        }
+        drop(mem::replace(&mut self.padding_left, left));
+        drop(mem::replace(&mut self.padding_right, right));
+        self
     }
 
     /// The columns of all titles with their paddings and of a divider between two, cut at the greatest number of 64 bits.
@@ -255,7 +262,8 @@ impl<'a> Styled for Tabs<'a> {
         self.style
     }
 
-    fn set_style(self, style: Style) -> Tabs<'a> {
-        Tabs { style, ..self }
+    fn set_style(mut self, style: Style) -> Tabs<'a> {
+        self.style = style;
+        self
     }
 }

@@ -4,15 +4,27 @@ ghost use Rattle.std.specs.Prelude.{◌≡◌, IfOk, true};
 ghost use Rattle.tui_table.specs.Cell.{cell_data, cell_of};
 ghost use Rattle.tui_text.specs.Text.{text_data};
 
+use std::mem;
 use tui_cells::{Mem, Style, Styled};
 use tui_text::Text;
 
 /// A text in one column of a table, or across several.
-#[derive(Debug, PartialEq, Eq, Hash, Drop)]
+#[derive(Debug, PartialEq, Eq, Hash)]
 pub struct Cell<'a> {
     pub(crate) content: Text<'a>,
     pub(crate) style: Style,
     pub(crate) column_span: u16,
+}
+
+// Written out, so that a crate above proves nothing of what it holds to let it go.
+impl<'a> Drop for Cell<'a> {
+    fn drop(self) {
+        let Cell {
+            content,
+            style,
+            column_span,
+        } = self;
+    }
 }
 
 impl<'a> Cell<'a> {
@@ -28,28 +40,28 @@ impl<'a> Cell<'a> {
     }
 
     /// Puts this text in place of the old one.
-    pub fn content(self, content: Text<'a>) -> Cell<'a>
+    pub fn content(mut self, content: Text<'a>) -> Cell<'a>
         ensures { cell_data result ≡ record (cell_data self.entry) { content = text_data content.entry } }
     {
-        Cell { content, ..self }
+        drop(mem::replace(&mut self.content, content));
+        self
     }
 
     /// Sets how many columns the cell takes. With 0 it takes none and is not drawn. In a header or a footer each cell takes
     /// one, whatever its span.
-    pub fn column_span(self, columns: u16) -> Cell<'a>
+    pub fn column_span(mut self, columns: u16) -> Cell<'a>
         ensures { cell_data result ≡ record (cell_data self.entry) { span = columns } }
     {
-        Cell {
-            column_span: columns,
-            ..self
-        }
+        self.column_span = columns;
+        self
     }
 
     /// Sets the style under the text.
-    pub fn style(self, style: Style) -> Cell<'a>
+    pub fn style(mut self, style: Style) -> Cell<'a>
         ensures { cell_data result ≡ record (cell_data self.entry) { style = style } }
     {
-        Cell { style, ..self }
+        self.style = style;
+        self
     }
 
     /// An equal cell of its own. `NoMemory` where there is none for the text.
@@ -74,7 +86,8 @@ impl<'a> Styled for Cell<'a> {
         self.style
     }
 
-    fn set_style(self, style: Style) -> Cell<'a> {
-        Cell { style, ..self }
+    fn set_style(mut self, style: Style) -> Cell<'a> {
+        self.style = style;
+        self
     }
 }

@@ -8,13 +8,26 @@ use crate::cell::Cell;
 use tui_cells::{Mem, Style, Styled};
 
 /// Cells side by side, with free rows above and below.
-#[derive(Debug, PartialEq, Eq, Hash, Drop)]
+#[derive(Debug, PartialEq, Eq, Hash)]
 pub struct Row<'a> {
     pub(crate) cells: Vec<Cell<'a>>,
     pub(crate) height: u16,
     pub(crate) top_margin: u16,
     pub(crate) bottom_margin: u16,
     pub(crate) style: Style,
+}
+
+// Written out, so that a crate above proves nothing of what it holds to let it go.
+impl<'a> Drop for Row<'a> {
+    fn drop(self) {
+        let Row {
+            cells,
+            height,
+            top_margin,
+            bottom_margin,
+            style,
+        } = self;
+    }
 }
 
 impl<'a> Row<'a> {
@@ -35,41 +48,45 @@ impl<'a> Row<'a> {
     pub fn cells(self, cells: Vec<Cell<'a>>) -> Row<'a>
         ensures { row_data result ≡ record (row_data self.entry) { cells = map cell_data cells.entry.items } }
     {
-        Row { cells, ..self }
+        let mut row = self;
+        row.cells = cells;
+        row
     }
 
     /// Sets the height in rows of the screen, without the margins.
     pub fn height(self, height: u16) -> Row<'a>
         ensures { row_data result ≡ record (row_data self.entry) { height = height } }
     {
-        Row { height, ..self }
+        let mut row = self;
+        row.height = height;
+        row
     }
 
     /// Sets how many rows of the screen are left free above.
     pub fn top_margin(self, margin: u16) -> Row<'a>
         ensures { row_data result ≡ record (row_data self.entry) { top_margin = margin } }
     {
-        Row {
-            top_margin: margin,
-            ..self
-        }
+        let mut row = self;
+        row.top_margin = margin;
+        row
     }
 
     /// Sets how many rows of the screen are left free below.
     pub fn bottom_margin(self, margin: u16) -> Row<'a>
         ensures { row_data result ≡ record (row_data self.entry) { bottom_margin = margin } }
     {
-        Row {
-            bottom_margin: margin,
-            ..self
-        }
+        let mut row = self;
+        row.bottom_margin = margin;
+        row
     }
 
     /// Sets the style under the cells.
     pub fn style(self, style: Style) -> Row<'a>
         ensures { row_data result ≡ record (row_data self.entry) { style = style } }
     {
-        Row { style, ..self }
+        let mut row = self;
+        row.style = style;
+        row
     }
 
     /// An equal row of its own. `NoMemory` where there is none for the cells.
@@ -107,6 +124,8 @@ impl<'a> Styled for Row<'a> {
     }
 
     fn set_style(self, style: Style) -> Row<'a> {
-        Row { style, ..self }
+        let mut row = self;
+        row.style = style;
+        row
     }
 }

@@ -15,13 +15,14 @@ use crate::rows::Rows;
 use crate::widths::{checked, clone_widths};
 use crate::widths_error::WidthsError;
 use std::alloc::Global;
+use std::mem;
 use tui_cells::{Mem, Style, Styled};
 use tui_frames::{Block, clone_if_some};
 use tui_layout::{Constraint, Flex, HighlightSpacing};
 use tui_text::Text;
 
 /// Rows of cells in columns, with a header above and a footer below. A row and a column may be selected.
-#[derive(Debug, PartialEq, Eq, Hash, Drop)]
+#[derive(Debug, PartialEq, Eq, Hash)]
 pub struct Table<'a> {
     rows: Rows<'a>,
     header: Option<Row<'a>>,
@@ -36,6 +37,27 @@ pub struct Table<'a> {
     cell_highlight_style: Style,
     highlight_spacing: HighlightSpacing,
     flex: Flex,
+}
+
+// Written out, so that a crate above proves nothing of what it holds to let it go.
+impl<'a> Drop for Table<'a> {
+    fn drop(self) {
+        let Table {
+            rows,
+            header,
+            footer,
+            block,
+            highlight_symbol,
+            widths,
+            column_spacing,
+            style,
+            row_highlight_style,
+            column_highlight_style,
+            cell_highlight_style,
+            highlight_spacing,
+            flex,
+        } = self;
+    }
 }
 
 impl<'a> Table<'a> {
@@ -93,50 +115,43 @@ impl<'a> Table<'a> {
     }
 
     /// Sets the row above the rows, whose cells have a column each.
-    pub fn header(self, header: Row<'a>) -> Table<'a>
+    pub fn header(mut self, header: Row<'a>) -> Table<'a>
         ensures { table_data result ≡ record (table_data self.entry) { header = Some (row_data header.entry) } }
     {
-        Table {
-            header: Some(header),
-            ..self
-        }
+        self.header = Some(header);
+        self
     }
 
     /// Sets the row below the rows, whose cells have a column each.
-    pub fn footer(self, footer: Row<'a>) -> Table<'a>
+    pub fn footer(mut self, footer: Row<'a>) -> Table<'a>
         ensures { table_data result ≡ record (table_data self.entry) { footer = Some (row_data footer.entry) } }
     {
-        Table {
-            footer: Some(footer),
-            ..self
-        }
+        self.footer = Some(footer);
+        self
     }
 
     /// Sets how many columns of the screen are left free between two columns.
-    pub fn column_spacing(self, spacing: u16) -> Table<'a>
+    pub fn column_spacing(mut self, spacing: u16) -> Table<'a>
         ensures { table_data result ≡ record (table_data self.entry) { spacing = spacing } }
     {
-        Table {
-            column_spacing: spacing,
-            ..self
-        }
+        self.column_spacing = spacing;
+        self
     }
 
     /// Puts a block around the table, which then has the area inside.
-    pub fn block(self, block: Block<'a>) -> Table<'a>
+    pub fn block(mut self, block: Block<'a>) -> Table<'a>
         ensures { table_data result ≡ record (table_data self.entry) { block = Some (block_data block.entry) } }
     {
-        Table {
-            block: Some(block),
-            ..self
-        }
+        self.block = Some(block);
+        self
     }
 
     /// Sets the style under all.
-    pub fn style(self, style: Style) -> Table<'a>
+    pub fn style(mut self, style: Style) -> Table<'a>
         ensures { table_data result ≡ record (table_data self.entry) { style = style } }
     {
-        Table { style, ..self }
+        self.style = style;
+        self
     }
 
     /// Sets the style over the selected row, as `row_highlight_style` does.
@@ -147,60 +162,51 @@ impl<'a> Table<'a> {
     }
 
     /// Sets the style over the selected row.
-    pub fn row_highlight_style(self, style: Style) -> Table<'a>
+    pub fn row_highlight_style(mut self, style: Style) -> Table<'a>
         ensures { table_data result ≡ record (table_data self.entry) { row_style = style } }
     {
-        Table {
-            row_highlight_style: style,
-            ..self
-        }
+        self.row_highlight_style = style;
+        self
     }
 
     /// Sets the style over the selected column.
-    pub fn column_highlight_style(self, style: Style) -> Table<'a>
+    pub fn column_highlight_style(mut self, style: Style) -> Table<'a>
         ensures { table_data result ≡ record (table_data self.entry) { column_style = style } }
     {
-        Table {
-            column_highlight_style: style,
-            ..self
-        }
+        self.column_highlight_style = style;
+        self
     }
 
     /// Sets the style over the cell where the selected row and the selected column meet.
-    pub fn cell_highlight_style(self, style: Style) -> Table<'a>
+    pub fn cell_highlight_style(mut self, style: Style) -> Table<'a>
         ensures { table_data result ≡ record (table_data self.entry) { cell_style = style } }
     {
-        Table {
-            cell_highlight_style: style,
-            ..self
-        }
+        self.cell_highlight_style = style;
+        self
     }
 
     /// Sets the text at the left of the selected row.
-    pub fn highlight_symbol(self, symbol: Text<'a>) -> Table<'a>
+    pub fn highlight_symbol(mut self, symbol: Text<'a>) -> Table<'a>
         ensures { table_data result ≡ record (table_data self.entry) { symbol = text_data symbol.entry } }
     {
-        Table {
-            highlight_symbol: symbol,
-            ..self
-        }
+        drop(mem::replace(&mut self.highlight_symbol, symbol));
+        self
     }
 
     /// Sets when columns of the screen are kept for the highlight symbol.
-    pub fn highlight_spacing(self, spacing: HighlightSpacing) -> Table<'a>
+    pub fn highlight_spacing(mut self, spacing: HighlightSpacing) -> Table<'a>
         ensures { table_data result ≡ record (table_data self.entry) { symbol_spacing = spacing } }
     {
-        Table {
-            highlight_spacing: spacing,
-            ..self
-        }
+        self.highlight_spacing = spacing;
+        self
     }
 
     /// Sets where columns stand that leave a rest of the width.
-    pub fn flex(self, flex: Flex) -> Table<'a>
+    pub fn flex(mut self, flex: Flex) -> Table<'a>
         ensures { table_data result ≡ record (table_data self.entry) { flex = flex } }
     {
-        Table { flex, ..self }
+        self.flex = flex;
+        self
     }
 
     /// An equal table of its own. `NoMemory` where there is none for what it holds.
@@ -240,7 +246,8 @@ impl<'a> Styled for Table<'a> {
         self.style
     }
 
-    fn set_style(self, style: Style) -> Table<'a> {
-        Table { style, ..self }
+    fn set_style(mut self, style: Style) -> Table<'a> {
+        self.style = style;
+        self
     }
 }
