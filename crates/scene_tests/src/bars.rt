@@ -8,7 +8,6 @@ use tui_bars::{Bar, BarChart, BarGroup, RenderDirection, Sparkline, SparklineBar
 use tui_cells::{Color, Mem, Style};
 use tui_frames::Block;
 use tui_layout::Direction;
-use tui_text::Line;
 
 fn values<'a>(alloc: Global, values: &[u64]) -> Mem<Vec<Bar<'a>>> {
     let mut bars = Vec::new(alloc);
@@ -16,14 +15,6 @@ fn values<'a>(alloc: Global, values: &[u64]) -> Mem<Vec<Bar<'a>>> {
         bars.push(Bar::new(*value))?;
     }
     Ok(bars)
-}
-
-fn pairs<'a>(alloc: Global, label: &'a str, pairs: &[(&'a str, u64)]) -> Mem<BarGroup<'a>> {
-    let mut group = BarGroup::new(Vec::new(alloc)).label(Line::raw(alloc, label)?);
-    for (label, value) in pairs {
-        group.push_pair(label, *value)?;
-    }
-    Ok(group)
 }
 
 #[test]
@@ -37,16 +28,11 @@ fn bars_are_copied(rt: HostRuntime) -> Result<(), Fail> {
 #[test]
 fn charts_are_built_and_copied(rt: HostRuntime) -> Result<(), Fail> {
     let alloc = rt.alloc();
-    let group = pairs(alloc, "g", &[("a", 2), ("b", 1)])?;
-    let mut chart = BarChart::grouped(Vec::new(alloc)).block(Block::bordered(alloc));
-    chart.data(copy_of(&group)?)?;
+    let mut chart = BarChart::new(alloc, Vec::new(alloc))?.block(Block::bordered(alloc));
+    chart.data(BarGroup::new(values(alloc, &[2, 1])?))?;
     assert!(rt; is_chart_copied(&chart)?);
     assert!(rt; draws(alloc, &chart, (5, 3), "┌───┐\n│2 ▄│\n└───┘\n")?);
     Ok(())
-}
-
-fn copy_of<'a>(group: &BarGroup<'a>) -> Mem<BarGroup<'a>> {
-    group.clone()
 }
 
 fn is_chart_copied(chart: &BarChart) -> Mem<bool> {
@@ -70,14 +56,6 @@ fn a_chart_of_bars_may_lie(rt: HostRuntime) -> Result<(), Fail> {
     let alloc = rt.alloc();
     let lying = BarChart::horizontal(alloc, values(alloc, &[1, 2])?)?;
     assert!(rt; is_chart_of(alloc, &lying.direction(Direction::Vertical))?);
-    Ok(())
-}
-
-#[test]
-fn a_chart_may_have_no_bars(rt: HostRuntime) -> Result<(), Fail> {
-    let alloc = rt.alloc();
-    let none = BarChart::new(alloc, Vec::new(alloc))?;
-    assert!(rt; none == BarChart::grouped(Vec::new(alloc)));
     Ok(())
 }
 

@@ -1,13 +1,11 @@
 //! Gauges and line gauges by their calls.
 
-use crate::drawing::draws;
 use std::test::Fail;
 use text_tests::{attributes_at, shows};
 use tui_bars::{Gauge, GaugeError, LineGauge};
 use tui_cells::{Attributes, Buffer, Color, Rect, Style, Styled, Widget, line};
-use tui_frames::Block;
 use tui_layout::Fraction;
-use tui_text::{Line, Span};
+use tui_text::Line;
 
 #[test]
 fn shares_out_of_range_are_refused(rt: HostRuntime) -> Result<(), Fail> {
@@ -15,7 +13,6 @@ fn shares_out_of_range_are_refused(rt: HostRuntime) -> Result<(), Fail> {
     let outside = Some(GaugeError::RatioOutOfRange);
     assert!(rt; Gauge::default().percent(101).err() == above);
     assert!(rt; Gauge::default().percent(65535).err() == above);
-    assert!(rt; Gauge::default().percent(100).is_ok());
     for ratio in [
         Fraction::new(2, 1),
         Fraction::new(1, 0),
@@ -25,7 +22,6 @@ fn shares_out_of_range_are_refused(rt: HostRuntime) -> Result<(), Fail> {
         assert!(rt; Gauge::default().ratio(ratio).err() == outside);
         assert!(rt; LineGauge::default().ratio(ratio).err() == outside);
     }
-    assert!(rt; LineGauge::default().ratio(Fraction::new(1, 1)).is_ok());
     Ok(())
 }
 
@@ -35,14 +31,6 @@ fn gauges_are_copied(rt: HostRuntime) -> Result<(), Fail> {
     let gauge = Gauge::default().style(red).percent(50)?;
     assert!(rt; gauge.clone()? == gauge);
     assert!(rt; Styled::style(&gauge) == red);
-    Ok(())
-}
-
-#[test]
-fn a_gauge_stands_in_its_block(rt: HostRuntime) -> Result<(), Fail> {
-    let alloc = rt.alloc();
-    let gauge = Gauge::default().block(Block::bordered(alloc)).percent(50)?;
-    assert!(rt; draws(alloc, &gauge, (5, 3), "┌───┐\n│50%│\n└───┘\n")?);
     Ok(())
 }
 
@@ -61,20 +49,19 @@ fn the_background_of_a_gauge_style_is_the_filled_part(rt: HostRuntime) -> Result
     let alloc = rt.alloc();
     let label = Line::raw(alloc, "a")?;
     let gauge = LineGauge::default()
-        .block(Block::bordered(alloc))
         .label(label)
         .line_set(line::THICK)
         .gauge_style(Style::new().bg(Color::Blue))
         .ratio(Fraction::new(1, 2))?;
-    let area = Rect::new(0, 0, 6, 3);
+    let area = Rect::new(0, 0, 4, 1);
     let mut buffer = Buffer::empty(alloc, area)?;
     gauge.render(alloc, area, &mut buffer)?;
-    assert!(rt; shows(alloc, &buffer, "┌────┐\n│a ━━│\n└────┘\n")?);
+    assert!(rt; shows(alloc, &buffer, "a ━━\n")?);
     let blue = Attributes {
         fg: Color::Blue,
         ..Attributes::at_rest()
     };
-    assert!(rt; attributes_at(&buffer, 3, 1) == Some(Attributes::at_rest()));
-    assert!(rt; attributes_at(&buffer, 4, 1) == Some(blue));
+    assert!(rt; attributes_at(&buffer, 2, 0) == Some(Attributes::at_rest()));
+    assert!(rt; attributes_at(&buffer, 3, 0) == Some(blue));
     Ok(())
 }

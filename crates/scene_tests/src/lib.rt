@@ -1,19 +1,27 @@
-//! The tests of the crates from tui_lists to tui_port that need calls, apart from the crates, so that each is proved but once. Whole runs stand in
+//! The tests of the crates from tui_frames to tui_port that need calls, apart from the crates, so that each is proved but once. Whole runs stand in
 //! scene_rows.
 #![tactic(auto)]
 
 #[cfg(test)]
 mod bars;
 #[cfg(test)]
+mod blocks;
+#[cfg(test)]
 mod calendar;
 #[cfg(test)]
 mod drawing;
 #[cfg(test)]
+mod frames;
+#[cfg(test)]
 mod gauges;
+#[cfg(test)]
+mod lines;
 #[cfg(test)]
 mod lists;
 #[cfg(test)]
 mod outside;
+#[cfg(test)]
+mod paragraph;
 #[cfg(test)]
 mod scene;
 #[cfg(test)]

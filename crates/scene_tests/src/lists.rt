@@ -53,13 +53,6 @@ fn with_items<'a>(mut list: List<'a>, items: Vec<ListItem<'a>>) -> Mem<List<'a>>
 }
 
 #[test]
-fn a_list_may_be_empty(rt: HostRuntime) -> Result<(), Fail> {
-    let list = list(rt.alloc(), &[])?;
-    assert!(rt; (list.len(), list.is_empty()) == (0, true));
-    Ok(())
-}
-
-#[test]
 fn lists_are_compared(rt: HostRuntime) -> Result<(), Fail> {
     let red = Style::new().fg(Color::Red);
     let list = list(rt.alloc(), &["a"])?.style(red);

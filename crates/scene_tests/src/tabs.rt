@@ -42,17 +42,6 @@ fn tabs_are_compared(rt: HostRuntime) -> Result<(), Fail> {
 }
 
 #[test]
-fn paddings_are_set_together(rt: HostRuntime) -> Result<(), Fail> {
-    let alloc = rt.alloc();
-    let plain = tabs(alloc, &["A"])?;
-    let left = plain.clone()?.padding_left(Line::raw(alloc, "(")?);
-    let same = left.padding_right(Line::raw(alloc, ")")?);
-    let both = plain.padding(Line::raw(alloc, "(")?, Line::raw(alloc, ")")?);
-    assert!(rt; both == same);
-    Ok(())
-}
-
-#[test]
 fn selections_stay_among_the_titles(rt: HostRuntime) -> Result<(), Fail> {
     let alloc = rt.alloc();
     let two = ["A", "B"];

@@ -1,6 +1,6 @@
 use Rattle.tui_cells.specs.Layers.{KeptOutside}
 use Rattle.tui_frames.specs.Shadow.{in_shadow}
-use Rattle.text_tests.proofs.blocks.PlusCellEffect.apply.Given as goal
+use Rattle.scene_tests.proofs.blocks.PlusCellEffect.apply.Given as goal
 
 abbrev pub invariant-rows : goal.invariant-rows
 invariant-rows l = KeptOutside (in_shadow l.shadow_area l.base_area) l.fn.buf l.buf

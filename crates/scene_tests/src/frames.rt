@@ -1,8 +1,8 @@
 //! Fill and Clear by their calls; what they draw in a scene stands in scene_rows.
 
-use crate::symbols::shows;
 use std::alloc::Global;
 use std::test::Fail;
+use text_tests::shows;
 use tui_cells::{Buffer, Color, Mem, Modifier, Rect, Style, Styled, Widget};
 use tui_frames::{Clear, Fill};
 

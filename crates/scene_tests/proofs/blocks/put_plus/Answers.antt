@@ -6,7 +6,7 @@ use Rattle.tui_cells.specs.Rect.{covers}
 use Rattle.tui_cells.specs.Stays.{StayIn-stroke}
 use Rattle.tui_cells.proofs.Painting.{Painted-kept}
 use Rattle.tui_frames.specs.Shadow.{in_shadow}
-use Rattle.text_tests.proofs.blocks.put_plus.Goals as goal
+use Rattle.scene_tests.proofs.blocks.put_plus.Goals as goal
 
 place_out : (area base : Rect) (x y a b : ℕ) → covers area x y ≡ true → covers base x y ≡ false → in_shadow area base a b ≡ false → at_place x y a b ≡ false
 place_out area base x y a b inside outside out = grind (arith, nat_tests)

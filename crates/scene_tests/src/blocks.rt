@@ -4,10 +4,9 @@ ghost use Rattle.std.specs.Prelude.{⊤};
 ghost use Rattle.tui_cells.specs.Layers.{KeptOutside};
 ghost use Rattle.tui_frames.specs.Shadow.{in_shadow};
 
-use crate::names::{are_named, is_no_name};
-use crate::symbols::{attributes_at, shows};
 use std::alloc::Global;
 use std::test::Fail;
+use text_tests::{are_named, attributes_at, is_no_name, shows};
 use tui_cells::{
     Attributes, Buffer, Color, Mem, MergeStrategy, Modifier, Offset, Position, Rect, Style, Styled,
     Widget, border as symbols,
