@@ -8,13 +8,27 @@ use Rattle.tui_cells.specs.Cell.{dress, put, wipe}
 use Rattle.tui_cells.specs.declared.style.Style.{Style}
 use Rattle.tui_cells.specs.Buffer.{Screen}
 use Rattle.tui_cells.specs.Layers.{KeptOutside, Painted, StayIn, at_place, stroke}
-use Rattle.tui_cells.proofs.Painting.{Painted-kept}
+use Rattle.tui_cells.proofs.Painting.{KeptOutside-weaker, Painted-kept}
 use Rattle.tui_cells.proofs.Regions.{StayIn-wider}
 use Rattle.tui_cells.specs.Rect.{covers, is_empty}
 use Rattle.tui_cells.specs.Stays.{StayIn-append, StayIn-none, StayIn-stroke}
 use Rattle.tui_text.specs.Grapheme.{Glyph, glyph_width}
 use Rattle.tui_text.specs.Line.{LineData}
-use Rattle.tui_text.specs.Painting.{alignment_in, before_it, below, cells_at, first_row, glyph_at, line_glyphs, lines_layers, row_layers, shown_glyphs, text_layers}
+use Rattle.tui_text.specs.Painting.{
+  alignment_in,
+  before_it,
+  below,
+  cells_at,
+  column_at,
+  first_row,
+  glyph_at,
+  line_glyphs,
+  line_part,
+  lines_layers,
+  row_layers,
+  shown_glyphs,
+  text_layers,
+}
 use Rattle.tui_text.specs.Text.{TextData}
 use Rattle.tui_text.specs.Width.{line_width, saturated}
 use Rattle.tui_text.specs.declared.alignment.Alignment.{Alignment}
@@ -69,9 +83,34 @@ pub row_stays : (row : Rect) (a : Alignment) (line : LineData) → StayIn (cover
 unfolding row_layers
 row_stays row a line = line_stays row a line _ refl
 
--- the style on the first row of an area changes nothing outside the area
-pub dressed_kept : (row : Rect) (style : Style) (a b : Screen) → is_empty row ≡ false → Painted (stroke (covers (first_row row)) (dress style)) a b → KeptOutside (covers row) a b
-dressed_kept row style a b some p = Painted-kept (StayIn-stroke (covers (first_row row)) (dress style) (λ x y out. first_out row x y some out)) p
+part_out : (row : Rect) (x y : ℕ) → line_part row x y ≡ false → is_empty row ≡ false → covers (first_row row) x y ≡ false
+part_out row x y out some = grind (arith, nat_tests)
+
+-- the style on the first row of an area changes nothing outside that row
+pub dressed_kept : (row : Rect) (style : Style) (a b : Screen) → is_empty row ≡ false → Painted (stroke (covers (first_row row)) (dress style)) a b →
+    KeptOutside (line_part row) a b
+dressed_kept row style a b some p = Painted-kept (StayIn-stroke (covers (first_row row)) (dress style) (λ x y out. part_out row x y out some)) p
+
+found : (t : Bool) (p x : ℕ) → (if t then Some p else None) ≡ Some x → (t ≡ true) × (p ≡ x)
+found true p x e = (refl, cc)
+found false p x e = cc
+
+columns_out : (row : Rect) (x w u v : ℕ) → covers row x row.y ≡ true → covers row (x + (w - 1)) row.y ≡ true → line_part row u v ≡ false →
+    covers (cells_at x row.y w) u v ≡ false
+columns_out row x w u v first last out = grind (arith, nat_tests)
+
+-- a grapheme that lies whole inside a row changes nothing outside it
+pub glyph_kept : (row : Rect) (skip place w x : ℕ) (a b : Screen) → column_at row skip place w ≡ Some x → KeptOutside (covers (cells_at x row.y w)) a b →
+    KeptOutside (line_part row) a b
+glyph_kept row skip place w x a b e k =
+    let p : ℕ = row.x + (place - skip) in
+    let f = found _ p x e in
+    let inside = and_parts (covers row p row.y) (covers row (p + (w - 1)) row.y) (and_parts (nat_le skip place) _ (and_parts (nat_lt 0 w) _ f.0).1).1 in
+    KeptOutside-weaker (λ u v out. columns_out row x w u v (rw f.1 at inside.0) (rw f.1 at inside.1) out) k
+
+-- what changes nothing outside the first row of an area changes nothing outside the area
+pub line_kept : (row : Rect) (a b : Screen) → KeptOutside (line_part row) a b → KeptOutside (covers row) a b
+line_kept row a b k = KeptOutside-weaker (λ x y out. rw out refl) k
 
 pub below_out : (area : Rect) (x y : ℕ) → covers area x y ≡ false → covers (below area) x y ≡ false
 below_out area x y out = grind (arith, nat_tests)

@@ -12,7 +12,7 @@ use Rattle.tui_cells.proofs.Painting.{KeptOutside-weaker, Painted-none, Painted-
 use Rattle.tui_text.specs.Grapheme.{width_of}
 use Rattle.tui_text.specs.Painting.{cells_at}
 use Rattle.tui_text.specs.Graphemes.{clusters}
-use Rattle.tui_text.specs.Setting.{room_in, set_cluster, set_clusters, set_column, set_end, set_layers, spans_end, spans_layers}
+use Rattle.tui_text.specs.Setting.{room_in, set_cluster, set_clusters, set_column, set_end, set_layers, set_part, spans_end, spans_layers}
 use Rattle.tui_text.specs.Span.{SpanData}
 
 fits : (m n : ℕ) → m ≤ n → nat_le m n ≡ true
@@ -113,3 +113,12 @@ cells_out clip x y r u v inside within out = grind (arith, nat_tests)
 pub kept_in_clip : (clip : Rect) (x y r : ℕ) (a b : Screen) → covers clip x y ≡ true → x + r ≤ right_of clip →
     KeptOutside (covers (cells_at x y r)) a b → KeptOutside (covers clip) a b
 kept_in_clip clip x y r a b inside within k = KeptOutside-weaker (λ u v out. cells_out clip x y r u v inside within out) k
+
+part_out : (clip : Rect) (at : Position) (room r u v : ℕ) → covers clip at.x at.y ≡ true → r ≡ room_in clip at.x room →
+    set_part clip at room u v ≡ false → covers (cells_at at.x at.y r) u v ≡ false
+part_out clip at room r u v inside e out = rw e (rw inside at out)
+
+-- what is set from a position of the clip on changes nothing outside the room that it has there
+pub kept_part : (clip : Rect) (at : Position) (room r : ℕ) (a b : Screen) → covers clip at.x at.y ≡ true → r ≡ room_in clip at.x room →
+    KeptOutside (covers (cells_at at.x at.y r)) a b → KeptOutside (set_part clip at room) a b
+kept_part clip at room r a b inside e k = KeptOutside-weaker (λ u v out. part_out clip at room r u v inside e out) k

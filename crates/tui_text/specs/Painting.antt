@@ -5,6 +5,7 @@ use Rattle.std.specs.Prelude.{
   ◌-◌,
   ◌/◌,
   min,
+  Bool,
   false,
   ◌&&◌,
   ◌||◌,
@@ -43,6 +44,10 @@ cells_at x y width = record { x = x; y = y; width = width; height = 1 }
 -- the first row of an area
 abbrev pub first_row : Rect → Rect
 first_row area = cells_at area.x area.y area.width
+
+-- the cells that a line painted in an area may change: those of the area's first row
+abbrev pub line_part : Rect → ℕ → ℕ → Bool
+line_part area x y = covers area x y && (y == area.y)
 
 -- a grapheme from a column on: its symbol, its style, and the cells behind a wide one made blank
 abbrev pub glyph_at : ℕ → ℕ → Glyph → List Layer

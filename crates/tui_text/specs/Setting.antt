@@ -1,5 +1,5 @@
 -- The strokes of a text that is set from a position on.
-use Rattle.std.specs.Prelude.{ℕ, ◌+◌, ◌-◌, min, nat_le, nat_lt, List, [], ◌∷◌, ◌++◌, map, All, if◌then◌else◌}
+use Rattle.std.specs.Prelude.{ℕ, ◌+◌, ◌-◌, Bool, ◌&&◌, min, nat_le, nat_lt, List, [], ◌∷◌, ◌++◌, map, All, if◌then◌else◌}
 use Rattle.tui_cells.specs.declared.position.Position.{Position}
 use Rattle.tui_cells.specs.declared.rect.Rect.{Rect}
 use Rattle.tui_cells.specs.declared.style.Style.{Style}
@@ -10,7 +10,7 @@ use Rattle.tui_cells.specs.Style.{patched}
 use Rattle.tui_text.specs.Grapheme.{width_of}
 use Rattle.tui_text.specs.Graphemes.{clusters, glyph_in}
 use Rattle.tui_text.specs.Line.{LineData}
-use Rattle.tui_text.specs.Painting.{glyph_at}
+use Rattle.tui_text.specs.Painting.{cells_at, glyph_at}
 use Rattle.tui_text.specs.Span.{SpanData}
 
 -- where an area begins
@@ -46,6 +46,10 @@ spans_end x room (s ∷ ss) = let next = set_end x room (clusters s.content) in 
 -- the smaller of a room and the columns up to the clip's right edge
 abbrev pub room_in : Rect → ℕ → ℕ → ℕ
 room_in clip x room = min room (right_of clip - x)
+
+-- the cells that spans set from a position of a clip on may change: those of the room that they have there
+abbrev pub set_part : Rect → Position → ℕ → ℕ → ℕ → Bool
+set_part clip at room x y = covers clip at.x at.y && covers (cells_at at.x at.y (room_in clip at.x room)) x y
 
 -- spans set from a position of the clip on
 abbrev pub set_layers : Rect → Position → List SpanData → ℕ → List Layer

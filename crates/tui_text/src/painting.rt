@@ -14,6 +14,7 @@ ghost use Rattle.tui_text.specs.Painting.{
   cells_at,
   column_at,
   glyph_at,
+  line_part,
   lines_layers,
   row_layers,
   shown_glyph,
@@ -105,7 +106,7 @@ fn paint_glyph(
 ) -> Mem<()>
     requires { width ≡ glyph_width (glyph_of grapheme.now) }
     ensures ok { OnOk result (Painted (shown_glyph row skip place (glyph_of grapheme.now)) buf.old buf.new) }
-    ensures kept { KeptOutside (covers row) buf.old buf.new }
+    ensures kept { KeptOutside (line_part row) buf.old buf.new }
     ensures light { IsLight (glyph_of grapheme.now).text → IsOk result }
 {
     match column_at(row, skip, place, width) {
@@ -124,7 +125,7 @@ fn paint_glyphs(
 ) -> Mem<()>
     requires { skip + row.width < 2 ^ 64 }
     ensures ok { OnOk result (Painted (shown_glyphs row skip start (glyphs_left graphemes.entry)) buf.old buf.new) }
-    ensures kept { KeptOutside (covers row) buf.old buf.new }
+    ensures kept { KeptOutside (line_part row) buf.old buf.new }
     ensures light { All (λ g. IsLight g.text) (glyphs_left graphemes.entry) → IsOk result }
 {
     let end = skip.saturating_add(row.width as usize);
@@ -165,6 +166,7 @@ pub fn paint_spans(
 ) -> Mem<()>
     ensures ok { OnOk result (Painted (row_layers row alignment (spans_line (map span_data spans.now) style)) buf.old buf.new) }
     ensures kept { KeptOutside (covers row) buf.old buf.new }
+    ensures part { KeptOutside (line_part row) buf.old buf.new }
     ensures light { AreLight (map span_data spans.now) → IsOk result }
 {
     if row.is_empty() || !has_columns(spans) {
@@ -199,6 +201,7 @@ fn beginning(spans: &[Span<'_>], alignment: Alignment, room: u16) -> (usize, usi
 pub fn paint_row(buf: &mut Buffer, row: Rect, line: &Line<'_>, alignment: Alignment) -> Mem<()>
     ensures ok { OnOk result (Painted (row_layers row alignment (line_data line.now)) buf.old buf.new) }
     ensures kept { KeptOutside (covers row) buf.old buf.new }
+    ensures part { KeptOutside (line_part row) buf.old buf.new }
     ensures light { AreLight (line_data line.now).spans → IsOk result }
 {
     paint_spans(buf, row, line.spans(), line.line_style(), alignment)
@@ -207,7 +210,7 @@ pub fn paint_row(buf: &mut Buffer, row: Rect, line: &Line<'_>, alignment: Alignm
 /// Paints a line in the first row of its area within the clip and the buffer: its style on the row, then each grapheme that
 /// lies whole inside, in its span's style, the cells behind a wide one made blank. A line that fits is indented by its free
 /// columns: none (Left), half of them (Center) or all (Right); a wider one loses columns at its left in the same way. A line
-/// without columns changes nothing. At NoMemory nothing outside that part has changed; graphemes of at most 8 bytes take no
+/// without columns changes nothing. At NoMemory nothing outside that first row has changed; graphemes of at most 8 bytes take no
 /// memory.
 pub fn paint_line(
     buf: &mut Buffer,
@@ -219,6 +222,7 @@ pub fn paint_line(
     ensures ok { OnOk result
         (Painted (row_layers (intersection_of area (intersection_of clip buf.old.area)) alignment (line_data line.now)) buf.old buf.new) }
     ensures kept { KeptOutside (covers (intersection_of area (intersection_of clip buf.old.area))) buf.old buf.new }
+    ensures part { KeptOutside (line_part (intersection_of area (intersection_of clip buf.old.area))) buf.old buf.new }
     ensures light { AreLight (line_data line.now).spans → IsOk result }
 {
     let part = clip.intersection(buf.area());
@@ -276,7 +280,7 @@ pub fn paint_rows(buf: &mut Buffer, area: Rect, text: &Text<'_>) -> Mem<()>
 }
 
 /// Paints a text in its area within the clip and the buffer: its style on that part, then line i in row i as `paint_line` does,
-/// by the line's alignment, else the text's, else Left. Lines past the last row are left out. At NoMemory as `paint_line`.
+/// by the line's alignment, else the text's, else Left. Lines past the last row are left out. At NoMemory nothing outside that part has changed.
 pub fn paint_text(buf: &mut Buffer, clip: Rect, area: Rect, text: &Text<'_>) -> Mem<()>
     ensures ok { OnOk result
         (Painted (text_layers (intersection_of area (intersection_of clip buf.old.area)) (text_data text.now)) buf.old buf.new) }

@@ -19,6 +19,7 @@ ghost use Rattle.tui_text.specs.Setting.{
   set_column,
   set_end,
   set_layers,
+  set_part,
   spans_end,
   spans_layers,
   styled_text,
@@ -124,6 +125,7 @@ pub fn set_stringn_in(
     ensures ok { OnOk result (Painted (set_layers clip at (styled_text text.now style) room) buf.old buf.new) }
     ensures end { IfOk result (λ x. x ≡ set_column clip at (styled_text text.now style) room) }
     ensures kept { KeptOutside (covers clip) buf.old buf.new }
+    ensures part { KeptOutside (set_part clip at room) buf.old buf.new }
     ensures light { AreLight (styled_text text.now style) → IsOk result }
 {
     if !clip.contains(at) {
@@ -134,8 +136,8 @@ pub fn set_stringn_in(
 
 /// Sets a text from a position on in `room` columns at most, as far as the clip and the buffer go: each grapheme of width above
 /// 0 with the style, until the first that does not fit, the cells behind a wide one made blank. Answers the column after the
-/// last one used. A position outside the clip changes nothing, and the answer is its column. At NoMemory no cell outside the
-/// clip has changed; graphemes of at most 8 bytes take no memory.
+/// last one used. A position outside the clip changes nothing, and the answer is its column. At NoMemory no cell has changed but
+/// those of the position's row from there on, in the room and the clip; graphemes of at most 8 bytes take no memory.
 pub fn set_stringn(
     buf: &mut Buffer,
     clip: Rect,
@@ -147,6 +149,7 @@ pub fn set_stringn(
     ensures ok { OnOk result (Painted (set_layers (intersection_of clip buf.old.area) at (styled_text text.now style) room) buf.old buf.new) }
     ensures end { IfOk result (λ x. x ≡ set_column (intersection_of clip buf.old.area) at (styled_text text.now style) room) }
     ensures kept { KeptOutside (covers (intersection_of clip buf.old.area)) buf.old buf.new }
+    ensures part { KeptOutside (set_part (intersection_of clip buf.old.area) at room) buf.old buf.new }
     ensures light { AreLight (styled_text text.now style) → IsOk result }
 {
     set_stringn_in(buf, clip.intersection(buf.area()), at, text, room, style)
@@ -163,6 +166,7 @@ pub fn set_span_in(
     ensures ok { OnOk result (Painted (set_layers clip at (span_data span.now ∷ []) room) buf.old buf.new) }
     ensures end { IfOk result (λ x. x ≡ set_column clip at (span_data span.now ∷ []) room) }
     ensures kept { KeptOutside (covers clip) buf.old buf.new }
+    ensures part { KeptOutside (set_part clip at room) buf.old buf.new }
     ensures light { AreLight (span_data span.now ∷ []) → IsOk result }
 {
     set_stringn_in(buf, clip, at, span.content, room, span.style)
@@ -179,6 +183,7 @@ pub fn set_span(
     ensures ok { OnOk result (Painted (set_layers (intersection_of clip buf.old.area) at (span_data span.now ∷ []) room) buf.old buf.new) }
     ensures end { IfOk result (λ x. x ≡ set_column (intersection_of clip buf.old.area) at (span_data span.now ∷ []) room) }
     ensures kept { KeptOutside (covers (intersection_of clip buf.old.area)) buf.old buf.new }
+    ensures part { KeptOutside (set_part (intersection_of clip buf.old.area) at room) buf.old buf.new }
     ensures light { AreLight (span_data span.now ∷ []) → IsOk result }
 {
     set_span_in(buf, clip.intersection(buf.area()), at, span, room)
@@ -195,6 +200,7 @@ pub fn set_line_in(
     ensures ok { OnOk result (Painted (set_layers clip at (line_spans (line_data line.now)) room) buf.old buf.new) }
     ensures end { IfOk result (λ x. x ≡ set_column clip at (line_spans (line_data line.now)) room) }
     ensures kept { KeptOutside (covers clip) buf.old buf.new }
+    ensures part { KeptOutside (set_part clip at room) buf.old buf.new }
     ensures light { AreLight (line_data line.now).spans → IsOk result }
 {
     if !clip.contains(at) {
@@ -221,6 +227,7 @@ pub fn set_line(
     ensures ok { OnOk result (Painted (set_layers (intersection_of clip buf.old.area) at (line_spans (line_data line.now)) room) buf.old buf.new) }
     ensures end { IfOk result (λ x. x ≡ set_column (intersection_of clip buf.old.area) at (line_spans (line_data line.now)) room) }
     ensures kept { KeptOutside (covers (intersection_of clip buf.old.area)) buf.old buf.new }
+    ensures part { KeptOutside (set_part (intersection_of clip buf.old.area) at room) buf.old buf.new }
     ensures light { AreLight (line_data line.now).spans → IsOk result }
 {
     set_line_in(buf, clip.intersection(buf.area()), at, line, room)

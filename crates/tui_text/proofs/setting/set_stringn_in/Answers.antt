@@ -3,7 +3,7 @@ use Rattle.std.proofs.lemmas.List.Elements.{All-head}
 use Rattle.tui_cells.specs.Cell.{IsLight}
 use Rattle.tui_text.specs.Graphemes.{clusters}
 use Rattle.tui_text.proofs.Elements.{if_ok, on_ok}
-use Rattle.tui_text.proofs.Settings.{column_in, kept_in_clip, one_end, one_span, set_in}
+use Rattle.tui_text.proofs.Settings.{column_in, kept_in_clip, kept_part, one_end, one_span, set_in}
 use Rattle.tui_text.proofs.setting.set_stringn_in.Goals as goal
 
 pub returns-clause-ok : goal.returns-clause-ok
@@ -16,6 +16,9 @@ returns-clause-end c =
 
 pub returns-clause-kept : goal.returns-clause-kept
 returns-clause-kept c = kept_in_clip _ _ _ _ _ _ (search rules) (search rules) c.set_clusters.ensures.kept
+
+pub returns-clause-part : goal.returns-clause-part
+returns-clause-part c = kept_part _ _ _ _ _ _ (search rules) (search rules) c.set_clusters.ensures.kept
 
 pub returns-clause-light : goal.returns-clause-light
 returns-clause-light c all = c.set_clusters.ensures.light (All-head (λ s. All IsLight (clusters s.content)) (record { content = c.args.text.now; style = c.args.style }) [] all)
