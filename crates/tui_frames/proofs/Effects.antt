@@ -21,16 +21,21 @@ area_is b c area s screen e f = f ∙ ap (λ (d : ShadowData). intersection_of (
 
 pub effect_shown : (leaves : Rect → Rect → Screen → Screen → Type 0) (b : BlockData) (c area : Rect) (s : Shadow) (before framed styled after : Screen) →
     shadow_data s ≡ effect_shadow b → area ≡ intersection_of (offset_of c s.offset) before.area →
-    Painted (frame_layers b c) before framed → Painted (over (in_shadow area c) (dress s.style ∷ [])) framed styled → leaves area c styled after →
+    Painted (frame_layers b c) before framed → Painted (over (in_shadow area c) (dress s.style ∷ [])) framed styled →
+    KeptOutside (in_shadow area c) styled after → leaves area c styled after →
     ShowsEffect leaves b c before after
-effect_shown leaves b c area s before framed styled after e f p q left = record {
+effect_shown leaves b c area s before framed styled after e f p q kept left = record {
   shown = λ some.
       let place : area ≡ effect_area b c before = area_is b c area s before e f in
       let shade : Painted (over (in_shadow (effect_area b c before) c) (dress (effect_shadow b).style ∷ [])) framed styled =
       subst (λ (ls : List Layer). Painted ls framed styled)
       (ap (λ (r : Rect). over (in_shadow r c) (dress s.style ∷ [])) place
-      ∙ ap (λ (d : ShadowData). over (in_shadow (effect_area b c before) c) (dress d.style ∷ [])) e) q in
-      (styled, Painted-then p shade, subst (λ (r : Rect). leaves r c styled after) place left);
+      ∙ ap (λ (d : ShadowData). over (in_shadow (effect_area b c before) c) (dress d.style ∷ [])) e) q in (
+        styled,
+        Painted-then p shade,
+        subst (λ (r : Rect). leaves r c styled after) place left,
+        subst (λ (r : Rect). KeptOutside (in_shadow r c) styled after) place kept,
+      );
 }
 
 -- outside a base and a larger area one is not in an area outside the base

@@ -1,6 +1,6 @@
 //! Sets of sides.
 
-ghost use Rattle.std.specs.Prelude.{◌≡◌, ◌==◌, not, nat_le, None, Some, ⊤, [], ◌∷◌, bit_and, bit_or, codes, if◌then◌else◌};
+ghost use Rattle.std.specs.Prelude.{◌≡◌, ◌+◌, ◌==◌, not, nat_le, None, Some, ⊤, [], ◌∷◌, bit_and, bit_or, codes, if◌then◌else◌};
 ghost use Rattle.tui_frames.specs.Borders.{borders_of, both_borders, bottom, has, left, right, sides_text, top};
 
 use bitflags::{Flag, Flags};
@@ -168,6 +168,18 @@ fn sides_text(top: bool, right: bool, bottom: bool, left: bool) -> &'static str
 macro_rules! border {
     () => { $crate::Borders::NONE };
     ($first:ident $(, $next:ident)* $(,)?) => { $crate::Borders::$first$(.union($crate::Borders::$next))* };
+}
+
+/// What the macro writes of no side, one, three and all four.
+fn written_by_macro() -> [Borders; 4]
+    ensures { result ≡ borders_of 0 ∷ borders_of right ∷ borders_of (top + right + left) ∷ borders_of 15 ∷ [] }
+{
+    [
+        border!(),
+        border!(RIGHT),
+        border!(TOP, RIGHT, LEFT),
+        border!(TOP, RIGHT, BOTTOM, LEFT),
+    ]
 }
 
 const _: () = prove!(Borders::NONE.bits == 0);

@@ -17,9 +17,10 @@ use tui_cells::{Buffer, Mem, Rect};
 
 impl<'a> Block<'a> {
     /// Draws as `render` does, with an effect in place of what the shadow does besides its style. The effect is given the
-    /// clip, and the clip moved by the shadow's offset as far as it lies in the buffer. Without a shadow the offset is one
-    /// column to the right and one row down, and no style is set. At NoMemory the buffer's area and all cells outside these
-    /// two areas are as before. Where the clip is empty nothing changes and the answer is Ok.
+    /// clip, and the clip moved by the shadow's offset as far as it lies in the buffer, and changes cells of the latter outside
+    /// the former alone. Without a shadow the offset is one column to the right and one row down, and no style is set. At
+    /// NoMemory the buffer's area and all cells outside these two areas are as before. Where the clip is empty nothing changes
+    /// and the answer is Ok.
     pub fn render_with_effect<E: CellEffect>(
         &self,
         alloc: Global,

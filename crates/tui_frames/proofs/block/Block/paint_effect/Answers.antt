@@ -11,7 +11,7 @@ returns-clause-ok g c =
     on_ok c.apply.result
     (effect_shown (g.E.CellEffect.leaves c.args.effect.now) (block_data c.args.self.now) c.args.clip c.intersection-shadow_area.result
     c.effect_shadow-shadow.result c.args.buf.now _ _ _ c.effect_shadow-shadow.ensures (rw (c.area.ensures, c.offset.ensures.is) at c.intersection-shadow_area.ensures)
-    c.in_ok-paint_frame.ensures.ok c.dress_outside.ensures)
+    c.in_ok-paint_frame.ensures.ok c.dress_outside.ensures c.apply.ensures.kept)
     c.apply.ensures.ok
 
 pub returns-clause-kept : goal.returns-clause-kept
