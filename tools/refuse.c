@@ -1,5 +1,8 @@
-/* Loaded before a program (LD_PRELOAD): once it has been given REFUSE_COUNT pieces of REFUSE_SIZE bytes, every later request for
-   memory is refused. At the end it tells on standard error how many requests were met and how many were refused. */
+/* Loaded before a program (LD_PRELOAD), it refuses requests for memory: with REFUSE_AT the one of that number, from 1, and no
+   other (0: none); else every one once REFUSE_COUNT pieces of REFUSE_SIZE bytes were given. At the end it tells on standard error
+   how many requests were met and how many were refused, and with REFUSE_AT whether the C library itself made the refused one. */
+#define _GNU_SOURCE
+#include <dlfcn.h>
 #include <errno.h>
 #include <stddef.h>
 #include <stdio.h>
@@ -12,47 +15,68 @@ extern void *__libc_calloc(size_t, size_t);
 extern void *__libc_realloc(void *, size_t);
 extern void *__libc_memalign(size_t, size_t);
 
-static size_t size, left = 1, met, refused;
+static size_t size, left = 1, at, met, refused;
+static int one;
+static const void *asker;
 
 __attribute__((constructor)) static void begin(void)
 {
-    const char *text = getenv("REFUSE_SIZE");
+    const char *text = getenv("REFUSE_AT");
+    one = text != NULL;
+    at = text ? strtoul(text, NULL, 10) : 0;
+    text = getenv("REFUSE_SIZE");
     size = text ? strtoul(text, NULL, 10) : 0;
     text = getenv("REFUSE_COUNT");
     left = text ? strtoul(text, NULL, 10) : 1;
 }
 
+/* The name of the file whose code stands at an address. */
+static const char *file_of(const void *place)
+{
+    Dl_info info;
+    return place && dladdr(place, &info) && info.dli_fname ? info.dli_fname : "";
+}
+
 __attribute__((destructor)) static void end(void)
 {
-    char line[96];
-    int n = snprintf(line, sizeof line, "%s: %zu met, %zu refused\n", left ? "never reached" : "reached", met, refused);
+    char line[160];
+    const char *asks = !refused ? "nobody" : strcmp(file_of(asker), file_of((const void *)strtoul)) ? "the program" : "the C library";
+    int n = one ? snprintf(line, sizeof line, "%zu met, %zu refused to %s\n", met, refused, asks)
+                : snprintf(line, sizeof line, "%s: %zu met, %zu refused\n", left ? "never reached" : "reached", met, refused);
     if (write(2, line, (size_t)n) < 0)
         _exit(9);
+}
+
+static void *refuse(const void *place)
+{
+    refused++;
+    asker = place;
+    errno = ENOMEM;
+    return NULL;
 }
 
 /* Whether a request of so many bytes is met. */
 static int may(size_t bytes)
 {
-    if (left == 0) {
-        refused++;
-        errno = ENOMEM;
+    if (one ? met + refused + 1 == at : left == 0)
         return 0;
-    }
     met++;
-    if (bytes == size)
+    if (!one && bytes == size)
         left--;
     return 1;
 }
 
-void *malloc(size_t bytes) { return may(bytes) ? __libc_malloc(bytes) : NULL; }
-void *calloc(size_t count, size_t each) { return may(count * each) ? __libc_calloc(count, each) : NULL; }
-void *realloc(void *old, size_t bytes) { return may(bytes) ? __libc_realloc(old, bytes) : NULL; }
-void *memalign(size_t step, size_t bytes) { return may(bytes) ? __libc_memalign(step, bytes) : NULL; }
-void *aligned_alloc(size_t step, size_t bytes) { return may(bytes) ? __libc_memalign(step, bytes) : NULL; }
+#define ASKER __builtin_return_address(0)
+
+void *malloc(size_t bytes) { return may(bytes) ? __libc_malloc(bytes) : refuse(ASKER); }
+void *calloc(size_t count, size_t each) { return may(count * each) ? __libc_calloc(count, each) : refuse(ASKER); }
+void *realloc(void *old, size_t bytes) { return may(bytes) ? __libc_realloc(old, bytes) : refuse(ASKER); }
+void *memalign(size_t step, size_t bytes) { return may(bytes) ? __libc_memalign(step, bytes) : refuse(ASKER); }
+void *aligned_alloc(size_t step, size_t bytes) { return may(bytes) ? __libc_memalign(step, bytes) : refuse(ASKER); }
 
 int posix_memalign(void **place, size_t step, size_t bytes)
 {
-    void *given = may(bytes) ? __libc_memalign(step, bytes) : NULL;
+    void *given = may(bytes) ? __libc_memalign(step, bytes) : refuse(ASKER);
     if (given == NULL)
         return ENOMEM;
     *place = given;

@@ -20,7 +20,7 @@ rest_printable (suc k) (b ∷ bs) e = rest_printable k bs (and_parts (is_printab
 -- the decimal of a bar's value
 pub decimal_light : (direction : Direction) (n : ℕ) → n < 10 ^ 64 → IsLightText direction (decimal n)
 decimal_light Vertical n lt = clusters_light (decimal n) (decimal_printable n lt)
-decimal_light Horizontal n lt = λ place. clusters_light (drop place (decimal n)) (rest_printable place (decimal n) (decimal_printable n lt))
+decimal_light Horizontal n lt = λ place begins. clusters_light (drop place (decimal n)) (rest_printable place (decimal n) (decimal_printable n lt))
 
 pub percent_light : (n : ℕ) → n < 10 ^ 64 → AreLight (raw_span (decimal n ++ codes "%") ∷ [])
 percent_light n lt = printable_light _ (both_printable (decimal n) (codes "%") (decimal_printable n lt) refl)

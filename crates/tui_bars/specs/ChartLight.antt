@@ -1,5 +1,6 @@
 -- Bar charts that take no memory.
 use Rattle.std.specs.Prelude.{⊤, ℕ, List, All, Option, None, Some, drop}
+use Rattle.std.specs.Str.{IsCharBoundary}
 use Rattle.tui_cells.specs.Cell.{IsLight}
 use Rattle.tui_frames.specs.InBlock.{IsLightIfBlock}
 use Rattle.tui_layout.specs.declared.direction.Direction.{Direction}
@@ -17,10 +18,11 @@ direction_of Columns = Vertical
 direction_of Texts = Vertical
 direction_of Rows = Horizontal
 
--- a value's text: a horizontal chart may set the part from any byte on, whose graphemes need not be those of the text
+-- a value's text: a horizontal chart may set the part from any character on. Its graphemes are those of the text but where a
+-- grapheme is cut in two: what is left of it may then join what follows
 abbrev pub IsLightText : Direction → List ℕ → Type 0
 IsLightText Vertical text = All IsLight (clusters text)
-IsLightText Horizontal text = (place : ℕ) → All IsLight (clusters (drop place text))
+IsLightText Horizontal text = (place : ℕ) → IsCharBoundary text place → All IsLight (clusters (drop place text))
 
 abbrev pub IsLightValue : Direction → Option (List ℕ) → Type 0
 IsLightValue direction None = ⊤

@@ -1,9 +1,10 @@
 -- The strokes of a scrollbar.
-use Rattle.std.specs.Prelude.{⊤, All, ℕ, zero, suc, ◌+◌, ◌-◌, ◌==◌, ◌||◌, Bool, true, false, List, [], ◌++◌, Option, None, Some, if◌then◌else◌}
+use Rattle.std.specs.Prelude.{⊤, ◌≡◌, All, ℕ, zero, suc, ◌+◌, ◌-◌, ◌==◌, ◌||◌, Bool, true, false, List, [], ◌++◌, Option, None, Some, if◌then◌else◌}
 use Rattle.std.proofs.Common.{refl}
 use Rattle.tui_cells.specs.declared.position.Position.{Position}
 use Rattle.tui_cells.specs.declared.rect.Rect.{Rect}
 use Rattle.tui_cells.specs.declared.style.Style.{Style}
+use Rattle.tui_cells.specs.Buffer.{Screen}
 use Rattle.tui_cells.specs.Cell.{IsLight}
 use Rattle.tui_cells.specs.Drawing.{Moving}
 use Rattle.tui_cells.specs.Layers.{Layer, Painted, StayIn}
@@ -107,13 +108,18 @@ pub record IsLightScrollbar (s : ScrollbarData) : Type 0 where
   pub begin : IsLightSign s.begin
   pub end : IsLightSign s.end
 
--- what a scrollbar is to those who place it; its state stays
+-- a scrollbar is drawn: its strokes are there, and its state stays
+pub record ScrollbarShows (s : ScrollbarData) (old new : ScrollbarState) (clip : Rect) (before after : Screen) : Type 0 where
+  pub strokes : Painted (scrollbar_layers s old clip) before after
+  pub stays : new ≡ old
+
+-- what a scrollbar is to those who place it
 abbrev pub scrollbar_moving : ScrollbarData → Moving ScrollbarState
 scrollbar_moving s = record {
   layers = scrollbar_layers s;
   footprint = covers;
   after = λ clip state. state;
-  shows = λ old new clip. Painted (scrollbar_layers s old clip);
+  shows = ScrollbarShows s;
   light = IsLightScrollbar s;
   stays = scrollbar_stays s;
   nowhere = covers_nowhere;
