@@ -1,3 +1,3 @@
 //! Scenes: widgets with their areas, drawn in order.
 
-pub use tui_scene::{DrawError, Item, Placed, Scene, draw};
+pub use tui_scene::{DrawError, Item, Placed, Scene, draw, draw_at, draw_new};

@@ -1,9 +1,11 @@
 -- Laws of drawings.
 use Rattle.std.specs.Prelude.{◌≡◌, ℕ, ◌&&◌, List, ◌∷◌, ◌++◌, map, false, true}
+use Rattle.tui_cells.specs.declared.rect.Rect.{Rect}
 use Rattle.tui_cells.specs.Buffer.{Screen, cell_at}
 use Rattle.tui_cells.specs.Layers.{Painted}
 use Rattle.tui_cells.specs.Rect.{intersection_of, is_empty}
 use Rattle.tui_scene.specs.Item.{PlacedData, placed_after, placed_footprint, placed_layers}
+use Rattle.tui_scene.specs.Drawn.{IsDrawn}
 use Rattle.tui_scene.specs.Scene.{scene_layers}
 
 -- two buffers of one area that agree at a position agree there after the same drawing
@@ -44,3 +46,12 @@ StatesSettle = (old new again : List PlacedData) (a b c d : Screen) →
 abbrev pub UnmetRests : Type 0
 UnmetRests = (p : PlacedData) (a b : Screen) → is_empty (intersection_of p.area a.area) ≡ true →
     (placed_after a.area p ≡ p) × (Painted (placed_layers a.area p) a b → (x y : ℕ) → cell_at b x y ≡ cell_at a x y)
+
+-- a widget drawn a second time, in the same area of a buffer of the same area, has the same layers
+abbrev pub LayersRepeat : Type 0
+LayersRepeat = (area : Rect) (p : PlacedData) → placed_layers area (placed_after area p) ≡ placed_layers area p
+
+-- widgets on a blank buffer of a size leave one screen, and one list of states
+abbrev pub DrawingIsUnique : Type 0
+DrawingIsUnique = (width height : ℕ) (old new other : List PlacedData) (last different : Screen) →
+    IsDrawn width height old new last → IsDrawn width height old other different → (different ≡ last) × (other ≡ new)

@@ -1,11 +1,19 @@
 -- A run over the widgets of a scene.
-use Rattle.std.specs.Prelude.{◌≡◌, ℕ, Bool, ◌||◌, List, [], ◌∷◌, false}
+use Rattle.std.specs.Prelude.{◌≡◌, ℕ, Bool, ◌||◌, List, [], ◌∷◌, false, slice_index_or}
 use Rattle.std.specs.List.{flat_map}
 use Rattle.tui_cells.specs.declared.rect.Rect.{Rect}
-use Rattle.tui_cells.specs.Rect.{intersection_of}
+use Rattle.tui_cells.specs.Rect.{area_of, intersection_of}
 use Rattle.tui_cells.specs.Buffer.{Screen}
 use Rattle.tui_cells.specs.Layers.{KeptOutside, Layer}
-use Rattle.tui_scene.specs.Item.{PlacedData, item_drawing, placed_footprint, placed_layers}
+use Rattle.tui_scene.specs.Item.{PlacedData, clear, item_drawing, placed_footprint, placed_layers, still}
+
+-- what stands for a widget past the last place of a scene
+abbrev pub no_widget : PlacedData
+no_widget = record { area = area_of 0 0 0 0; item = still clear }
+
+-- the widget in a place of a scene
+abbrev pub placed_at : List PlacedData → ℕ → PlacedData
+placed_at ps at = slice_index_or ps at no_widget
 
 -- One step: the buffer's area, every cell outside the footprint and the widget's own area are as before, and the widget shows
 -- what it shows, by its state before and after.

@@ -1,3 +1,5 @@
+use Rattle.tui_scene.proofs.Drawn.{one_drawing}
+use Rattle.tui_scene.proofs.Freshness.{items_repeat}
 use Rattle.tui_scene.proofs.Strokes.{order, settled, unmet}
 use Rattle.tui_scene.proofs.laws.drawing_laws.Goals as goal
 
@@ -7,5 +9,11 @@ returns-clause-order c = order
 pub returns-clause-again : goal.returns-clause-again
 returns-clause-again c = settled
 
+pub returns-clause-layers : goal.returns-clause-layers
+returns-clause-layers c = items_repeat
+
 pub returns-clause-unmet : goal.returns-clause-unmet
 returns-clause-unmet c = unmet
+
+pub returns-clause-one : goal.returns-clause-one
+returns-clause-one c = one_drawing
