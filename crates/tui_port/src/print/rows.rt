@@ -4,40 +4,40 @@ ghost use Rattle.std.specs.Prelude.{◌≡◌, ◌+◌, ◌++◌, ◌<◌, ◌�
 ghost use Rattle.tui_port.specs.Gathers.{Gathers};
 ghost use Rattle.tui_port.specs.Print.{row_line, symbols_from};
 
-use crate::gather::Gather;
+use crate::print::Print;
 use crate::print::steps::{Steps, plain_byte};
 use crate::sink::Sink;
 use tui_cells::{Buffer, Cell};
 
 /// Adds a line for each row.
-pub(crate) fn put_rows<K: Sink>(gather: &mut Gather, buf: &Buffer, sink: &mut K)
-    ensures { Gathers (K.told sink.old) (K.told sink.new) gather.old gather.new (flat_map row_line buf.now.rows) }
+pub(crate) fn put_rows<K: Sink>(print: &mut Print, buf: &Buffer, sink: &mut K)
+    ensures { Gathers (K.told sink.old) (K.told sink.new) print.old print.new (flat_map row_line buf.now.rows) }
 {
     'rows: for number in 0..buf.height() {
-        put_row(gather, buf.row_at(number), sink);
+        put_row(print, buf.row_at(number), sink);
     }
 }
 
 /// How many printable bytes are copied at once.
 const PIECE: usize = 64;
 
-fn put_row<K: Sink>(gather: &mut Gather, row: &[Cell], sink: &mut K)
-    ensures { Gathers (K.told sink.old) (K.told sink.new) gather.old gather.new (row_line row.now) }
+fn put_row<K: Sink>(print: &mut Print, row: &[Cell], sink: &mut K)
+    ensures { Gathers (K.told sink.old) (K.told sink.new) print.old print.new (row_line row.now) }
 {
-    gather.extend(sink, b"r ");
+    print.extend(sink, b"r ");
     let mut piece = [0u8; PIECE];
     let mut steps = Steps::new();
     let mut column = 0;
     while column < row.len() {
-        column = put_next(gather, row, column, &mut piece, &mut steps, sink);
+        column = put_next(print, row, column, &mut piece, &mut steps, sink);
     }
-    gather.push(sink, b'\n');
+    print.push(sink, b'\n');
 }
 
 // Adds the printable bytes from a column on, else its symbol, and answers the next column that shows.
 #[inline]
 fn put_next<'r, K: Sink>(
-    gather: &mut Gather,
+    print: &mut Print,
     row: &'r [Cell],
     column: usize,
     piece: &mut [u8; PIECE],
@@ -47,15 +47,15 @@ fn put_next<'r, K: Sink>(
     requires { column < length row.now }
     ensures within { (column < result) × (result ≤ length row.now) }
     ensures put { (text : List ℕ) × (symbols_from row.now column ≡ text ++ symbols_from row.now result)
-        × Gathers (K.told sink.old) (K.told sink.new) gather.old gather.new text }
+        × Gathers (K.told sink.old) (K.told sink.new) print.old print.new text }
 {
     let plain = copy_plain(row, column, piece);
     if plain > 0 {
-        gather.extend(sink, &piece[..plain]);
+        print.extend(sink, &piece[..plain]);
         return column + plain;
     }
     let symbol = row[column].symbol();
-    gather.extend(sink, symbol.as_bytes());
+    print.extend(sink, symbol.as_bytes());
     column + steps.step(symbol).min(row.len() - column)
 }
 

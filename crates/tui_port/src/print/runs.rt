@@ -6,41 +6,35 @@ ghost use Rattle.tui_port.specs.Gathers.{Gathers};
 ghost use Rattle.tui_port.specs.Print.{AreRunLines, run_line};
 ghost use Rattle.tui_port.specs.Runs.{AreStyleRuns, StyleRun, at_rest, attributes_at};
 
-use crate::gather::Gather;
+use crate::print::Print;
 use crate::print::words::{put_color, put_number};
 use crate::sink::Sink;
 use tui_cells::{Attributes, Buffer, Cell, Color};
 
 /// Adds the lines of the runs of each row.
-pub(crate) fn put_runs<K: Sink>(gather: &mut Gather, buf: &Buffer, sink: &mut K)
+pub(crate) fn put_runs<K: Sink>(print: &mut Print, buf: &Buffer, sink: &mut K)
     ensures { (text : List ℕ) × AreRunLines 0 buf.now.rows text
-        × Gathers (K.told sink.old) (K.told sink.new) gather.old gather.new text }
+        × Gathers (K.told sink.old) (K.told sink.new) print.old print.new text }
 {
     'rows: for number in 0..buf.height() {
         let first = buf.rest_end(number);
-        put_row_runs(gather, number, buf.row_at(number), first, sink);
+        put_row_runs(print, number, buf.row_at(number), first, sink);
     }
 }
 
 // The cells before the first column are at rest.
-fn put_row_runs<K: Sink>(
-    gather: &mut Gather,
-    number: usize,
-    row: &[Cell],
-    first: usize,
-    sink: &mut K,
-)
+fn put_row_runs<K: Sink>(print: &mut Print, number: usize, row: &[Cell], first: usize, sink: &mut K)
     requires within { first ≤ length row.now }
     requires rest { (x : ℕ) → x < first → IsAtRest (slice_index_or row.now x blank) }
     requires styled { first < length row.now → IsAtRest (slice_index_or row.now first blank) → ⊥ }
     ensures { (runs : List StyleRun) × AreStyleRuns row.now runs
-        × Gathers (K.told sink.old) (K.told sink.new) gather.old gather.new (flat_map (run_line number) runs) }
+        × Gathers (K.told sink.old) (K.told sink.new) print.old print.new (flat_map (run_line number) runs) }
 {
     let mut start = first;
     while start < row.len() {
         let attributes = attributes_in(row, start);
         let end = run_end(row, start, attributes);
-        put_run(gather, number, start, end - start, attributes, sink);
+        put_run(print, number, start, end - start, attributes, sink);
         start = end;
     }
 }
@@ -84,7 +78,7 @@ fn is_same_color(a: Color, b: Color) -> bool
 
 // Cells at rest have no line.
 fn put_run<K: Sink>(
-    gather: &mut Gather,
+    print: &mut Print,
     number: usize,
     start: usize,
     len: usize,
@@ -92,38 +86,38 @@ fn put_run<K: Sink>(
     sink: &mut K,
 )
     ensures { ((attributes ≡ at_rest)
-        × Gathers (K.told sink.old) (K.told sink.new) gather.old gather.new [])
+        × Gathers (K.told sink.old) (K.told sink.new) print.old print.new [])
         ⊎ ((attributes ≢ at_rest)
-        × Gathers (K.told sink.old) (K.told sink.new) gather.old gather.new
+        × Gathers (K.told sink.old) (K.told sink.new) print.old print.new
         (run_line number (record { start = start; len = len; attributes = attributes }))) }
 {
     if !is_same(attributes, Attributes::at_rest()) {
-        put_run_line(gather, number, start, len, attributes, sink);
+        put_run_line(print, number, start, len, attributes, sink);
     }
 }
 
 fn put_run_line<K: Sink>(
-    gather: &mut Gather,
+    print: &mut Print,
     number: usize,
     start: usize,
     len: usize,
     attributes: Attributes,
     sink: &mut K,
 )
-    ensures { Gathers (K.told sink.old) (K.told sink.new) gather.old gather.new
+    ensures { Gathers (K.told sink.old) (K.told sink.new) print.old print.new
         (run_line number (record { start = start; len = len; attributes = attributes })) }
 {
-    gather.extend(sink, b"s ");
-    put_number(gather, number, sink);
-    gather.push(sink, b' ');
-    put_number(gather, start, sink);
-    gather.push(sink, b' ');
-    put_number(gather, len, sink);
-    gather.push(sink, b' ');
-    put_color(gather, attributes.fg, sink);
-    gather.push(sink, b' ');
-    put_color(gather, attributes.bg, sink);
-    gather.push(sink, b' ');
-    put_number(gather, attributes.modifier.bits() as usize, sink);
-    gather.push(sink, b'\n');
+    print.extend(sink, b"s ");
+    put_number(print, number, sink);
+    print.push(sink, b' ');
+    put_number(print, start, sink);
+    print.push(sink, b' ');
+    put_number(print, len, sink);
+    print.push(sink, b' ');
+    put_color(print, attributes.fg, sink);
+    print.push(sink, b' ');
+    put_color(print, attributes.bg, sink);
+    print.push(sink, b' ');
+    put_number(print, attributes.modifier.bits() as usize, sink);
+    print.push(sink, b'\n');
 }

@@ -8,7 +8,7 @@ abbrev pub invariant-loop-column : goal.invariant-loop-column
 invariant-loop-column g l =
     let k = g.K.Sink in
     (l.column ≤ length l.row) × ((done : List ℕ)
-    × Gathers (k.told l.fn.sink) (k.told l.sink) l.fn.gather l.gather done
+    × Gathers (k.told l.fn.sink) (k.told l.sink) l.fn.print l.print done
     × (done ++ symbols_from l.row l.column ≡ codes "r " ++ symbols_of (visible l.row)))
 
 abbrev pub decreases-loop-column : goal.decreases-loop-column

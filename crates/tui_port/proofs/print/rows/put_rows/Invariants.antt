@@ -6,4 +6,4 @@ use Rattle.tui_port.proofs.print.rows.put_rows.Given as goal
 abbrev pub invariant-rows : goal.invariant-rows
 invariant-rows g l =
     let k = g.K.Sink in
-    Gathers (k.told l.fn.sink) (k.told l.sink) l.fn.gather l.gather (flat_map row_line (take l.number l.buf.rows))
+    Gathers (k.told l.fn.sink) (k.told l.sink) l.fn.print l.print (flat_map row_line (take l.number l.buf.rows))

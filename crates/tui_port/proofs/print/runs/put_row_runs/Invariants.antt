@@ -10,7 +10,7 @@ invariant-loop-start g l =
     let k = g.K.Sink in
     (l.start ≤ length l.row)
     × ((runs : List StyleRun) × RunsBefore l.row l.start runs
-    × Gathers (k.told l.fn.sink) (k.told l.sink) l.fn.gather l.gather (flat_map (run_line l.number) runs))
+    × Gathers (k.told l.fn.sink) (k.told l.sink) l.fn.print l.print (flat_map (run_line l.number) runs))
 
 abbrev pub decreases-loop-start : goal.decreases-loop-start
 decreases-loop-start g l = length l.row - l.start

@@ -8,4 +8,4 @@ invariant-rows g l =
     let k = g.K.Sink in
     (done : List ℕ)
     × ((rest : List ℕ) → AreRunLines l.number (drop l.number l.buf.rows) rest → AreRunLines 0 l.buf.rows (done ++ rest))
-    × Gathers (k.told l.fn.sink) (k.told l.sink) l.fn.gather l.gather done
+    × Gathers (k.told l.fn.sink) (k.told l.sink) l.fn.print l.print done

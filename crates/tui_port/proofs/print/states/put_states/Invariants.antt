@@ -7,4 +7,4 @@ abbrev pub invariant-items : goal.invariant-items
 invariant-items g l =
     let k = g.K.Sink in
     (done : List ℕ) × (state_lines 0 l.scene ≡ done ++ state_lines l.number (drop l.number l.scene))
-    × Gathers (k.told l.fn.sink) (k.told l.sink) l.fn.gather l.gather done
+    × Gathers (k.told l.fn.sink) (k.told l.sink) l.fn.print l.print done

@@ -2,7 +2,7 @@ use Rattle.std.proofs.Common.{rules, ◌≡◌, [], ◌++◌, take, ap, ◌∙�
 use Rattle.std.proofs.lemmas.List.{take-append-drop}
 use Rattle.tui_port.proofs.Outside.{Puts-then}
 use Rattle.tui_port.proofs.Gathering.{put_with}
-use Rattle.tui_port.proofs.gather.Gather.extend_past.Goals as goal
+use Rattle.tui_port.proofs.print.Print.extend_past.Goals as goal
 
 pub returns-else-rest-lt-ROOM : goal.returns-else-rest-lt-ROOM
 returns-else-rest-lt-ROOM g c =
