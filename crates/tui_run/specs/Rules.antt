@@ -25,3 +25,7 @@ pub data Task (R : Type 0) : Type 1 where
 pub record Rules (C R : Type 0) : Type 1 where
   pub named : C → List (String Global) → Type 0
   pub task : C → Task R
+
+-- those of a program whose commands all read a value
+abbrev pub reading_rules : {C R : Type 0} → (C → List (String Global) → Type 0) → (C → Reading R) → Rules C R
+reading_rules named reading = record { named = named; task = λ command. reads (reading command) }

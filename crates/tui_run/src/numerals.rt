@@ -5,16 +5,19 @@ ghost use Rattle.tui_run.specs.Words.{HaveNumber, HaveNumbers, IsOnly, Write};
 
 use crate::words::begin;
 
-/// Which numbers a word may write: in decimal digits, so many at most, and from one bound to another, both included.
+/// Which numbers a word may write: in decimal digits of ASCII alone, so many at most, and within two bounds.
 #[derive(Clone, Copy, Debug, PartialEq, Eq)]
 pub struct Numerals {
+    /// The most digits that the word may have, zeros before the number included.
     pub digits: usize,
+    /// The least number.
     pub least: u32,
+    /// The greatest number.
     pub most: u32,
 }
 
 impl Numerals {
-    /// The number that a word writes, if it is one of these.
+    /// The number that a word writes; None exactly where it writes none of these.
     pub fn number_of(self, word: &str) -> Option<u32>
         ensures some { IfSome result (Write self word.now) }
         ensures none { IsNone result → (n : ℕ) → Write self word.now n → ⊥ }
@@ -39,7 +42,7 @@ fn begins_with_plus(text: &str) -> bool
     }
 }
 
-/// The number behind this word, where the words are these two.
+/// The number behind this word; None exactly where the words are not this one and one such number.
 pub fn number_after(words: &[String], word: &str, allowed: Numerals) -> Option<u32>
     ensures { IsOnly (λ n. HaveNumber word.now allowed n words.now) result }
 {
@@ -50,7 +53,7 @@ pub fn number_after(words: &[String], word: &str, allowed: Numerals) -> Option<u
     }
 }
 
-/// The two numbers behind this word, where the words are these three.
+/// The two numbers behind this word; None exactly where the words are not this one and two such numbers.
 pub fn numbers_after(words: &[String], word: &str, allowed: Numerals) -> Option<(u32, u32)>
     ensures { IsOnly (λ p. HaveNumbers word.now allowed p.0 p.1 words.now) result }
 {

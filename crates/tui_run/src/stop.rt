@@ -15,9 +15,9 @@ use tui_port::WriteFault;
 pub enum Stop<R> {
     /// The value is refused; nothing is written yet.
     Refused(R),
-    /// A put failed.
+    /// A put failed; the sink holds the first bytes of the output.
     WriteFault,
-    /// The memory was not there.
+    /// The memory was not there; nothing is written, or a part of the output that the program's rules let stand alone.
     NoMemory,
 }
 

@@ -14,8 +14,9 @@ pub returns-in-Err-NotJson : goal.returns-in-Err-NotJson
 returns-in-Err-NotJson g c =
     let ok = c.in-Ok.ensures.ok in
     let no_reading = c.in-Err-NotJson.ensures.not_json (ap (λ x. Err x) c.in-Err-NotJson.field-0-is) in
-    rw c.if_put-in-Err-NotJson.ensures (ends_line (g.J.Job.reading c.args.job.now) _ c.put_if-in-Err-NotJson.result written.NotJson (codes "refused: not JSON\n")
-    ((c.in-Ok.bytes.items, record { taken = ok.0; end = ok.1; within = ok.2; quiet = search rules }, no_reading), refl) c.put_if-in-Err-NotJson.ensures)
+    let put = c.put_if-in-Err-NotJson in
+    rw c.if_put-in-Err-NotJson.ensures (ends_line (g.J.Job.reading c.args.job.now) _ put.result written.NotJson (codes "refused: not JSON\n")
+    ((c.in-Ok.bytes.items, record { taken = ok.0; end = ok.1; within = ok.2; quiet = search rules }, no_reading), refl) put.ensures)
 
 pub returns-in-Ok-json_of : goal.returns-in-Ok-json_of
 returns-in-Ok-json_of g c =
