@@ -3,7 +3,8 @@ use Rattle.std.specs.Prelude.{ℕ, List, [], Some, String}
 use Rattle.std.specs.declared.alloc.Global.{Global}
 use Rattle.tui_port.specs.Causes.{Told}
 use Rattle.tui_port.specs.Memory.{SinkState}
-use Rattle.tui_shell.specs.Endings.{Ends, call_of}
+use Rattle.tui_run.specs.Call.{call_of}
+use Rattle.tui_shell.specs.Endings.{Ends}
 use Rattle.tui_shell.specs.declared.ended.Ended.{Ended}
 
 -- bytes that are told, and a count of faults

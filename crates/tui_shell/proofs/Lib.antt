@@ -1,5 +1,4 @@
-pub mod Ending
-pub mod Completeness
-pub mod Word
+pub mod ByEnding
+pub mod Commands
 pub mod Drawn
 pub mod Showing

@@ -2,8 +2,7 @@ pub mod Refusal
 pub mod Commands
 pub mod Drawn
 pub mod Demo
+pub mod Ended
 pub mod Endings
-pub mod Complete
-pub mod Status
-pub mod Words
 pub mod Laws
+pub mod ByEnding

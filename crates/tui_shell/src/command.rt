@@ -1,113 +1,96 @@
-//! The whole of a run, from the bytes read to the bytes written.
+//! The commands: their words, what they read, and what they write.
 
-ghost use Rattle.std.specs.Prelude.{◌≡◌, ◌⊎◌};
-ghost use Rattle.serde_json.specs.View.{view};
+ghost use Rattle.tui_run.specs.Endings.{AnswersWith, no_refusal, nothing};
 ghost use Rattle.tui_schema.specs.Scene.{reading_data};
-ghost use Rattle.tui_shell.specs.Commands.{AreScene, AreWrong};
-ghost use Rattle.tui_shell.specs.Complete.{IsComplete, IsCompleteDemo};
-ghost use Rattle.tui_shell.specs.Endings.{Ends, EndsWith, IsDueFor, IsDueOf, call_of};
+ghost use Rattle.tui_shell.specs.Drawn.{IsShown};
 
+use crate::bad_field::BadField;
 use crate::demo::show_demo;
 use crate::drawing::drawn;
-use crate::ended::Ended;
-use crate::json::{JsonError, json_of};
-use crate::leftovers::Leftovers;
 use crate::refusal::put_field;
-use crate::words::{demo_number, is_scene};
 use serde_json::Value;
 use std::alloc::Global;
-use tui_cells::NoMemory;
-use tui_port::{ReadEnd, Sink, Source, put_if, read_all, write_screen};
+use tui_port::{Sink, Source, write_screen};
+use tui_run::{
+    Command, Ending, Job, Leftovers, Numerals, Stop, is_word, number_after, run_json, told,
+};
 use tui_schema::{Reading, SceneError, scene_of};
 
-/// Runs the command that the words name: `scene` alone reads a scene in JSON (docs/SCENE.md) from the source, draws it and
-/// writes the screen to the sink; `demo` and a number from 1 to 100000, in one to six digits, reads nothing, draws a list of so
-/// many items beside so many words, and writes a line on them and the rows of the screen.
-///
-/// With `scene` it ends Ok only where the source was read to its end within 1,048,576 bytes, these bytes are JSON that the
-/// schema accepts, no read and no put failed, and the sink holds what it held and then the print of the buffer that a run over
-/// the scene's widgets reaches from a blank buffer. With `demo` it ends Ok only where no put failed and the sink holds what it
-/// held and then that line and these rows. Every other ending has its cause; see `Ended`.
-#[tactic(auto, using(crate::proofs::Completeness::complete, crate::proofs::Completeness::only_usage))]
-pub fn show<S: Source, K: Sink>(
-    alloc: Global,
-    words: &[String],
-    source: &mut S,
-    sink: &mut K,
-) -> Ended
-    ensures ends { Ends words.now (call_of (S.told source.old) (S.told source.new) (K.told sink.old) (K.told sink.new)) result }
-    ensures complete { IsComplete words.now (call_of (S.told source.old) (S.told source.new) (K.told sink.old) (K.told sink.new)) result }
-    ensures demo { IsCompleteDemo words.now (call_of (S.told source.old) (S.told source.new) (K.told sink.old) (K.told sink.new)) result }
-    ensures usage { AreWrong words.now → (result ≡ Ended.Usage) ⊎ (result ≡ Ended.WriteFault) }
-{
-    run(alloc, words, source, sink, Leftovers::Dropped)
+/// A command of the program.
+#[derive(Clone, Copy, Debug, PartialEq, Eq)]
+pub enum ShowCommand {
+    /// `scene` reads a scene, and writes its screen.
+    Scene,
+    /// `demo N` draws so many items beside so many words, from 1 to 100000, and writes a line on them and the screen's rows.
+    Demo(u32),
 }
 
-/// The same, where the caller says what becomes of the values that the run made.
-pub(crate) fn run<S: Source, K: Sink>(
-    alloc: Global,
-    words: &[String],
-    source: &mut S,
-    sink: &mut K,
-    leftovers: Leftovers,
-) -> Ended
-    ensures { Ends words.now (call_of (S.told source.old) (S.told source.new) (K.told sink.old) (K.told sink.new)) result }
-{
-    if is_scene(words) {
-        return run_scene(alloc, words, source, sink, leftovers);
-    }
-    match demo_number(words) {
-        Some(n) => show_demo(alloc, n, sink),
-        None => Ended::Usage.if_put(put_if(true, sink, b"refused: usage\n")),
-    }
-}
+impl Command for ShowCommand {
+    ghost use Rattle.tui_shell.specs.Endings.{show_rules};
 
-fn run_scene<S: Source, K: Sink>(
-    alloc: Global,
-    words: &[String],
-    source: &mut S,
-    sink: &mut K,
-    leftovers: Leftovers,
-) -> Ended
-    requires { AreScene words.now }
-    ensures { Ends words.now (call_of (S.told source.old) (S.told source.new) (K.told sink.old) (K.told sink.new)) result }
-{
-    let bytes = match read_all(alloc, source) {
-        Ok(bytes) => bytes,
-        Err(ReadEnd::ReadFault) => return Ended::ReadFault,
-        Err(ReadEnd::TooLong) => {
-            return Ended::TooLong.if_put(put_if(true, sink, b"refused: too long\n"));
+    type Refusal = BadField;
+
+    ghost rules = { show_rules };
+
+    fn of_words(words: &[String]) -> Option<ShowCommand> {
+        if is_word(words, "scene") {
+            return Some(ShowCommand::Scene);
         }
-        Err(ReadEnd::NoMemory) => return Ended::NoMemory,
-    };
-    match json_of(alloc, bytes) {
-        Ok(value) => {
-            let ended = show_value(alloc, &value, sink, leftovers);
-            leftovers.done_with(value);
-            ended
+        let counts = Numerals {
+            digits: 6,
+            least: 1,
+            most: 100_000,
+        };
+        match number_after(words, "demo", counts) {
+            Some(n) => Some(ShowCommand::Demo(n)),
+            None => None,
         }
-        Err(JsonError::NotJson) => Ended::NotJson.if_put(put_if(
-            true,
-            sink,
-            b"refused: not JSON\n",
-        )),
-        Err(JsonError::NoMemory) => Ended::NoMemory,
+    }
+
+    fn run<S: Source, K: Sink>(
+        &self,
+        alloc: Global,
+        source: &mut S,
+        sink: &mut K,
+        leftovers: Leftovers,
+    ) -> Ending<BadField> {
+        match self {
+            ShowCommand::Scene => run_json(self, alloc, source, sink, leftovers),
+            ShowCommand::Demo(n) => told(show_demo(alloc, *n, sink)),
+        }
     }
 }
 
-fn show_value<K: Sink>(alloc: Global, value: &Value, sink: &mut K, leftovers: Leftovers) -> Ended
-    ensures { EndsWith (IsDueFor (view value.now)) (K.told sink.old) (K.told sink.new) result }
-{
-    match scene_of(alloc, value) {
-        Ok(mut reading) => {
-            let ended = show_scene(alloc, &mut reading, sink, leftovers);
-            leftovers.done_with(reading);
-            ended
+impl Job for ShowCommand {
+    ghost use Rattle.tui_shell.specs.Endings.{scene_reading};
+
+    type Refusal = BadField;
+
+    ghost reading = { λ _. scene_reading };
+
+    fn answer<K: Sink>(
+        &self,
+        alloc: Global,
+        value: &Value,
+        sink: &mut K,
+        leftovers: Leftovers,
+    ) -> Result<(), Stop<BadField>> {
+        match scene_of(alloc, value) {
+            Ok(mut reading) => {
+                let answer = show_scene(alloc, &mut reading, sink, leftovers);
+                leftovers.done_with(reading);
+                answer
+            }
+            Err(SceneError::BadField { item, field }) => Err(Stop::Refused(BadField {
+                item,
+                field,
+            })),
+            Err(SceneError::NoMemory) => Err(Stop::NoMemory),
         }
-        Err(SceneError::BadField { item, field }) => Ended::BadField { item, field }.if_put(
-            put_field(item, field, sink),
-        ),
-        Err(SceneError::NoMemory) => Ended::NoMemory,
+    }
+
+    fn refuse<K: Sink>(&self, refusal: BadField, sink: &mut K) -> bool {
+        put_field(refusal.item, refusal.field, sink)
     }
 }
 
@@ -116,15 +99,11 @@ fn show_scene<K: Sink>(
     reading: &mut Reading<'_>,
     sink: &mut K,
     leftovers: Leftovers,
-) -> Ended
-    ensures { EndsWith (IsDueOf (reading_data reading.old)) (K.told sink.old) (K.told sink.new) result }
+) -> Result<(), Stop<BadField>>
+    ensures { AnswersWith (IsShown (reading_data reading.old)) nothing no_refusal (K.told sink.old) (K.told sink.new) result }
 {
-    match drawn(alloc, reading.width, reading.height, &mut reading.scene) {
-        Ok(buffer) => {
-            let all = write_screen(&buffer, &reading.scene, sink).is_ok();
-            leftovers.done_with(buffer);
-            Ended::Ok.if_put(all)
-        }
-        Err(NoMemory) => Ended::NoMemory,
-    }
+    let buffer = drawn(alloc, reading.width, reading.height, &mut reading.scene)?;
+    write_screen(&buffer, &reading.scene, sink)?;
+    leftovers.done_with(buffer);
+    Ok(())
 }

@@ -1,8 +1,10 @@
 //! How a run of the program ends.
 
-ghost use Rattle.std.specs.Prelude.{◌≡◌, if◌then◌else◌};
+ghost use Rattle.std.specs.Prelude.{◌≡◌};
 
+use crate::bad_field::BadField;
 use std::process::ExitCode;
+use tui_run::{Broken, Ending, Written};
 use tui_schema::Field;
 
 /// How a run ends. Only `Ok` has written a screen whole; the endings from `Usage` to `BadField` have written one line that says so.
@@ -26,9 +28,31 @@ pub enum Ended {
     NoMemory,
 }
 
+impl From<Ending<BadField>> for Ended {
+    ghost use Rattle.tui_shell.specs.Ended.{ending_of};
+
+    ghost from_gives = { λ ending ended. ending_of ended ≡ ending };
+
+    fn from(ending: Ending<BadField>) -> Ended {
+        match ending {
+            Ending::Written(Written::Output) => Ended::Ok,
+            Ending::Written(Written::Usage) => Ended::Usage,
+            Ending::Written(Written::TooLong) => Ended::TooLong,
+            Ending::Written(Written::NotJson) => Ended::NotJson,
+            Ending::Written(Written::Refused(BadField { item, field })) => Ended::BadField {
+                item,
+                field,
+            },
+            Ending::Broken(Broken::ReadFault) => Ended::ReadFault,
+            Ending::Broken(Broken::WriteFault) => Ended::WriteFault,
+            Ending::Broken(Broken::NoMemory) => Ended::NoMemory,
+        }
+    }
+}
+
 impl Ended {
     ghost use Rattle.std.specs.Process.{exit_status};
-    ghost use Rattle.tui_shell.specs.Status.{status_of};
+    ghost use Rattle.tui_shell.specs.Ended.{status_of};
 
     /// The exit status of the program.
     pub fn status(&self) -> u8
@@ -51,12 +75,5 @@ impl Ended {
         ensures { exit_status result ≡ status_of self.now }
     {
         ExitCode::from(self.status())
-    }
-
-    /// This ending where everything was put, else a fault of the sink.
-    pub(crate) fn if_put(self, all: bool) -> Ended
-        ensures { result ≡ (if all then self else Ended.WriteFault) }
-    {
-        if all { self } else { Ended::WriteFault }
     }
 }

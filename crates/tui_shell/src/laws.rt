@@ -1,5 +1,6 @@
-//! What holds of all drawn scenes.
+//! What holds of all drawn scenes, and of all endings.
 
+ghost use Rattle.tui_shell.specs.ByEnding.{SaysTheSame};
 ghost use Rattle.tui_shell.specs.Laws.{DemoIsUnique, DrawingIsUnique, OutputIsUnique};
 
 use tui_para::text_wraps_exactly_once;
@@ -14,3 +15,9 @@ pub fn scene_laws()
     text_wraps_exactly_once();
     print_laws();
 }
+
+/// How a run ends, as `show` says it by the rules of the program, is what `tui_shell/specs/ByEnding.antt` says of each ending.
+#[tactic(auto, using(crate::proofs::ByEnding::says_the_same))]
+pub fn ending_laws()
+    ensures { SaysTheSame }
+{}

@@ -1,19 +1,17 @@
 //! The commands `scene` and `demo`, from the words and the bytes that are read to the bytes that are written.
 #![tactic(auto)]
 
-pub mod command;
+mod bad_field;
+mod command;
 mod demo;
 mod drawing;
-pub mod ended;
-mod json;
+mod ended;
 mod laws;
-mod leftovers;
-pub mod program;
+mod program;
 mod refusal;
-pub mod words;
 
-pub use command::show;
+pub use bad_field::BadField;
+pub use command::ShowCommand;
 pub use ended::Ended;
-pub use laws::scene_laws;
-pub use program::run_program;
-pub use words::words_of;
+pub use laws::{ending_laws, scene_laws};
+pub use program::{run_program, show};

@@ -1,0 +1,27 @@
+//! Runs of programs whose words name a command: what a command reads, what it writes, and how each run ends.
+#![tactic(auto)]
+
+mod broken;
+mod command;
+mod ending;
+mod job;
+mod json;
+mod leftovers;
+mod numerals;
+mod program;
+mod reader;
+mod stop;
+mod words;
+mod written;
+
+pub use broken::Broken;
+pub use command::Command;
+pub use ending::Ending;
+pub use job::{Job, run_json};
+pub use leftovers::Leftovers;
+pub use numerals::{Numerals, number_after, numbers_after};
+pub use program::{run, run_program};
+pub use reader::Reader;
+pub use stop::{Stop, told};
+pub use words::{are_none, is_word, words_of};
+pub use written::Written;

@@ -1,0 +1,41 @@
+-- The command that words name.
+use Rattle.std.proofs.Common.{◌≡◌, ℕ, List, [], ◌∷◌, String, Global, refl, sym, ap, ◌∙◌, arith}
+use Rattle.tui_run.specs.Endings.{NameNone}
+use Rattle.tui_run.specs.declared.broken.Broken.TheVariants as broken
+use Rattle.tui_run.specs.declared.ending.Ending.TheVariants as ending
+use Rattle.tui_run.specs.declared.written.Written.TheVariants as written
+use Rattle.tui_shell.specs.Commands.{AreDemo, AreScene, AreWrong, Names}
+use Rattle.tui_shell.specs.Ended.{ending_of}
+use Rattle.tui_shell.specs.Endings.{show_rules}
+use Rattle.tui_shell.specs.declared.command.ShowCommand.{ShowCommand}
+use Rattle.tui_shell.specs.declared.command.ShowCommand.TheVariants as command
+use Rattle.tui_shell.specs.declared.ended.Ended.{Ended}
+use Rattle.tui_shell.specs.declared.ended.Ended.TheVariants as ended
+
+-- no words are those of both commands
+pub not_both : (ws : List (String Global)) (n : ℕ) → AreScene ws → AreDemo n ws → ⊥
+not_both ws n scene demo = two_is_one (sym scene ∙ demo.1)
+  where
+    two_is_one : {v w x : List ℕ} → v ∷ [] ≡ w ∷ x ∷ [] → ⊥
+    two_is_one e = cc
+
+pub only_scene : (ws : List (String Global)) → AreScene ws → (other : ShowCommand) → Names other ws → other ≡ command.Scene
+only_scene ws are command.Scene scene = refl
+only_scene ws are (command.Demo m) demo = absurd (not_both ws m are demo)
+
+pub only_demo : (ws : List (String Global)) (n : ℕ) → AreDemo n ws → ((m : ℕ) → AreDemo m ws → m ≡ n) → (other : ShowCommand) → Names other ws →
+    other ≡ command.Demo n
+only_demo ws n are one command.Scene scene = absurd (not_both ws n scene are)
+only_demo ws n are one (command.Demo m) demo = ap (λ (k : ℕ). command.Demo k) (one m demo)
+
+-- words that are those of no command name none
+pub name_none : (ws : List (String Global)) → AreWrong ws → NameNone show_rules ws
+name_none ws wrong command.Scene are = wrong.0 are
+name_none ws wrong (command.Demo n) are = wrong.1 n are
+
+-- an ending is told from the others by what it is for every program
+pub usage_is : (e : Ended) → ending_of e ≡ ending.Written written.Usage → e ≡ ended.Usage
+usage_is e is = grind arith
+
+pub fault_is : (e : Ended) → ending_of e ≡ ending.Broken broken.WriteFault → e ≡ ended.WriteFault
+fault_is e is = grind arith
