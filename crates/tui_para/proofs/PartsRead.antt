@@ -4,8 +4,10 @@ use Rattle.std.proofs.lemmas.Bool.{false≢true}
 use Rattle.std.proofs.lemmas.List.{append-nil, append_assoc, drop_all}
 use Rattle.std.specs.List.{between}
 use Rattle.std.specs.Prelude.{◌↔◌}
-use Rattle.tui_text.specs.Grapheme.{Glyph, glyph_of, glyph_blank, glyph_width}
+use Rattle.tui_text.specs.Grapheme.{Glyph, glyph_of, glyph_width}
 use Rattle.tui_text.specs.declared.grapheme.StyledGrapheme.{StyledGrapheme}
+use Rattle.tui_para.specs.Rule.{glyph_rule}
+use Rattle.tui_para.specs.declared.wrap.Wrap.{Wrap}
 use Rattle.tui_para.specs.Given.{SourceReads}
 use Rattle.tui_para.specs.Lines.{IsFirstOf}
 use Rattle.tui_para.specs.Marked.{IsPart, glyphs_of, part_of}
@@ -19,14 +21,14 @@ use Rattle.tui_para.proofs.Parts.{no_lines}
 use Rattle.tui_para.proofs.Sources.{kept-append, kept-behind, reads_none, reads_then}
 
 -- what holds of equal values
-same_rest : (parts : List (List Glyph)) (a b : Bool) (w v : ℕ) (trim other : Bool) (xs ys : List Glyph) → a ≡ b → w ≡ v → trim ≡ other → xs ≡ ys → LinesOfRest a w trim xs parts → LinesOfRest b v other ys parts
-same_rest parts a b w v trim other xs ys new width trims whole h =
-    subst (λ k. LinesOfRest k v other ys parts) new (subst (λ n. LinesOfRest a n other ys parts) width (subst (λ k. LinesOfRest a w k ys parts) trims (subst (λ gs. LinesOfRest a w trim gs parts) whole h)))
+same_rest : (parts : List (List Glyph)) (a b : Bool) (w v : ℕ) (way other : Wrap) (xs ys : List Glyph) → a ≡ b → w ≡ v → way ≡ other → xs ≡ ys → LinesOfRest a w way xs parts → LinesOfRest b v other ys parts
+same_rest parts a b w v way other xs ys new width trims whole h =
+    subst (λ k. LinesOfRest k v other ys parts) new (subst (λ n. LinesOfRest a n other ys parts) width (subst (λ k. LinesOfRest a w k ys parts) trims (subst (λ gs. LinesOfRest a w way gs parts) whole h)))
 
-same_has : (parts : List (List Glyph)) (w v : ℕ) (trim other : Bool) (xs ys : List Glyph) → w ≡ v → trim ≡ other → xs ≡ ys → HasLines glyph_blank glyph_width w trim xs parts → HasLines glyph_blank glyph_width v other ys parts
-same_has parts w v trim other xs ys width trims whole h =
-    let has = HasLines glyph_blank glyph_width in
-    subst (λ n. has n other ys parts) width (subst (λ k. has w k ys parts) trims (subst (λ gs. has w trim gs parts) whole h))
+same_has : (parts : List (List Glyph)) (w v : ℕ) (way other : Wrap) (xs ys : List Glyph) → w ≡ v → way ≡ other → xs ≡ ys → HasLines (glyph_rule w way) xs parts → HasLines (glyph_rule v other) ys parts
+same_has parts w v way other xs ys width trims whole h =
+    let has = λ (n : ℕ) (k : Wrap). HasLines (glyph_rule n k) in
+    subst (λ n. has n other ys parts) width (subst (λ k. has w k ys parts) trims (subst (λ gs. has w way gs parts) whole h))
 
 -- the parts where no grapheme is left
 module _ {I : Type 0} (s : TextLine I) (old : s.is_new ≡ false) (gone : drop s.place (glyphs_of s.line) ≡ []) (glyphs : List Glyph) (none : glyphs ≡ []) where
@@ -35,7 +37,7 @@ module _ {I : Type 0} (s : TextLine I) (old : s.is_new ≡ false) (gone : drop s
 
   pub only_none : (parts : List (List Glyph)) → PartsWith s glyphs parts ↔ (parts ≡ [])
   only_none parts = (
-    λ h. ⊎_elim (λ e. absurd (false≢true (sym old ∙ e.0))) (λ e. no_lines glyph_blank glyph_width s.width s.trim _ parts empty e.1) h,
+    λ h. ⊎_elim (λ e. absurd (false≢true (sym old ∙ e.0))) (λ e. no_lines (glyph_rule s.width s.wrap) _ parts empty e.1) h,
     λ e. subst (PartsWith s glyphs) (sym e) (inr (old, empty)),
   )
 
@@ -46,7 +48,7 @@ no_parts s old none = only_none s old (ap (drop s.place) none ∙ drop_all s.pla
 module _ {I : Type 0} (gives : I → Option StyledGrapheme → I → Type 0) where
   -- nothing is read yet
   pub HasRead-none : (s : TextLine I) → HasRead gives s s
-  HasRead-none s = record { taken = []; reads = reads_none gives s.source; behind = sym (append-nil (drop s.place (glyphs_of s.line))); is_new = refl; width = refl; trim = refl }
+  HasRead-none s = record { taken = []; reads = reads_none gives s.source; behind = sym (append-nil (drop s.place (glyphs_of s.line))); is_new = refl; width = refl; wrap = refl }
 
   -- and then more
   pub HasRead-then : (s t u : TextLine I) → HasRead gives s t → HasRead gives t u → HasRead gives s u
@@ -60,7 +62,7 @@ module _ {I : Type 0} (gives : I → Option StyledGrapheme → I → Type 0) whe
             (subst (λ w. after ≡ before ++ kept glyph_width w (map glyph_of b.taken)) a.width b.behind);
         is_new = b.is_new ∙ a.is_new;
         width = b.width ∙ a.width;
-        trim = b.trim ∙ a.trim;
+        wrap = b.wrap ∙ a.wrap;
       }
 
   module _ (s t : TextLine I) (r : HasRead gives s t) (glyphs : List Glyph) where
@@ -74,8 +76,8 @@ module _ {I : Type 0} (gives : I → Option StyledGrapheme → I → Type 0) whe
     -- the parts stay the same
     pub read_parts : (parts : List (List Glyph)) → PartsWith t glyphs parts ↔ PartsWith s (map glyph_of r.taken ++ glyphs) parts
     read_parts parts = (
-      same_rest parts t.is_new s.is_new t.width s.width t.trim s.trim _ _ r.is_new r.width r.trim read_from,
-      same_rest parts s.is_new t.is_new s.width t.width s.trim t.trim _ _ (sym r.is_new) (sym r.width) (sym r.trim) (sym read_from),
+      same_rest parts t.is_new s.is_new t.width s.width t.wrap s.wrap _ _ r.is_new r.width r.wrap read_from,
+      same_rest parts s.is_new t.is_new s.width t.width s.wrap t.wrap _ _ (sym r.is_new) (sym r.width) (sym r.wrap) (sym read_from),
     )
 
   -- it is over
@@ -92,17 +94,17 @@ module _ {I : Type 0} (gives : I → Option StyledGrapheme → I → Type 0) whe
   }
 
   -- or its next part is passed
-  module _ (s t u : TextLine I) (p : Place) (part : Part) (source : u.source ≡ t.source) (line : glyphs_of u.line ≡ glyphs_of t.line) (width : u.width ≡ t.width) (trim : u.trim ≡ t.trim) (old : u.is_new ≡ false) (place : u.place ≡ p.next)
+  module _ (s t u : TextLine I) (p : Place) (part : Part) (source : u.source ≡ t.source) (line : glyphs_of u.line ≡ glyphs_of t.line) (width : u.width ≡ t.width) (way : u.wrap ≡ t.wrap) (old : u.is_new ≡ false) (place : u.place ≡ p.next)
       (at : part ≡ record { start = p.start; end = p.end; width = p.width }) where
     from : (glyphs : List Glyph) → glyphs_from u u.place glyphs ≡ glyphs_from t p.next glyphs
     from glyphs =
         ap (λ k. drop k (glyphs_of u.line) ++ kept glyph_width u.width glyphs) place
         ∙ (ap (λ k. drop p.next k ++ kept glyph_width u.width glyphs) line ∙ ap (λ w. drop p.next (glyphs_of t.line) ++ kept glyph_width w glyphs) width)
 
-    left : (glyphs : List Glyph) (parts : List (List Glyph)) → HasLines glyph_blank glyph_width t.width t.trim (glyphs_from t p.next glyphs) parts ↔ PartsWith u glyphs parts
+    left : (glyphs : List Glyph) (parts : List (List Glyph)) → HasLines (glyph_rule t.width t.wrap) (glyphs_from t p.next glyphs) parts ↔ PartsWith u glyphs parts
     left glyphs parts = (
-      λ h. inr (old, same_has parts t.width u.width t.trim u.trim _ _ (sym width) (sym trim) (sym (from glyphs)) h),
-      λ h. ⊎_elim (λ e. absurd (false≢true (sym old ∙ e.0))) (λ e. same_has parts u.width t.width u.trim t.trim _ _ width trim (from glyphs) e.1) h,
+      λ h. inr (old, same_has parts t.width u.width t.wrap u.wrap _ _ (sym width) (sym way) (sym (from glyphs)) h),
+      λ h. ⊎_elim (λ e. absurd (false≢true (sym old ∙ e.0))) (λ e. same_has parts u.width t.width u.wrap t.wrap _ _ width way (from glyphs) e.1) h,
     )
 
     shown : between p.start p.end (glyphs_of t.line) ≡ part_of (glyphs_of u.line) part
@@ -118,7 +120,7 @@ module _ {I : Type 0} (gives : I → Option StyledGrapheme → I → Type 0) whe
       taken = r.taken;
       reads = subst (λ o. SourceReads gives s.source r.taken o) (sym source) r.reads;
       first = λ glyphs ended. subst (λ k. IsFirstOf (Some k) (PartsWith s (map glyph_of r.taken ++ glyphs)) (PartsWith u glyphs)) shown
-          (first_along (Some (between p.start p.end (glyphs_of t.line))) (PartsWith t glyphs) (PartsWith s (map glyph_of r.taken ++ glyphs)) (HasLines glyph_blank glyph_width t.width t.trim (glyphs_from t p.next glyphs)) (PartsWith u glyphs)
+          (first_along (Some (between p.start p.end (glyphs_of t.line))) (PartsWith t glyphs) (PartsWith s (map glyph_of r.taken ++ glyphs)) (HasLines (glyph_rule t.width t.wrap) (glyphs_from t p.next glyphs)) (PartsWith u glyphs)
           (read_parts s t r glyphs) (left glyphs) (k.first glyphs (λ e. ended (source ∙ e))));
       ends = λ e. cc;
     }

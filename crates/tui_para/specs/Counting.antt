@@ -2,7 +2,8 @@
 use Rattle.std.specs.Prelude.{ℕ, ◌+◌, Bool, true, false, cond, not, ◌&&◌, nat_lt, List, [], ◌∷◌, length, sum_by}
 use Rattle.tui_cells.specs.declared.style.Style.{Style}
 use Rattle.tui_para.specs.Places.{wrap}
-use Rattle.tui_text.specs.Grapheme.{glyph_blank, glyph_width}
+use Rattle.tui_para.specs.Rule.{Rule, glyph_rule}
+use Rattle.tui_para.specs.declared.wrap.Wrap.{Wrap}
 use Rattle.tui_text.specs.Graphemes.{line_graphemes}
 use Rattle.tui_text.specs.Line.{LineData}
 use Rattle.tui_text.specs.Text.{TextData}
@@ -60,9 +61,9 @@ hard w c s = cond (overflows w c s) (end_line c) c
 abbrev pub step : ℕ → Bool → Counter → ℕ → Bool → Counter
 step w trim c s is_blank = cond is_blank (on_blank w trim (after_word c) s) (add_letter (hard w (soft w c s) s) s)
 
-abbrev pub steps : {A : Type 0} → (A → Bool) → (A → ℕ) → ℕ → Bool → Counter → List A → Counter
-steps blank size w trim c [] = c
-steps blank size w trim c (x ∷ xs) = steps blank size w trim (step w trim c (size x) (blank x)) xs
+abbrev pub steps : {A : Type 0} → Rule A → Counter → List A → Counter
+steps rule c [] = c
+steps rule c (x ∷ xs) = steps rule (step rule.width rule.trim c (rule.size x) (rule.blank x)) xs
 
 -- the lines, with the one that is under way
 abbrev pub counted : Counter → ℕ
@@ -73,9 +74,9 @@ abbrev pub cut_count : Counter → Counter
 cut_count c = record c { lines = saturated c.lines }
 
 -- the lines into which a text line is wrapped
-abbrev pub wrapped_len : ℕ → Bool → Style → LineData → ℕ
-wrapped_len w trim base line = length (wrap glyph_blank glyph_width w trim (line_graphemes base line))
+abbrev pub wrapped_len : ℕ → Wrap → Style → LineData → ℕ
+wrapped_len w way base line = length (wrap (glyph_rule w way) (line_graphemes base line))
 
 -- the lines into which the text's lines are wrapped together
-abbrev pub wrapped_text_len : ℕ → Bool → TextData → ℕ
-wrapped_text_len w trim text = sum_by (wrapped_len w trim text.style) text.lines
+abbrev pub wrapped_text_len : ℕ → Wrap → TextData → ℕ
+wrapped_text_len w way text = sum_by (wrapped_len w way text.style) text.lines

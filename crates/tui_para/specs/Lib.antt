@@ -1,3 +1,4 @@
+pub mod Rule
 pub mod Wrapped
 pub mod Places
 pub mod Truncated

@@ -1,5 +1,6 @@
 -- Where a line stands among graphemes, in numbers of graphemes, and the lines of a list as a function.
 use Rattle.std.specs.Prelude.{ℕ, zero, suc, ◌-◌, Bool, false, cond, not, ◌&&◌, nat_le, nat_lt, List, [], ◌∷◌, length, take, drop, sum_by}
+use Rattle.tui_para.specs.Rule.{Rule}
 use Rattle.tui_para.specs.Wrapped.{after_break, line_start, kept}
 
 -- the blanks at the front
@@ -29,19 +30,19 @@ abbrev pub line_len : {A : Type 0} → (A → Bool) → (A → ℕ) → ℕ → 
 line_len blank size w xs = goes_on_for blank size false 0 0 w xs
 
 -- the lines of graphemes, n at most
-abbrev pub lines_of : {A : Type 0} → (A → Bool) → (A → ℕ) → ℕ → Bool → ℕ → List A → List (List A)
-lines_of blank size w trim zero xs = []
-lines_of blank size w trim (suc n) [] = []
-lines_of blank size w trim (suc n) (x ∷ xs) =
-    let s = line_start blank trim (x ∷ xs) in
-    let k = line_len blank size w s in
-    take k s ∷ lines_of blank size w trim n (after_break blank size (w - sum_by size (take k s)) (drop k s))
+abbrev pub lines_of : {A : Type 0} → Rule A → ℕ → List A → List (List A)
+lines_of rule zero xs = []
+lines_of rule (suc n) [] = []
+lines_of rule (suc n) (x ∷ xs) =
+    let s = line_start rule.blank rule.trim (x ∷ xs) in
+    let k = line_len rule.blank rule.size rule.width s in
+    take k s ∷ lines_of rule n (after_break rule (rule.width - sum_by rule.size (take k s)) (drop k s))
 
 -- the same where none is wider than w: one empty line where there is no grapheme
-abbrev pub wrap_kept : {A : Type 0} → (A → Bool) → (A → ℕ) → ℕ → Bool → List A → List (List A)
-wrap_kept blank size w trim [] = [] ∷ []
-wrap_kept blank size w trim (x ∷ xs) = lines_of blank size w trim (length (x ∷ xs)) (x ∷ xs)
+abbrev pub wrap_kept : {A : Type 0} → Rule A → List A → List (List A)
+wrap_kept rule [] = [] ∷ []
+wrap_kept rule (x ∷ xs) = lines_of rule (length (x ∷ xs)) (x ∷ xs)
 
 -- the lines into which graphemes are wrapped: the one list that `Wrapped` admits
-abbrev pub wrap : {A : Type 0} → (A → Bool) → (A → ℕ) → ℕ → Bool → List A → List (List A)
-wrap blank size w trim xs = wrap_kept blank size w trim (kept size w xs)
+abbrev pub wrap : {A : Type 0} → Rule A → List A → List (List A)
+wrap rule xs = wrap_kept rule (kept rule.size rule.width xs)

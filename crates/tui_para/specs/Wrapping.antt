@@ -2,14 +2,16 @@
 use Rattle.std.specs.Prelude.{◌≡◌, ◌≤◌, ◌⊎◌, ℕ, Bool, true, false, List, [], ◌++◌, length, drop, map, Option, Some, None, option_map, IfSome, sum_by}
 use Rattle.std.specs.List.{between}
 use Rattle.std.specs.declared.iter.Iterator.{Ghosts}
-use Rattle.tui_text.specs.Grapheme.{Glyph, glyph_of, glyph_blank, glyph_width}
+use Rattle.tui_text.specs.Grapheme.{Glyph, glyph_of, glyph_width}
 use Rattle.tui_text.specs.declared.alignment.Alignment.{Alignment}
 use Rattle.tui_text.specs.declared.grapheme.StyledGrapheme.{StyledGrapheme}
 use Rattle.tui_para.specs.Answers.{Answers, both}
 use Rattle.tui_para.specs.Given.{AllReady, Ready, SourceReads, line_answers, source_answers}
-use Rattle.tui_para.specs.Lines.{GlyphLine, glyph_line, CutAll, IsFirst, IsFirstOf, LinesAfter, TruncatesLine, WrapsLine, lines_from}
+use Rattle.tui_para.specs.Lines.{GlyphLine, glyph_line, CutAll, IsFirst, IsFirstOf, PartsThenLines, TruncatesLine, WrapsLine, lines_from}
 use Rattle.tui_para.specs.Marked.{IsPart, glyphs_of, part_of}
+use Rattle.tui_para.specs.Rule.{glyph_rule}
 use Rattle.tui_para.specs.Wrapped.{HasLines, WrapsKept, kept}
+use Rattle.tui_para.specs.declared.wrap.Wrap.{Wrap}
 use Rattle.tui_para.specs.declared.wrapping.breaking.Place.{Place}
 use Rattle.tui_para.specs.declared.wrapping.part.Part.{Part}
 use Rattle.tui_para.specs.declared.wrapping.text_line.TextLine.{TextLine}
@@ -21,18 +23,18 @@ abbrev pub glyphs_from : {I : Type 0} → TextLine I → ℕ → List Glyph → 
 glyphs_from s place glyphs = drop place (glyphs_of s.line) ++ kept glyph_width s.width glyphs
 
 -- the lines of the graphemes that are left of a text line: one at least where none was lent
-abbrev pub LinesOfRest : Bool → ℕ → Bool → List Glyph → List (List Glyph) → Type 0
-LinesOfRest is_new w trim glyphs parts = ((is_new ≡ true) × WrapsKept glyph_blank glyph_width w trim glyphs parts)
-    ⊎ ((is_new ≡ false) × HasLines glyph_blank glyph_width w trim glyphs parts)
+abbrev pub LinesOfRest : Bool → ℕ → Wrap → List Glyph → List (List Glyph) → Type 0
+LinesOfRest is_new w wrap glyphs parts = ((is_new ≡ true) × WrapsKept (glyph_rule w wrap) glyphs parts)
+    ⊎ ((is_new ≡ false) × HasLines (glyph_rule w wrap) glyphs parts)
 
 -- those that are not lent yet, where these graphemes are still to be read
 abbrev pub PartsWith : {I : Type 0} → TextLine I → List Glyph → List (List Glyph) → Type 0
-PartsWith s glyphs = LinesOfRest s.is_new s.width s.trim (glyphs_from s s.place glyphs)
+PartsWith s glyphs = LinesOfRest s.is_new s.width s.wrap (glyphs_from s s.place glyphs)
 
 -- the first of them is what stands at this place, and those after it begin at the next
 abbrev pub FirstLine : {I : Type 0} → TextLine I → Place → List Glyph → Type 0
 FirstLine s p glyphs = IsFirstOf (Some (between p.start p.end (glyphs_of s.line))) (PartsWith s glyphs)
-    (HasLines glyph_blank glyph_width s.width s.trim (glyphs_from s p.next glyphs))
+    (HasLines (glyph_rule s.width s.wrap) (glyphs_from s p.next glyphs))
 
 -- the place is that of the first line, whatever is still to be read
 pub record IsNextPlace {I : Type 0} (s : TextLine I) (p : Place) : Type 0 where
@@ -48,7 +50,7 @@ pub record HasRead {I : Type 0} (gives : I → Option StyledGrapheme → I → T
   pub behind : drop new.place (glyphs_of new.line) ≡ drop old.place (glyphs_of old.line) ++ kept glyph_width old.width (map glyph_of taken)
   pub is_new : new.is_new ≡ old.is_new
   pub width : new.width ≡ old.width
-  pub trim : new.trim ≡ old.trim
+  pub wrap : new.wrap ≡ old.wrap
 
 -- a text line read some graphemes and found its next part, or that there is none: this part is the first of those that
 -- are left, whatever is still to be read
@@ -62,7 +64,7 @@ pub record FindsPart {I : Type 0} (gives : I → Option StyledGrapheme → I →
 
 -- the lines of a wrapper, where these are the graphemes and the text lines that its iterators still give
 abbrev pub WrapperCuts : {O I : Type 0} → WordWrapper O I → List Glyph × List GlyphLine → List GlyphLine → Type 0
-WrapperCuts s x = LinesAfter (PartsWith s.current x.0) s.alignment (WrapsLine s.current.width s.current.trim) x.1
+WrapperCuts s x = PartsThenLines (PartsWith s.current x.0) s.alignment (WrapsLine s.current.width s.current.wrap) x.1
 
 -- those of a truncator, where these text lines are still given
 abbrev pub TruncatorCuts : {O I : Type 0} → LineTruncator O I → List GlyphLine → List GlyphLine → Type 0

@@ -6,11 +6,13 @@ ghost use Rattle.tui_text.specs.Text.{TextData};
 ghost use Rattle.tui_text.specs.declared.alignment.Alignment.{Alignment};
 ghost use Rattle.tui_para.specs.Lines.{GlyphLine};
 ghost use Rattle.tui_para.specs.Places.{wrap};
+ghost use Rattle.tui_para.specs.Rule.{glyph_rule};
 ghost use Rattle.tui_para.specs.TextLines.{gives_graphemes, gives_lines};
 ghost use Rattle.tui_para.specs.Truncated.{Truncated, truncate};
 ghost use Rattle.tui_para.specs.Wrapped.{IsTheOne, LeavesOutBlanks, Wrapped, kept};
 ghost use Rattle.tui_para.specs.WrappedText.{TruncatedText, WrappedText, truncate_text, wrap_text};
 ghost use Rattle.tui_para.specs.Wrapping.{TruncatorCanLend, TruncatorMayLend, TruncatorWillLend, WrapperCanLend, WrapperMayLend, WrapperWillLend};
+ghost use Rattle.tui_para.specs.declared.wrap.Wrap.{Wrap};
 
 use crate::text_lines::TextLines;
 use crate::truncator::LineTruncator;
@@ -19,14 +21,14 @@ use tui_text::{Alignment, Graphemes, StyledGrapheme};
 
 /// Exactly one list of lines wraps a list of graphemes, at every width of at least 1, with and without `trim`.
 pub fn wraps_exactly_once()
-    ensures { (w : ℕ) (trim : Bool) (graphemes : List Glyph) → 0 < w
-        → IsTheOne (Wrapped glyph_blank glyph_width w trim graphemes) (wrap glyph_blank glyph_width w trim graphemes) }
+    ensures { (w : ℕ) (way : Wrap) (graphemes : List Glyph) → 0 < w
+        → IsTheOne (Wrapped (glyph_rule w way) graphemes) (wrap (glyph_rule w way) graphemes) }
 {}
 
 /// Wrapping leaves out nothing but graphemes that are wider than the width, and blanks before and behind the lines: all
 /// others stand in the lines, each once and in their order.
 pub fn wrapping_leaves_out_blanks()
-    ensures { (w : ℕ) (trim : Bool) (graphemes : List Glyph) (lines : List (List Glyph)) → Wrapped glyph_blank glyph_width w trim graphemes lines
+    ensures { (w : ℕ) (way : Wrap) (graphemes : List Glyph) (lines : List (List Glyph)) → Wrapped (glyph_rule w way) graphemes lines
         → LeavesOutBlanks glyph_blank (kept glyph_width w graphemes) lines }
 {}
 
@@ -38,8 +40,8 @@ pub fn truncates_exactly_once()
 
 /// Exactly one list of lines wraps a text, at every width of at least 1, with and without `trim`.
 pub fn text_wraps_exactly_once()
-    ensures { (w : ℕ) (trim : Bool) (alignment : Alignment) (text : TextData) → 0 < w
-        → IsTheOne (WrappedText w trim alignment text) (wrap_text w trim alignment text) }
+    ensures { (w : ℕ) (way : Wrap) (alignment : Alignment) (text : TextData) → 0 < w
+        → IsTheOne (WrappedText w way alignment text) (wrap_text w way alignment text) }
 {}
 
 /// Exactly one list of lines is that of a text which isn't wrapped, at every width.

@@ -3,11 +3,12 @@
 ghost use Rattle.std.specs.Prelude.{◌≡◌, ◌↔◌, List, false, true, IfOk, MatchResult};
 ghost use Rattle.tui_text.specs.Grapheme.{Glyph};
 ghost use Rattle.tui_para.specs.Given.{AllReady, IsGlyph, MayGive, MayBe, SourceGives, WillGive, WillBe};
-ghost use Rattle.tui_para.specs.Lines.{GlyphLine, LinesOf, UnlessDone, WrapsLine};
+ghost use Rattle.tui_para.specs.Lines.{GlyphLine, LinesOf, GivenUnlessDone, WrapsLine};
 ghost use Rattle.tui_para.specs.Wrapping.{FindsLine, WrapperCanLend, WrapperMayLend, WrapperWillLend};
 
 use crate::composer::{LineComposer, WrappedLine};
 use crate::ends::read_lines;
+use crate::wrap::Wrap;
 use crate::wrapping::part::Part;
 use crate::wrapping::text_line::TextLine;
 use std::alloc::Global;
@@ -35,13 +36,13 @@ where
         ensures failed { result.failed ≡ false }
         ensures ready { AllReady O.Iterator I.Iterator lines → WrapperCanLend O.Iterator I.Iterator result }
         ensures may { (glyph_lines : List GlyphLine) → WrapperMayLend O.next_gives I.next_gives result glyph_lines
-            ↔ LinesOf (MayGive O.next_gives (MayBe I.next_gives) lines) (WrapsLine max_line_width trim) max_line_width glyph_lines }
+            ↔ LinesOf (MayGive O.next_gives (MayBe I.next_gives) lines) (WrapsLine max_line_width (record { trim = trim })) max_line_width glyph_lines }
         ensures will { (glyph_lines : List GlyphLine) → WrapperWillLend O.next_gives I.next_gives result glyph_lines
-            ↔ LinesOf (WillGive O.next_gives (WillBe I.next_gives) lines) (WrapsLine max_line_width trim) max_line_width glyph_lines }
+            ↔ LinesOf (WillGive O.next_gives (WillBe I.next_gives) lines) (WrapsLine max_line_width (record { trim = trim })) max_line_width glyph_lines }
     {
         WordWrapper {
             lines,
-            current: TextLine::new(alloc, max_line_width, trim),
+            current: TextLine::new(alloc, max_line_width, Wrap { trim }),
             alignment: Alignment::Left,
             done: false,
             failed: false,
@@ -95,7 +96,7 @@ where
     pub(crate) fn read_to_end(self)
         requires { WrapperCanLend O.Iterator I.Iterator self }
         ensures source { (glyphs : List Glyph) × SourceGives (MayGive I.next_gives IsGlyph) self.entry.current.source glyphs }
-        ensures lines { (glyph_lines : List GlyphLine) × UnlessDone self.entry.done (MayGive O.next_gives (MayBe I.next_gives) self.entry.lines) glyph_lines }
+        ensures lines { (glyph_lines : List GlyphLine) × GivenUnlessDone self.entry.done (MayGive O.next_gives (MayBe I.next_gives) self.entry.lines) glyph_lines }
     {
         let WordWrapper {
             lines,

@@ -2,11 +2,13 @@
 
 ghost use Rattle.std.specs.List.{between};
 ghost use Rattle.std.specs.Prelude.{◌≡◌, ◌≤◌, ◌<◌, ◌+◌, List, length, drop, take, map, cond, false, sum_by, All};
-ghost use Rattle.tui_text.specs.Grapheme.{Glyph, glyph_blank, glyph_width};
+ghost use Rattle.tui_text.specs.Grapheme.{Glyph};
 ghost use Rattle.tui_para.specs.Mark.{mark_of, is_blank, size_of};
 ghost use Rattle.tui_para.specs.Places.{blanks_len, start_len, line_len, dropped_len};
+ghost use Rattle.tui_para.specs.Rule.{glyph_rule};
 ghost use Rattle.tui_para.specs.Wrapped.{IsNextLine};
 
+use crate::wrap::Wrap;
 use crate::wrapping::mark::Mark;
 use crate::wrapping::prefix::Prefix;
 
@@ -93,15 +95,15 @@ pub(crate) struct Place {
 }
 
 /// The next line of graphemes with these marks, none of which is wider than a line.
-pub(crate) fn next_line(marks: &[Mark], width: u16, trim: bool) -> Place
+pub(crate) fn next_line(marks: &[Mark], width: u16, wrap: Wrap) -> Place
     requires { All (λ m. m.width ≤ width) marks.now }
     ensures order { (result.start ≤ result.end) × (result.end ≤ result.next) × (result.next ≤ length marks.now) }
     ensures moves { 0 < length marks.now → 0 < result.next }
     ensures width { result.width ≡ sum_by size_of (between result.start result.end marks.now) }
     ensures line { (graphemes : List Glyph) → map mark_of graphemes ≡ marks.now
-        → IsNextLine glyph_blank glyph_width width trim graphemes (between result.start result.end graphemes) (drop result.next graphemes) }
+        → IsNextLine (glyph_rule width wrap) graphemes (between result.start result.end graphemes) (drop result.next graphemes) }
 {
-    let start = start_of(marks, trim);
+    let start = start_of(marks, wrap.trim);
     let rest = &marks[start..];
     let line = line_at(rest, width);
     let blanks = dropped(&rest[line.len..], line.room);

@@ -6,6 +6,7 @@ ghost use Rattle.tui_para.specs.Given.{IsGlyph, MayGive, Ready, SourceGives, sou
 ghost use Rattle.tui_para.specs.Marked.{glyphs_of, part_of};
 
 use crate::ends::read_line;
+use crate::wrap::Wrap;
 use crate::wrapping::breaking::{Place, next_line};
 use crate::wrapping::marked::Marked;
 use crate::wrapping::part::Part;
@@ -24,7 +25,7 @@ pub(crate) struct TextLine<'a, I> {
     /// Those that were read, from a part that was lent on.
     line: Marked<'a>,
     width: u16,
-    trim: bool,
+    wrap: Wrap,
     /// Where the graphemes begin that were not lent.
     place: usize,
     /// No part of it was lent.
@@ -37,18 +38,18 @@ impl<'a, I> TextLine<'a, I> {
     ghost use Rattle.tui_para.specs.Wrapping.{IsNextPlace};
 
     /// No text line yet.
-    pub(crate) fn new(alloc: Global, width: u16, trim: bool) -> TextLine<'a, I>
+    pub(crate) fn new(alloc: Global, width: u16, wrap: Wrap) -> TextLine<'a, I>
         ensures source { result.source ≡ None }
         ensures line { glyphs_of result.line ≡ [] }
         ensures old { result.is_new ≡ false }
         ensures width { result.width ≡ width }
-        ensures trim { result.trim ≡ trim }
+        ensures wrap { result.wrap ≡ wrap }
     {
         TextLine {
             source: None,
             line: Marked::new(alloc),
             width,
-            trim,
+            wrap,
             place: 0,
             is_new: false,
         }
@@ -70,7 +71,7 @@ impl<'a, I> TextLine<'a, I> {
         }
         let marks = self.line.marks();
         let rest = &marks[self.place..];
-        let line = next_line(rest, self.width, self.trim);
+        let line = next_line(rest, self.width, self.wrap);
         if line.next == rest.len() && self.source.is_some() {
             return None;
         }
@@ -106,7 +107,7 @@ impl<'a, I> TextLine<'a, I> {
         ensures source { self.new.source ≡ self.old.source }
         ensures line { glyphs_of self.new.line ≡ glyphs_of self.old.line }
         ensures width { self.new.width ≡ self.old.width }
-        ensures trim { self.new.trim ≡ self.old.trim }
+        ensures wrap { self.new.wrap ≡ self.old.wrap }
         ensures is_new { self.new.is_new ≡ false }
         ensures place { self.new.place ≡ line.next }
         ensures part { result ≡ record { start = line.start; end = line.end; width = line.width } }
@@ -150,7 +151,7 @@ impl<'a, I: Iterator<Item = StyledGrapheme<'a>>> TextLine<'a, I> {
         ensures line { glyphs_of self.new.line ≡ [] }
         ensures is_new { self.new.is_new ≡ true }
         ensures width { self.new.width ≡ self.old.width }
-        ensures trim { self.new.trim ≡ self.old.trim }
+        ensures wrap { self.new.wrap ≡ self.old.wrap }
     {
         self.place = 0;
         self.line.clear();
@@ -163,7 +164,7 @@ impl<'a, I: Iterator<Item = StyledGrapheme<'a>>> TextLine<'a, I> {
         requires { IfSome self.old.source (Ready I.Iterator) }
         ensures ready { IfSome self.new.source (Ready I.Iterator) }
         ensures width { self.new.width ≡ self.old.width }
-        ensures trim { self.new.trim ≡ self.old.trim }
+        ensures wrap { self.new.wrap ≡ self.old.wrap }
         ensures found { IfOk result (FindsPart I.next_gives self.old self.new) }
     {
         'lines: loop {
@@ -181,7 +182,7 @@ impl<'a, I: Iterator<Item = StyledGrapheme<'a>>> TextLine<'a, I> {
     fn read_on(&mut self) -> Mem<()>
         requires { IfSome self.old.source (Ready I.Iterator) }
         ensures ready { IfSome self.new.source (Ready I.Iterator) }
-        ensures same { (self.new.width ≡ self.old.width) × (self.new.trim ≡ self.old.trim) }
+        ensures same { (self.new.width ≡ self.old.width) × (self.new.wrap ≡ self.old.wrap) }
         ensures read { OnOk result (HasRead I.next_gives self.old self.new) }
         ensures nearer { OnOk result (IsSome self.old.source → source_left I.remaining self.new.source < source_left I.remaining self.old.source) }
     {

@@ -6,9 +6,9 @@ use Rattle.tui_para.proofs.wrapper.WordWrapper.new.Goals as goal
 pub returns-clause-may : goal.returns-clause-may
 returns-clause-may g c =
     let e = c.new.ensures in
-    fresh_wrapper c.new.result (MayGive g.I.Iterator.next_gives IsGlyph) (MayGive g.O.Iterator.next_gives (MayBe g.I.Iterator.next_gives) c.args.lines) Left c.args.max_line_width c.args.trim e.source e.old e.line e.width e.trim
+    fresh_wrapper c.new.result (MayGive g.I.Iterator.next_gives IsGlyph) (MayGive g.O.Iterator.next_gives (MayBe g.I.Iterator.next_gives) c.args.lines) Left c.args.max_line_width (record { trim = c.args.trim }) e.source e.old e.line e.width e.wrap
 
 pub returns-clause-will : goal.returns-clause-will
 returns-clause-will g c =
     let e = c.new.ensures in
-    fresh_wrapper c.new.result (WillGive g.I.Iterator.next_gives IsGlyph) (WillGive g.O.Iterator.next_gives (WillBe g.I.Iterator.next_gives) c.args.lines) Left c.args.max_line_width c.args.trim e.source e.old e.line e.width e.trim
+    fresh_wrapper c.new.result (WillGive g.I.Iterator.next_gives IsGlyph) (WillGive g.O.Iterator.next_gives (WillBe g.I.Iterator.next_gives) c.args.lines) Left c.args.max_line_width (record { trim = c.args.trim }) e.source e.old e.line e.width e.wrap

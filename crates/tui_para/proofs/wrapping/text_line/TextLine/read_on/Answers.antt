@@ -31,5 +31,5 @@ returns-clause-read g c =
       behind = rw c.drop_front.ensures at behind;
       is_new = refl;
       width = refl;
-      trim = refl;
+      wrap = refl;
     }
