@@ -41,9 +41,9 @@ demo_state n = record { offset = 0; selected = Some (n / 2) }
 abbrev pub one_line : List ℕ → TextData
 one_line text = record empty_text { lines = raw_line text ∷ [] }
 
--- lines begin without their blanks
+-- lines begin without their blanks, and break at blanks alone
 abbrev pub demo_wrap : Wrap
-demo_wrap = record { trim = true }
+demo_wrap = record { trim = true; hyphens = false }
 
 -- such a text, wrapped so
 abbrev pub demo_paragraph : List ℕ → ParagraphData

@@ -6,12 +6,13 @@ use Rattle.std.specs.Prelude.{◌↔◌, ◌⊎◌, IfOk, Result, Ok, Err}
 use Rattle.tui_text.specs.Grapheme.{Glyph, glyph_of, glyph_width}
 use Rattle.tui_text.specs.declared.alignment.Alignment.{Alignment}
 use Rattle.tui_text.specs.declared.grapheme.StyledGrapheme.{StyledGrapheme}
-use Rattle.tui_para.specs.Rule.{glyph_rule}
+use Rattle.tui_para.specs.Hyphenation.{at_start, marked_from}
+use Rattle.tui_para.specs.Hyphens.{glyph_rule, with_cuts}
 use Rattle.tui_para.specs.declared.wrap.Wrap.{Wrap}
 use Rattle.tui_para.specs.Answers.{both}
 use Rattle.tui_para.specs.Given.{IsGlyph, MayBe, MayGive, WillBe, WillGive, SourceGives, SourceReads, line_answers, source_answers}
 use Rattle.tui_para.specs.Lines.{GlyphLine, glyph_line, CutAll, IsFirstOf, PartsThenLines, LinesFrom, LinesOf, GivenUnlessDone, WrapsLine}
-use Rattle.tui_para.specs.Marked.{glyphs_of, part_of}
+use Rattle.tui_para.specs.Marked.{cuts_of, glyphs_of, part_of}
 use Rattle.tui_para.specs.Wrapped.{WrapsKept, kept}
 use Rattle.tui_para.specs.Wrapping.{FindsLine, FindsPart, PartsWith, WrapperCuts, glyphs_from, wrapper_answers}
 use Rattle.tui_para.specs.declared.wrapping.part.Part.{Part}
@@ -19,7 +20,7 @@ use Rattle.tui_para.specs.declared.wrapping.text_line.TextLine.{TextLine}
 use Rattle.tui_para.specs.declared.wrapper.WordWrapper.{WordWrapper}
 use Rattle.tui_para.proofs.Answering.{Gave, Gave-beside, Gave-both, Gave-none, Gave-then, all_may, all_will, line_gave, source_ended, source_gave, will_stop}
 use Rattle.tui_para.proofs.Lending.{end_first, first_along, first_from, none_before, part_first, same_lists}
-use Rattle.tui_para.proofs.Parts.{wraps_some}
+use Rattle.tui_para.proofs.WithCuts.{marked_is, wraps_some}
 use Rattle.tui_para.proofs.PartsRead.{no_parts}
 
 pub if_ok : {A E : Type 0} (P Q : A → Type 0) (r : Result A E) → ((x : A) → P x → Q x) → IfOk r P → IfOk r Q
@@ -31,19 +32,29 @@ at_size : (K : ℕ → Wrap → Type 0) (v w : ℕ) (s t : Wrap) → v ≡ w →
 at_size K v w s t e f k = subst (λ b. K v b) (sym f) (subst (λ n. K n t) (sym e) k)
 
 -- the lines of a text line of which nothing was read
-module _ {I : Type 0} (s : TextLine I) (w : ℕ) (way : Wrap) (a : Alignment) (empty : glyphs_of s.line ≡ []) (new : s.is_new ≡ true) (width : s.width ≡ w) (trims : s.wrap ≡ way) (glyphs : List Glyph) where
-  unread : glyphs_from s s.place glyphs ≡ kept glyph_width s.width glyphs
-  unread = ap (λ k. drop s.place k ++ kept glyph_width s.width glyphs) empty ∙ ap (λ k. k ++ kept glyph_width s.width glyphs) (drop_all s.place [] (omega arith))
+module _ {I : Type 0} (s : TextLine I) (w : ℕ) (way : Wrap) (a : Alignment) (empty : cuts_of s.line ≡ []) (start : s.line.hyphenation ≡ at_start s.wrap.hyphens) (new : s.is_new ≡ true) (width : s.width ≡ w) (ways : s.wrap ≡ way)
+    (glyphs : List Glyph) where
+  unread : glyphs_from s s.place glyphs ≡ with_cuts s.wrap.hyphens [] (kept glyph_width s.width glyphs)
+  unread =
+      let left = marked_from s.line.hyphenation (kept glyph_width s.width glyphs) in
+      ap (λ k. drop s.place k ++ left) empty ∙ (ap (λ k. k ++ left) (drop_all s.place [] (omega arith))
+      ∙ (ap (λ b. marked_from b (kept glyph_width s.width glyphs)) start ∙ marked_is s.wrap.hyphens (kept glyph_width s.width glyphs)))
+
+  abbrev Wraps : List (List (Glyph × Bool)) → ℕ → Wrap → Type 0
+  Wraps parts n k = WrapsKept (glyph_rule n k) (with_cuts k.hyphens [] (kept glyph_width n glyphs)) parts
 
   pub begun_wraps : (parts : List (List Glyph)) → PartsWith s glyphs parts ↔ WrapsLine w way (glyph_line a glyphs) parts
-  begun_wraps parts =
-      let wraps = λ (n : ℕ) (k : Wrap). WrapsKept (glyph_rule n k) in (
-        λ h. ⊎_elim
-            (λ e. subst (λ n. wraps n way (kept glyph_width n glyphs) parts) width (subst (λ b. wraps s.width b (kept glyph_width s.width glyphs) parts) trims (subst (λ k. wraps s.width s.wrap k parts) unread e.1)))
-            (λ e. absurd (false≢true (sym e.0 ∙ new)))
-            h,
-        λ h. inl (new, subst (λ k. wraps s.width s.wrap k parts) (sym unread) (at_size (λ n b. wraps n b (kept glyph_width n glyphs) parts) s.width w s.wrap way width trims h)),
-      )
+  begun_wraps parts = (
+    λ (cut, h, e). (
+      cut,
+      ⊎_elim
+          (λ t. subst (λ n. Wraps cut n way) width (subst (λ k. Wraps cut s.width k) ways (subst (λ gs. WrapsKept (glyph_rule s.width s.wrap) gs cut) unread t.1)))
+          (λ t. absurd (false≢true (sym t.0 ∙ new)))
+          h,
+      e,
+    ),
+    λ (cut, h, e). (cut, inl (new, subst (λ gs. WrapsKept (glyph_rule s.width s.wrap) gs cut) (sym unread) (at_size (Wraps cut) s.width w s.wrap way width ways h)), e),
+  )
 
 -- what a source gives that has ended
 ended : {I : Type 0} (inner : I → Option StyledGrapheme → I → Type 0) (t : TextLine I) (glyphs : List Glyph) → ((source_answers inner t.source).may glyphs ⊎ (source_answers inner t.source).will glyphs) → t.source ≡ None → glyphs ≡ []
@@ -91,7 +102,7 @@ module _ {O I : Type 0} (outer : O → Option (I × Alignment) → O → Type 0)
         }
 
   -- the first part of a text line that is begun where the one before is over
-  module _ (t b n : TextLine I) (u : O) (i : I) (a : Alignment) (over : FindsPart inner s.current t None) (source : b.source ≡ Some i) (empty : glyphs_of b.line ≡ []) (new : b.is_new ≡ true)
+  module _ (t b n : TextLine I) (u : O) (i : I) (a : Alignment) (over : FindsPart inner s.current t None) (source : b.source ≡ Some i) (empty : cuts_of b.line ≡ []) (start : b.line.hyphenation ≡ at_start b.wrap.hyphens) (new : b.is_new ≡ true)
       (b_width : b.width ≡ s.current.width) (b_trim : b.wrap ≡ s.current.wrap) (width : n.width ≡ s.current.width) (way : n.wrap ≡ s.current.wrap) (going : s.done ≡ false) (step : outer s.lines (Some (i, a)) u) where
     abbrev before : List Glyph
     before = map glyph_of over.taken ++ []
@@ -100,10 +111,10 @@ module _ {O I : Type 0} (outer : O → Option (I × Alignment) → O → Type 0)
     none_left parts = let h = over.first [] (λ e. refl) in (λ p. (h.takes parts p).0, λ e. subst (PartsWith s.current before) (sym e) h.lends)
 
     begun : (glyphs : List Glyph) (parts : List (List Glyph)) → PartsWith b glyphs parts ↔ wraps (glyph_line a glyphs) parts
-    begun = begun_wraps b s.current.width s.current.wrap a empty new b_width b_trim
+    begun = begun_wraps b s.current.width s.current.wrap a empty start new b_width b_trim
 
     pub line_begun : (found : Option Part) → FindsPart inner b n found → FindsLine outer inner s (record s { lines = u; current = n; alignment = a }) found
-    line_begun None f = absurd (wraps_some (glyph_rule s.current.width s.current.wrap) _ ((begun (map glyph_of f.taken ++ []) []).0 (f.first [] (λ e. refl)).lends))
+    line_begun None f = absurd (wraps_some s.current.width s.current.wrap _ ((begun (map glyph_of f.taken ++ []) []).0 (f.first [] (λ e. refl)).lends))
     line_begun (Some part) f =
         let m : WordWrapper O I = record s { lines = u; current = n; alignment = a } in
         let shown = part_of (glyphs_of n.line) part in
@@ -131,7 +142,7 @@ module _ {O I : Type 0} (outer : O → Option (I × Alignment) → O → Type 0)
         }
 
 -- a wrapper that was just made
-pub fresh_wrapper : {I : Type 0} (s : TextLine I) (G : I → List Glyph → Type 0) (T : List GlyphLine → Type 0) (a : Alignment) (w : ℕ) (way : Wrap) → s.source ≡ None → s.is_new ≡ false → glyphs_of s.line ≡ [] → s.width ≡ w → s.wrap ≡ way → (lines : List GlyphLine) →
+pub fresh_wrapper : {I : Type 0} (s : TextLine I) (G : I → List Glyph → Type 0) (T : List GlyphLine → Type 0) (a : Alignment) (w : ℕ) (way : Wrap) → s.source ≡ None → s.is_new ≡ false → cuts_of s.line ≡ [] → s.width ≡ w → s.wrap ≡ way → (lines : List GlyphLine) →
     LinesFrom (λ (x : List Glyph × List GlyphLine). SourceGives G s.source x.0 × GivenUnlessDone false T x.1) (λ x. PartsThenLines (PartsWith s x.0) a (WrapsLine s.width s.wrap) x.1) s.width lines ↔ LinesOf T (WrapsLine w way) w lines
 fresh_wrapper s G T a w way source old empty width trims lines =
     at_size (λ v b. LinesFrom (λ (x : List Glyph × List GlyphLine). SourceGives G s.source x.0 × GivenUnlessDone false T x.1) (λ x. PartsThenLines (PartsWith s x.0) a (WrapsLine v b) x.1) v lines ↔ LinesOf T (WrapsLine w way) w lines)

@@ -5,8 +5,10 @@ use Rattle.std.specs.List.{between}
 use Rattle.std.proofs.lemmas.Bool.{cases_Bool}
 use Rattle.std.proofs.lemmas.List.{append-nil, drop-drop, length-drop}
 use Rattle.tui_text.specs.Grapheme.{Glyph, glyph_width}
-use Rattle.tui_para.specs.Rule.{Rule, glyph_rule}
-use Rattle.tui_para.specs.Marked.{glyphs_of}
+use Rattle.tui_para.specs.Rule.{Rule}
+use Rattle.tui_para.specs.Hyphenation.{marked_from}
+use Rattle.tui_para.specs.Hyphens.{glyph_rule}
+use Rattle.tui_para.specs.Marked.{cuts_of, glyphs_of}
 use Rattle.tui_para.specs.Wrapped.{HasLines, IsNextLine, kept}
 use Rattle.tui_para.specs.Wrapping.{FirstLine, IsNextPlace, glyphs_from}
 use Rattle.tui_para.specs.declared.wrapping.breaking.Place.{Place}
@@ -37,16 +39,16 @@ next_of_all rule xs line ys next known n = ⊎_elim
     known
 
 module _ {I : Type 0} (s : TextLine I) (glyphs : List Glyph) where
-  first_empty : (p : Place) → p ≡ record { start = s.place; end = s.place; next = s.place; width = 0 } → s.is_new ≡ true → glyphs ≡ [] → drop s.place (glyphs_of s.line) ≡ [] → FirstLine s p glyphs
+  first_empty : (p : Place) → p ≡ record { start = s.place; end = s.place; next = s.place; width = 0 } → s.is_new ≡ true → glyphs ≡ [] → drop s.place (cuts_of s.line) ≡ [] → FirstLine s p glyphs
   first_empty p at new none gone =
-      let empty : glyphs_from s s.place glyphs ≡ [] = ap (λ k. k ++ kept glyph_width s.width glyphs) gone ∙ ap (kept glyph_width s.width) none in
+      let empty : glyphs_from s s.place glyphs ≡ [] = ap (λ k. k ++ marked_from s.line.hyphenation (kept glyph_width s.width glyphs)) gone ∙ ap (λ k. marked_from s.line.hyphenation (kept glyph_width s.width k)) none in
       rw at (record {
         lends = λ rest h.
             let ends = no_lines (glyph_rule s.width s.wrap) _ rest empty h in
-            inl (new, inl (empty, ap (λ k. k ∷ rest) (between-nil s.place (glyphs_of s.line)) ∙ ap (λ ks. [] ∷ ks) ends));
+            inl (new, inl (empty, ap (λ k. k ∷ rest) (between-nil s.place (cuts_of s.line)) ∙ ap (λ ks. [] ∷ ks) ends));
         takes = λ parts h. ⊎_elim
             (λ t. ⊎_elim
-            (λ k. ([], k.1 ∙ sym (ap (λ l. l ∷ []) (between-nil s.place (glyphs_of s.line))), empty))
+            (λ k. ([], k.1 ∙ sym (ap (λ l. l ∷ []) (between-nil s.place (cuts_of s.line))), empty))
             (λ k. absurd (k.0 empty))
             t.1)
             (λ t. absurd (no_new t.0))
@@ -56,18 +58,18 @@ module _ {I : Type 0} (s : TextLine I) (glyphs : List Glyph) where
       no_new : s.is_new ≡ false → ⊥
       no_new e = cc
 
-  module _ (start end next width : ℕ) (l : s.place < length (glyphs_of s.line))
-      (n : IsNextLine (glyph_rule s.width s.wrap) (drop s.place (glyphs_of s.line)) (between start end (drop s.place (glyphs_of s.line))) (drop next (drop s.place (glyphs_of s.line))))
-      (known : (next < length (drop s.place (glyphs_of s.line))) ⊎ (glyphs ≡ [])) where
+  module _ (start end next width : ℕ) (l : s.place < length (cuts_of s.line))
+      (n : IsNextLine (glyph_rule s.width s.wrap) (drop s.place (cuts_of s.line)) (between start end (drop s.place (cuts_of s.line))) (drop next (drop s.place (cuts_of s.line))))
+      (known : (next < length (drop s.place (cuts_of s.line))) ⊎ (glyphs ≡ [])) where
     pub first_known : FirstLine s (record { start = s.place + start; end = s.place + end; next = s.place + next; width = width }) glyphs
     first_known =
-        let all = glyphs_of s.line in
+        let all = cuts_of s.line in
         let xs = drop s.place all in
-        let ys = kept glyph_width s.width glyphs in
+        let ys = marked_from s.line.hyphenation (kept glyph_width s.width glyphs) in
         let line = between start end xs in
         let has = HasLines (glyph_rule s.width s.wrap) in
         let first : IsNextLine (glyph_rule s.width s.wrap) (xs ++ ys) line (drop next xs ++ ys) =
-        next_of_all (glyph_rule s.width s.wrap) xs line ys next (⊎_elim (λ k. inl k) (λ e. inr (ap (kept glyph_width s.width) e)) known) n in
+        next_of_all (glyph_rule s.width s.wrap) xs line ys next (⊎_elim (λ k. inl k) (λ e. inr (ap (λ k. marked_from s.line.hyphenation (kept glyph_width s.width k)) e)) known) n in
         let some : xs ≢ [] = λ e. (let z = ap length e in let t = length-drop s.place all in absurd (omega arith)) in
         let more : xs ++ ys ≢ [] = some_append xs ys some in
         let at : between (s.place + start) (s.place + end) all ≡ line = sym (between-drop s.place start end all) in
@@ -84,7 +86,7 @@ module _ {I : Type 0} (s : TextLine I) (glyphs : List Glyph) where
         }
 
 -- the place of the one empty line
-pub empty_place : {I : Type 0} (s : TextLine I) (p : Place) → p ≡ record { start = s.place; end = s.place; next = s.place; width = 0 } → s.is_new ≡ true → s.source ≡ None → drop s.place (glyphs_of s.line) ≡ [] → IsNextPlace s p
+pub empty_place : {I : Type 0} (s : TextLine I) (p : Place) → p ≡ record { start = s.place; end = s.place; next = s.place; width = 0 } → s.is_new ≡ true → s.source ≡ None → drop s.place (cuts_of s.line) ≡ [] → IsNextPlace s p
 empty_place s p at new ends gone = record {
   order = rw at (omega arith);
   within = rw at (s.within, s.within);

@@ -7,10 +7,10 @@ use Rattle.tui_para.specs.Rule.{Rule}
 use Rattle.tui_para.specs.Wrapped.{without_blanks, after_break, line_start, HasLines, WrapsKept, LeavesOutBlanks}
 
 -- blanks in front of what is left of a list
-record Blanks {A : Type 0} (blank : A → Bool) (xs rest : List A) : Type 0 where
-  blanks : List A
-  all : All (λ x. blank x ≡ true) blanks
-  whole : xs ≡ blanks ++ rest
+pub record Blanks {A : Type 0} (blank : A → Bool) (xs rest : List A) : Type 0 where
+  pub blanks : List A
+  pub all : All (λ x. blank x ≡ true) blanks
+  pub whole : xs ≡ blanks ++ rest
 
 module _ {A : Type 0} (rule : Rule A) where
   no_blanks : (xs : List A) → Blanks rule.blank xs xs
@@ -23,7 +23,7 @@ module _ {A : Type 0} (rule : Rule A) where
   before_start [] = no_blanks []
   before_start (x ∷ xs) = ⊎_elim (λ b. rw b (one_blank x xs (without_blanks rule.blank xs) b (before_start xs))) (λ b. rw b (no_blanks (x ∷ xs))) (cases_Bool (rule.blank x))
 
-  before_line : (trim : Bool) (xs : List A) → Blanks rule.blank xs (line_start rule.blank trim xs)
+  pub before_line : (trim : Bool) (xs : List A) → Blanks rule.blank xs (line_start rule.blank trim xs)
   before_line true xs = before_start xs
   before_line false xs = no_blanks xs
 
@@ -34,7 +34,7 @@ module _ {A : Type 0} (rule : Rule A) where
       (λ l. rw l (one_blank x xs xs b (no_blanks xs)))
       (cases_Bool (nat_le (rule.size x) room))
 
-  behind_break : (room : ℕ) (xs : List A) → Blanks rule.blank xs (after_break rule room xs)
+  pub behind_break : (room : ℕ) (xs : List A) → Blanks rule.blank xs (after_break rule room xs)
   behind_break room [] = no_blanks []
   behind_break room (x ∷ xs) = ⊎_elim (λ b. rw b (break_blank room x xs b (behind_break (room - rule.size x) xs))) (λ b. rw b (no_blanks (x ∷ xs))) (cases_Bool (rule.blank x))
 

@@ -5,7 +5,7 @@ use Rattle.std.specs.List.{between}
 use Rattle.std.proofs.lemmas.List.{drop-drop, drop-map, take-map, take_rest}
 use Rattle.std.proofs.lemmas.List.Elements.{All-map, All-drop, All-from_recursion}
 use Rattle.tui_para.specs.Rule.{Rule}
-use Rattle.tui_para.specs.Wrapped.{HasLines, kept, Wrapped}
+use Rattle.tui_para.specs.Wrapped.{HasLines, WrapsKept, kept}
 use Rattle.tui_para.proofs.Filled.{no_cons}
 use Rattle.tui_para.proofs.Greedy.{all_fit-kept}
 use Rattle.tui_para.proofs.Mapped.{sum_by-map}
@@ -41,11 +41,11 @@ module _ {A B : Type 0} (f : A → B) (xs : List A) (ys : List B) (place : ℕ) 
   pub seen_width : (size : B → ℕ) (start end n : ℕ) → n ≡ sum_by size (between start end ys) → n ≡ sum_by (λ x. size (f x)) (between (place + start) (place + end) xs)
   seen_width size start end n e =
       e ∙ (ap (λ t. sum_by size (between start end t)) (sym seen_from) ∙ (ap (sum_by size) (between-map f start end (drop place xs))
-      ∙ (sum_by-map f (λ y. true) size (between start end (drop place xs)) ∙ ap (sum_by (λ x. size (f x))) (between-drop place start end xs))))
+      ∙ (sum_by-map f (λ y. true) (λ y. true) size (between start end (drop place xs)) ∙ ap (sum_by (λ x. size (f x))) (between-drop place start end xs))))
 
 pub all_kept : {A : Type 0} (size : A → ℕ) (w : ℕ) (xs ys : List A) → ys ≡ kept size w xs → All (λ x. size x ≤ w) ys
 all_kept size w xs ys e = subst (All (λ x. size x ≤ w)) (sym e) (All-from_recursion (λ x. size x ≤ w) (kept size w xs) (all_fit-kept size w xs))
 
 -- a text line has a line
-pub wraps_some : {A : Type 0} (rule : Rule A) (xs : List A) → Wrapped rule xs [] → ⊥
+pub wraps_some : {A : Type 0} (rule : Rule A) (xs : List A) → WrapsKept rule xs [] → ⊥
 wraps_some rule xs h = ⊎_elim (λ e. no_cons _ _ e.1) (λ e. e.0 e.1) h

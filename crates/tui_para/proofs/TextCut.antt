@@ -9,11 +9,10 @@ use Rattle.tui_text.specs.Graphemes.{glyphs_left}
 use Rattle.tui_text.specs.Text.{TextData}
 use Rattle.tui_text.specs.declared.alignment.Alignment.{Alignment}
 use Rattle.tui_text.specs.declared.graphemes.Graphemes.{Graphemes}
-use Rattle.tui_para.specs.Rule.{glyph_rule}
 use Rattle.tui_para.specs.Given.{WillGive, WillBe, IsGlyph}
 use Rattle.tui_para.specs.Lines.{GlyphLine, glyph_line, is_left, CutAll, cut_all, WrapsLine, TruncatesLine}
 use Rattle.tui_para.specs.Paragraph.{ParagraphData}
-use Rattle.tui_para.specs.Places.{wrap}
+use Rattle.tui_para.specs.Hyphens.{wrap}
 use Rattle.tui_para.specs.Rendering.{ParagraphLines, paragraph_lines}
 use Rattle.tui_para.specs.TextLines.{glyph_line_left, glyph_lines_left}
 use Rattle.tui_para.specs.Truncated.{truncate}
@@ -21,10 +20,9 @@ use Rattle.tui_para.specs.Wrapped.{IsTheOne}
 use Rattle.tui_para.specs.WrappedText.{WrappedText, TruncatedText, wrap_text, truncate_text, text_glyph_lines}
 use Rattle.tui_para.specs.declared.text_lines.TextLines.{TextLines}
 use Rattle.tui_para.specs.declared.wrap.Wrap.{Wrap}
-use Rattle.tui_para.proofs.Greedy.{wrap_is}
+use Rattle.tui_para.proofs.WithCuts.{wrap_is, wraps_only}
 use Rattle.tui_para.proofs.Filled.{no_cons}
 use Rattle.tui_para.proofs.TruncatedOnce.{truncate_is, truncates_once}
-use Rattle.tui_para.proofs.Unique.{wrapped_once}
 
 module _ (R : GlyphLine → List (List Glyph) → Type 0) (f : GlyphLine → List (List Glyph)) where
   pub cut_is : ((t : GlyphLine) → R t (f t)) → (ts : List GlyphLine) → CutAll R ts (cut_all f ts)
@@ -36,11 +34,11 @@ module _ (R : GlyphLine → List (List Glyph) → Type 0) (f : GlyphLine → Lis
   cut_once one (t ∷ ts) lines (parts, r, (rest, cut, e)) =
       e ∙ (ap (λ ps. map (glyph_line t.alignment) ps ++ rest) (one t parts r) ∙ ap (λ ls. map (glyph_line t.alignment) (f t) ++ ls) (cut_once one ts rest cut))
 
-pub wraps_to : (w : ℕ) (way : Wrap) (t : GlyphLine) → WrapsLine w way t (wrap (glyph_rule w way) t.glyphs)
-wraps_to w way t = wrap_is (glyph_rule w way) t.glyphs
+pub wraps_to : (w : ℕ) (way : Wrap) (t : GlyphLine) → WrapsLine w way t (wrap w way t.glyphs)
+wraps_to w way t = wrap_is w way t.glyphs
 
-pub wraps_only_to : (w : ℕ) (way : Wrap) (t : GlyphLine) (parts : List (List Glyph)) → WrapsLine w way t parts → parts ≡ wrap (glyph_rule w way) t.glyphs
-wraps_only_to w way t parts h = wrapped_once (glyph_rule w way) t.glyphs parts (wrap (glyph_rule w way) t.glyphs) h (wraps_to w way t)
+pub wraps_only_to : (w : ℕ) (way : Wrap) (t : GlyphLine) (parts : List (List Glyph)) → WrapsLine w way t parts → parts ≡ wrap w way t.glyphs
+wraps_only_to w way t parts h = wraps_only w way t.glyphs parts h
 
 pub truncates_to : (w offset : ℕ) (t : GlyphLine) → TruncatesLine w offset t (truncate glyph_width w (is_left t.alignment) offset t.glyphs ∷ [])
 truncates_to w offset t = (truncate glyph_width w (is_left t.alignment) offset t.glyphs, truncate_is glyph_width w (is_left t.alignment) offset t.glyphs, refl)
@@ -59,8 +57,8 @@ one_each-drop f n ts = one_each f (drop n ts) ∙ (sym (drop-map (λ t. glyph_li
 -- exactly one list of lines
 pub text_wraps_once : (w : ℕ) (way : Wrap) (a : Alignment) (text : TextData) → IsTheOne (WrappedText w way a text) (wrap_text w way a text)
 text_wraps_once w way a text = record {
-  meets = cut_is (WrapsLine w way) (λ t. wrap (glyph_rule w way) t.glyphs) (wraps_to w way) (text_glyph_lines text a);
-  alone = λ lines h. cut_once (WrapsLine w way) (λ t. wrap (glyph_rule w way) t.glyphs) (wraps_only_to w way) (text_glyph_lines text a) lines h;
+  meets = cut_is (WrapsLine w way) (λ t. wrap w way t.glyphs) (wraps_to w way) (text_glyph_lines text a);
+  alone = λ lines h. cut_once (WrapsLine w way) (λ t. wrap w way t.glyphs) (wraps_only_to w way) (text_glyph_lines text a) lines h;
 }
 
 pub text_truncates_once : (w offset : ℕ) (a : Alignment) (text : TextData) → IsTheOne (TruncatedText w offset a text) (truncate_text w offset a text)

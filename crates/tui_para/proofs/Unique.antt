@@ -3,65 +3,91 @@ use Rattle.std.proofs.Common.{◌≡◌, ℕ, ◌-◌, ◌<◌, ◌≤◌, List,
 use Rattle.std.specs.Prelude.{◌≢◌, ◌⊎◌, sum_by, not}
 use Rattle.std.proofs.lemmas.List.Sums.{sum_by-cons, sum_by-append}
 use Rattle.std.proofs.lemmas.List.{append_cancel_left}
-use Rattle.tui_para.specs.Rule.{Rule}
-use Rattle.tui_para.specs.Wrapped.{word, next_word, no_blank, ends_in, begins_blank, IsLine, IsNextLine, HasLines, WrapsKept, Wrapped, kept, line_start}
+use Rattle.std.proofs.lemmas.Bool.{cases_Bool}
+use Rattle.tui_para.specs.Rule.{Rule, ends_piece}
+use Rattle.tui_para.specs.Wrapped.{up_to, next_piece, no_blank, ends_in, begins, Breaks, IsLine, IsNextLine, HasLines, WrapsKept, line_start}
 
--- a word ends between the two lists; `p` stands for what the first one ends with where it is empty
-abbrev EndsPiece : {A : Type 0} → (A → Bool) → Bool → List A → List A → Type 0
-EndsPiece blank p d a = (ends_in (no_blank blank) p d ≡ true) × (begins_blank blank a ≡ true)
+-- a piece ends between the two lists; `p` stands for what the first one ends with where it is empty
+abbrev pub EndsPiece : {A : Type 0} → Rule A → Bool → List A → List A → Type 0
+EndsPiece rule p d a = (ends_in (no_blank rule.blank) p d ≡ true) × (begins (ends_piece rule) a ≡ true)
 
--- a word doesn't go on past a blank
-word_stops : {A : Type 0} (blank : A → Bool) (k : List A) (y : A) (ys : List A) → blank y ≡ true → word blank (k ++ y ∷ ys) ≡ k ++ y ∷ ys → ⊥
-word_stops blank [] y ys b e = grind (arith, b, e)
-word_stops blank (x ∷ k) y ys b e = grind (arith, word_stops blank k y ys b)
+-- so at a soft break and at a hyphen break
+module _ {A : Type 0} (rule : Rule A) where
+  pub begins_blank : (a : List A) → begins rule.blank a ≡ true → begins (ends_piece rule) a ≡ true
+  begins_blank [] h = h
+  begins_blank (x ∷ a) h = grind (arith, h)
 
-one_word_stops : {A : Type 0} (blank : A → Bool) (so_far : Bool) (k : List A) (y : A) (ys : List A) → so_far ≡ false → EndsPiece blank so_far k (y ∷ ys) → next_word blank (k ++ y ∷ ys) ≡ k ++ y ∷ ys → ⊥
-one_word_stops blank so_far [] y ys f d e = grind arith
-one_word_stops blank so_far (x ∷ k) y ys f d e = grind (arith, word_stops blank k y ys, one_word_stops blank (not (blank x)) k y ys)
+  pub begins_cut : (a : List A) → begins rule.cut a ≡ true → begins (ends_piece rule) a ≡ true
+  begins_cut [] h = h
+  begins_cut (x ∷ a) h = grind (arith, h)
 
--- a word ends at the latest where a blank follows
-word_within : {A : Type 0} (rule : Rule A) (d a : List A) → (a ≡ []) ⊎ (begins_blank rule.blank a ≡ true) → sum_by rule.size (word rule.blank (d ++ a)) ≤ sum_by rule.size d
-word_within rule [] [] h = omega arith
-word_within rule [] (x ∷ a) h = grind arith
-word_within rule (x ∷ d) a h = grind (arith, word_within rule d a h, sum_by-cons rule.size x d, sum_by-cons rule.size x (word rule.blank (d ++ a)))
+  -- and where a piece ends and what follows is too wide there is one of the two
+  pub breaks_there : (room : ℕ) (line after : List A) → ends_in (no_blank rule.blank) false line ≡ true → begins (ends_piece rule) after ≡ true →
+      room < sum_by rule.size (next_piece rule after) → Breaks rule room line after
+  breaks_there room line [] word next wide = absurd (cc)
+  breaks_there room line (x ∷ after) word next wide = ⊎_elim
+      (λ cut. inr (inl (record { word_before = word; next = cut; too_wide = wide })))
+      (λ no_cut. inl (record { word_before = word; next = grind (arith, next, no_cut); too_wide = wide }))
+      (cases_Bool (rule.cut x))
 
-next_word_within : {A : Type 0} (rule : Rule A) (so_far : Bool) (d a : List A) → (a ≡ []) ⊎ ((so_far ≡ false) × EndsPiece rule.blank so_far d a) → sum_by rule.size (next_word rule.blank (d ++ a)) ≤ sum_by rule.size d
-next_word_within rule so_far [] [] h = omega arith
-next_word_within rule so_far [] (x ∷ a) h = grind arith
-next_word_within rule so_far (x ∷ d) a h =
+-- a piece doesn't go on past its end
+piece_stops : {A : Type 0} (test : A → Bool) (k : List A) (y : A) (ys : List A) → test y ≡ true → up_to test (k ++ y ∷ ys) ≡ k ++ y ∷ ys → ⊥
+piece_stops test [] y ys b e = grind (arith, b, e)
+piece_stops test (x ∷ k) y ys b e = grind (arith, piece_stops test k y ys b)
+
+one_piece_stops : {A : Type 0} (rule : Rule A) (so_far : Bool) (k : List A) (y : A) (ys : List A) → so_far ≡ false → EndsPiece rule so_far k (y ∷ ys) → next_piece rule (k ++ y ∷ ys) ≡ k ++ y ∷ ys → ⊥
+one_piece_stops rule so_far [] y ys f d e = grind arith
+one_piece_stops rule so_far (x ∷ k) y ys f d e = grind (arith, piece_stops (ends_piece rule) k y ys d.1, one_piece_stops rule (not (rule.blank x)) k y ys)
+
+-- a piece ends at the latest where one ends
+piece_within : {A : Type 0} (test : A → Bool) (size : A → ℕ) (d a : List A) → (a ≡ []) ⊎ (begins test a ≡ true) → sum_by size (up_to test (d ++ a)) ≤ sum_by size d
+piece_within test size [] [] h = omega arith
+piece_within test size [] (x ∷ a) h = grind arith
+piece_within test size (x ∷ d) a h = grind (arith, piece_within test size d a h, sum_by-cons size x d, sum_by-cons size x (up_to test (d ++ a)))
+
+next_piece_within : {A : Type 0} (rule : Rule A) (so_far : Bool) (d a : List A) → (a ≡ []) ⊎ ((so_far ≡ false) × EndsPiece rule so_far d a) → sum_by rule.size (next_piece rule (d ++ a)) ≤ sum_by rule.size d
+next_piece_within rule so_far [] [] h = omega arith
+next_piece_within rule so_far [] (x ∷ a) h = grind arith
+next_piece_within rule so_far (x ∷ d) a h =
     let c = sum_by-cons rule.size x d in
-    let u = sum_by-cons rule.size x (word rule.blank (d ++ a)) in
-    let v = sum_by-cons rule.size x (next_word rule.blank (d ++ a)) in
-    grind (arith, word_within rule d a, next_word_within rule (not (rule.blank x)) d a, c, u, v)
+    let u = sum_by-cons rule.size x (up_to (ends_piece rule) (d ++ a)) in
+    let v = sum_by-cons rule.size x (next_piece rule (d ++ a)) in
+    grind (arith, piece_within (ends_piece rule) rule.size d a, next_piece_within rule (not (rule.blank x)) d a, c, u, v)
 
 pub ends_in-append : {A : Type 0} (test : A → Bool) (so_far : Bool) (xs ys : List A) → ends_in test so_far (xs ++ ys) ≡ ends_in test (ends_in test so_far xs) ys
 ends_in-append test so_far [] ys = refl
 ends_in-append test so_far (x ∷ xs) ys = ends_in-append test (test x) xs ys
 
--- a word ends in no blank
-pub word_ends : {A : Type 0} (blank : A → Bool) (so_far : Bool) (v : List A) → (v ≢ []) ⊎ (so_far ≡ true) → word blank v ≡ v → ends_in (no_blank blank) so_far v ≡ true
-word_ends blank so_far [] n e = grind arith
-word_ends blank so_far (x ∷ v) n e = grind (arith, word_ends blank (not (blank x)) v)
+-- a piece ends in no blank
+pub piece_ends : {A : Type 0} (rule : Rule A) (so_far : Bool) (v : List A) → (v ≢ []) ⊎ (so_far ≡ true) → up_to (ends_piece rule) v ≡ v → ends_in (no_blank rule.blank) so_far v ≡ true
+piece_ends rule so_far [] n e = grind arith
+piece_ends rule so_far (x ∷ v) n e = grind (arith, piece_ends rule (not (rule.blank x)) v)
 
 -- a line that breaks has no longer line beside it
 no_longer : {A : Type 0} (rule : Rule A) (k : List A) (y : A) (ys a : List A) → IsLine rule k (y ∷ ys ++ a) → IsLine rule (k ++ y ∷ ys) a → ⊥
 no_longer rule k y ys a l m =
     let e = sum_by-append rule.size k (y ∷ ys) in
     let f = sum_by-cons rule.size y ys in
-    -- a line that ends with a word, before what is too wide
-    let at_word : EndsPiece rule.blank false k (y ∷ ys ++ a) → rule.width - sum_by rule.size k < sum_by rule.size (next_word rule.blank (y ∷ ys ++ a)) → ⊥ =
+    -- a line that ends with a word, and after which a piece ends, before what is too wide
+    let at_piece : EndsPiece rule false k (y ∷ ys ++ a) → rule.width - sum_by rule.size k < sum_by rule.size (next_piece rule (y ∷ ys ++ a)) → ⊥ =
     λ ends wide.
+    let longer_ends : ends_in (no_blank rule.blank) false (k ++ y ∷ ys) ≡ true → begins (ends_piece rule) a ≡ true → ⊥ =
+    λ word next. (let i = next_piece_within rule false (y ∷ ys) a (inr (refl, (sym (ends_in-append (no_blank rule.blank) false k (y ∷ ys)) ∙ word, next))) in omega arith) in
     ⊎_elim
-    (λ n. let i = next_word_within rule false (y ∷ ys) a (inl n) in omega arith)
+    (λ n. let i = next_piece_within rule false (y ∷ ys) a (inl n) in omega arith)
     (⊎_elim
-    (λ soft. let i = next_word_within rule false (y ∷ ys) a (inr (refl, (sym (ends_in-append (no_blank rule.blank) false k (y ∷ ys)) ∙ soft.word_before, soft.blank_after))) in omega arith)
-    (λ hard. one_word_stops rule.blank false k y ys refl ends hard.one_word))
+    (λ soft. longer_ends soft.word_before (begins_blank rule a soft.next))
+    (⊎_elim
+    (λ hyphen. longer_ends hyphen.word_before (begins_cut rule a hyphen.next))
+    (λ hard. one_piece_stops rule false k y ys refl ends hard.one_piece)))
     m.breaks in
     ⊎_elim
     (λ n. cc)
     (⊎_elim
-    (λ soft. at_word (soft.word_before, soft.blank_after) soft.too_wide)
-    (λ hard. let t = hard.too_wide in omega arith))
+    (λ soft. at_piece (soft.word_before, begins_blank rule (y ∷ ys ++ a) soft.next) soft.too_wide)
+    (⊎_elim
+    (λ hyphen. at_piece (hyphen.word_before, begins_cut rule (y ∷ ys ++ a) hyphen.next) hyphen.too_wide)
+    (λ hard. let t = hard.too_wide in omega arith)))
     l.breaks
 
 -- the parts that two cuts of one list have first: the same, or one of them is longer
@@ -109,6 +135,3 @@ same_kept rule xs ks ms =
     ⊎_elim
     (λ h. ⊎_elim (λ g. h.1 ∙ sym g.1) (λ g. absurd (g.0 h.0)))
     (λ h. ⊎_elim (λ g. absurd (h.0 g.0)) (λ g. same_lines rule ks ms xs xs refl h.1 g.1))
-
-pub wrapped_once : {A : Type 0} (rule : Rule A) (xs : List A) (ks ms : List (List A)) → Wrapped rule xs ks → Wrapped rule xs ms → ks ≡ ms
-wrapped_once rule xs ks ms h g = same_kept rule (kept rule.size rule.width xs) ks ms h g

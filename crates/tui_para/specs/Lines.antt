@@ -4,9 +4,8 @@ use Rattle.tui_text.specs.Grapheme.{Glyph, glyph_width}
 use Rattle.tui_text.specs.declared.alignment.Alignment.{Alignment}
 use Rattle.tui_text.specs.declared.alignment.Alignment.TheVariants.{Left, Center, Right}
 use Rattle.tui_para.specs.Answers.{Answers}
-use Rattle.tui_para.specs.Rule.{glyph_rule}
+use Rattle.tui_para.specs.Hyphens.{Wrapped}
 use Rattle.tui_para.specs.Truncated.{Truncated}
-use Rattle.tui_para.specs.Wrapped.{Wrapped}
 use Rattle.tui_para.specs.declared.wrap.Wrap.{Wrap}
 
 -- a line: its graphemes and its alignment
@@ -29,7 +28,7 @@ cut_all f ts = flat_map (λ t. map (glyph_line t.alignment) (f t)) ts
 
 -- it is wrapped
 abbrev pub WrapsLine : ℕ → Wrap → GlyphLine → List (List Glyph) → Type 0
-WrapsLine w wrap t parts = Wrapped (glyph_rule w wrap) t.glyphs parts
+WrapsLine w wrap t parts = Wrapped w wrap t.glyphs parts
 
 abbrev pub is_left : Alignment → Bool
 is_left Left = true

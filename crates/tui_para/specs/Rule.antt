@@ -1,15 +1,15 @@
 -- How graphemes are wrapped.
-use Rattle.std.specs.Prelude.{ℕ, Bool}
-use Rattle.tui_text.specs.Grapheme.{Glyph, glyph_blank, glyph_width}
-use Rattle.tui_para.specs.declared.wrap.Wrap.{Wrap}
+use Rattle.std.specs.Prelude.{ℕ, Bool, ◌||◌}
 
--- which graphemes are blanks, how wide each of them is, how wide a line may be, and whether a line begins without its blanks
+-- which graphemes are blanks and before which ones their word is cut, how wide each of them is, how wide a line may be, and
+-- whether a line begins without its blanks
 pub record Rule (A : Type 0) : Type 0 where
   pub blank : A → Bool
+  pub cut : A → Bool
   pub size : A → ℕ
   pub width : ℕ
   pub trim : Bool
 
--- the graphemes of texts, wrapped to a width
-abbrev pub glyph_rule : ℕ → Wrap → Rule Glyph
-glyph_rule w wrap = record { blank = glyph_blank; size = glyph_width; width = w; trim = wrap.trim }
+-- what ends a piece of a word where it stands behind it: a cut or a blank
+abbrev pub ends_piece : {A : Type 0} → Rule A → A → Bool
+ends_piece rule x = rule.cut x || rule.blank x

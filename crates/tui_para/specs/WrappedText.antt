@@ -3,8 +3,7 @@ use Rattle.std.specs.Prelude.{ℕ, All, List, [], ◌∷◌, map, unwrap_or}
 use Rattle.tui_cells.specs.declared.style.Style.{Style}
 use Rattle.tui_para.specs.Division.{SpacedWithin}
 use Rattle.tui_para.specs.Lines.{GlyphLine, glyph_line, is_left, CutAll, cut_all, WrapsLine, TruncatesLine}
-use Rattle.tui_para.specs.Places.{wrap}
-use Rattle.tui_para.specs.Rule.{glyph_rule}
+use Rattle.tui_para.specs.Hyphens.{wrap}
 use Rattle.tui_para.specs.Truncated.{truncate}
 use Rattle.tui_para.specs.declared.wrap.Wrap.{Wrap}
 use Rattle.tui_text.specs.Grapheme.{Glyph, glyph_blank, glyph_width}
@@ -31,7 +30,7 @@ TruncatedText w offset alignment text lines = CutAll (TruncatesLine w offset) (t
 
 -- the same as functions
 abbrev pub wrap_text : ℕ → Wrap → Alignment → TextData → List GlyphLine
-wrap_text w way alignment text = cut_all (λ t. wrap (glyph_rule w way) t.glyphs) (text_glyph_lines text alignment)
+wrap_text w way alignment text = cut_all (λ t. wrap w way t.glyphs) (text_glyph_lines text alignment)
 
 abbrev pub truncate_text : ℕ → ℕ → Alignment → TextData → List GlyphLine
 truncate_text w offset alignment text = cut_all (λ t. truncate glyph_width w (is_left t.alignment) offset t.glyphs ∷ []) (text_glyph_lines text alignment)

@@ -10,8 +10,9 @@ mod counter;
 
 use crate::counting::counter::Counter;
 use crate::wrap::Wrap;
+use crate::wrapping::hyphenation::Hyphenation;
 use tui_cells::Style;
-use tui_text::{Line, Text, cell_width};
+use tui_text::{Line, Text};
 
 /// How many lines a text line is wrapped into, cut at the greatest number of 64 bits.
 fn line_count(line: &Line<'_>, base: Style, width: usize, wrap: Wrap) -> usize
@@ -19,10 +20,12 @@ fn line_count(line: &Line<'_>, base: Style, width: usize, wrap: Wrap) -> usize
     ensures { result ≡ saturated (wrapped_len width wrap base (line_data line.now)) }
 {
     let mut counter = Counter::new();
+    let mut hyphenation = Hyphenation::new(wrap.hyphens);
     for grapheme in line.styled_graphemes(base) {
-        let size = usize::from(cell_width(grapheme.symbol));
-        if size <= width {
-            counter.read(size, grapheme.is_whitespace(), width, wrap.trim);
+        let (mark, behind) = hyphenation.mark(&grapheme);
+        if usize::from(mark.width) <= width {
+            counter.read(mark, width, wrap.trim);
+            hyphenation = behind;
         }
     }
     counter.count().max(1)

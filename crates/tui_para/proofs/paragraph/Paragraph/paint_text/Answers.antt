@@ -21,8 +21,8 @@ pub returns-in-Some-clause-ok : goal.returns-in-Some-clause-ok
 returns-in-Some-clause-ok c =
     let p = paragraph_data c.args.self.now in
     let w = c.args.clip.width in
-    let way : Wrap = record { trim = c.in-Some.wrap.trim } in
-    let awaits = (c.new-wrapper.ensures.will (wrap_text w way p.alignment p.text)).1
+    let way = c.in-Some.wrap in
+    let awaits = (c.with_wrap-wrapper.ensures.will (wrap_text w way p.alignment p.text)).1
     (inr (c.requires, (text_glyph_lines p.text p.alignment, c.new-lines.ensures.gives, (text_wraps_once w way p.alignment p.text).meets))) in
     let lines : wrap_text w way p.alignment p.text ≡ paragraph_lines p w =
     sym (ap (λ (o : Option Wrap). option_map_or (λ (wrap : Wrap). wrap_text w wrap p.alignment p.text) o (truncate_text w p.scroll_x p.alignment p.text)) c.in-Some.is) in

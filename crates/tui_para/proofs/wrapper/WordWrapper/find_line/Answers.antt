@@ -46,5 +46,5 @@ returns-in-Some-next-clause-found g c =
     let new = c.advance-in-Some-next.ensures in
     if_ok _ _ c.advance-in-Some-next.result
     (line_begun g.O.Iterator.next_gives g.I.Iterator.next_gives c.args.self.now (positive _ _ c.width.ensures c.if-width-eq0.false) c.advance.new.self c.start.new.self c.advance-in-Some-next.new.self c.next.new.self
-    c.in-Some-next.line c.in-Some-next.alignment (rw c.in_default.is at before.found) start.source start.line start.is_new width way (new.width ∙ width) (new.wrap ∙ way) c.if-self.false c.in-Some-next.ensures.steps)
+    c.in-Some-next.line c.in-Some-next.alignment (rw c.in_default.is at before.found) start.source start.line start.start start.is_new width way (new.width ∙ width) (new.wrap ∙ way) c.if-self.false c.in-Some-next.ensures.steps)
     new.found
