@@ -25,6 +25,12 @@ def words(length):
     return " ".join(text)
 
 
+def compounds(length):
+    """A text of about so many bytes, in the words of the text above, every third of them with a hyphen at its third letter."""
+    each = words(length).split(" ")
+    return " ".join(word[:2] + "-" + word[3:] if i % 3 == 0 and len(word) > 3 else word for i, word in enumerate(each))
+
+
 def short_lines(length):
     """A text of about so many bytes, in lines of five words of the text above."""
     each = words(length).split(" ")
@@ -136,6 +142,9 @@ SCENES = {
     "line1000": lambda: scene(1000, 10, [paragraph(words(1_000_000), (0, 0, 1000, 10), wrap={"trim": True}, scroll=[65535, 0])]),
     "unwrapped": lambda: scene(1000, 10, [paragraph(words(1_000_000), (0, 0, 1000, 10))]),
     "blanks": lambda: scene(20, 10, [paragraph(" " * 1_000_000, (0, 0, 20, 10), wrap={"trim": True})]),
+    "hyphens": lambda: scene(200, 1000, [paragraph(compounds(500_000), (0, 0, 200, 1000), wrap={"trim": True, "hyphens": True})]),
+    "pieces": lambda: scene(20, 10, [paragraph("ab-" * 333_333, (0, 0, 20, 10), wrap={"trim": True, "hyphens": True}, scroll=[65535, 0])]),
+    "nowhere": lambda: scene(20, 10, [paragraph("a-" + "\u2060" * 300_000 + "-b", (0, 0, 20, 10), wrap={"trim": True, "hyphens": True})]),
     "styled": styled,
     "blocks": blocks,
     "list1000": lambda: rolled(200, 1000),

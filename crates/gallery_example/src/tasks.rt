@@ -44,7 +44,10 @@ fn went(place: usize, state: &mut ListState) {
 }
 
 fn draw_log(alloc: Global, lines: &str, area: Rect, buffer: &mut Buffer) -> Mem<()> {
-    let log = Paragraph::new(Text::raw(alloc, lines)?).wrap(Wrap { trim: true });
+    let log = Paragraph::new(Text::raw(alloc, lines)?).wrap(Wrap {
+        trim: true,
+        hyphens: false,
+    });
     let count = log.line_count(alloc, area.width)?;
     let first = count.saturating_sub(usize::from(area.height)).min(65535) as u16;
     log.scroll((first, 0)).render(alloc, area, buffer)

@@ -18,7 +18,12 @@ pub fn draw_paragraph(alloc: Global, buffer: &mut Buffer) -> anyhow::Result<()> 
     text.push_line(closed)?;
     let mut block = Block::bordered(alloc).padding(Padding::horizontal(1));
     block.title(Line::raw(alloc, "Harbour")?)?;
-    let paragraph = Paragraph::new(text).wrap(Wrap { trim: true }).block(block);
+    let paragraph = Paragraph::new(text)
+        .wrap(Wrap {
+            trim: true,
+            hyphens: false,
+        })
+        .block(block);
     paragraph.render(alloc, Rect::new(0, 0, 30, 7), buffer)?;
     Ok(())
 }

@@ -9,7 +9,12 @@ use tui::widgets::{Paragraph, Widget, Wrap};
 fn main(rt: HostRuntime) -> anyhow::Result<()> {
     let alloc = rt.alloc();
     let text = Text::raw(alloc, "The quick brown fox says コンニチハ to the lazy dog.")?;
-    let paragraph = Paragraph::new(text).wrap(Wrap { trim: true }).centered();
+    let paragraph = Paragraph::new(text)
+        .wrap(Wrap {
+            trim: true,
+            hyphens: false,
+        })
+        .centered();
 
     let area = Rect::new(0, 0, 16, 4);
     let mut buffer = Buffer::empty(alloc, area)?;

@@ -23,7 +23,10 @@ fn has_lines(alloc: Global, paragraph: &Paragraph, width: u16, count: usize) -> 
 }
 
 fn is_wrapped(alloc: Global, content: &str, width: u16, trim: bool, count: usize) -> Mem<bool> {
-    let paragraph = plain(alloc, content)?.wrap(Wrap { trim });
+    let paragraph = plain(alloc, content)?.wrap(Wrap {
+        trim,
+        hyphens: false,
+    });
     has_lines(alloc, &paragraph, width, count)
 }
 

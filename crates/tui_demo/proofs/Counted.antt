@@ -7,7 +7,7 @@ use Rattle.tui_para.specs.Wrapped.{IsTheOne}
 use Rattle.tui_para.specs.WrappedText.{WrappedText, wrap_text}
 use Rattle.tui_text.specs.Width.{saturated}
 use Rattle.tui_text.specs.declared.alignment.Alignment.TheVariants.{Left}
-use Rattle.tui_demo.specs.Scene.{HasLines, demo_paragraph, one_line}
+use Rattle.tui_demo.specs.Scene.{HasLines, demo_paragraph, demo_wrap, one_line}
 use Rattle.tui_demo.specs.Text.{demo_text}
 use Rattle.tui_demo.proofs.Fewer.{length-wrap_text}
 use Rattle.tui_demo.proofs.Joined.{short_text}
@@ -16,13 +16,13 @@ use Rattle.tui_demo.proofs.Joined.{short_text}
 abbrev CountsWrapped : {E : Type 0} → Result ℕ E → ParagraphData → Type 0
 CountsWrapped count p =
     IfSome p.wrap (λ wrap. (lines : List GlyphLine) →
-    WrappedText 20 wrap.trim p.alignment p.text lines → count ≡ Ok (beside (saturated (length lines)) (block_rows p)))
+    WrappedText 20 wrap p.alignment p.text lines → count ≡ Ok (beside (saturated (length lines)) (block_rows p)))
 
 pub counted : {E : Type 0} (n : ℕ) (count : Result ℕ E) (p : ParagraphData) → n ≤ 100000 → p ≡ demo_paragraph (demo_text n) →
-    IsTheOne (WrappedText 20 true Left (one_line (demo_text n))) (wrap_text 20 true Left (one_line (demo_text n))) →
+    IsTheOne (WrappedText 20 demo_wrap Left (one_line (demo_text n))) (wrap_text 20 demo_wrap Left (one_line (demo_text n))) →
     CountsWrapped count p → IfOk count (HasLines n)
 counted n count p most is once counts =
-    let lines = wrap_text 20 true Left (one_line (demo_text n)) in
-    let few = length-wrap_text 20 true Left (demo_text n) in
+    let lines = wrap_text 20 demo_wrap Left (one_line (demo_text n)) in
+    let few = length-wrap_text 20 demo_wrap Left (demo_text n) in
     let whole : saturated (length lines) ≡ length lines = omega (arith, few, short_text n) in
     rw (subst (CountsWrapped count) is counts lines once.meets) (lines, once.meets, whole)

@@ -7,12 +7,15 @@ use Rattle.std.proofs.lemmas.List.{append-nil, length-map}
 use Rattle.unicode_segmentation.specs.Grapheme.{graphemes, is_grapheme_break}
 use Rattle.unicode_segmentation.specs.Segments.{Rule, cut, prepend, segments}
 use Rattle.tui_cells.specs.declared.style.Style.{Style}
-use Rattle.tui_para.specs.Places.{line_len, lines_of, wrap, wrap_kept}
+use Rattle.tui_para.specs.Rule.{Rule as Way, ends_piece}
+use Rattle.tui_para.specs.declared.wrap.Wrap.{Wrap}
+use Rattle.tui_para.specs.Hyphens.{glyph_rule, with_cuts, wrap}
+use Rattle.tui_para.specs.Places.{line_len, lines_of, wrap_kept}
 use Rattle.tui_para.specs.Wrapped.{after_break, kept, line_start}
 use Rattle.tui_para.specs.WrappedText.{wrap_text}
 use Rattle.tui_cells.specs.Style.{no_style, patched}
 use Rattle.tui_para.specs.Lines.{glyph_line}
-use Rattle.tui_text.specs.Grapheme.{glyph_blank, glyph_width}
+use Rattle.tui_text.specs.Grapheme.{Glyph, glyph_width}
 use Rattle.tui_text.specs.Graphemes.{clusters, glyph_in, is_shown, line_graphemes}
 use Rattle.tui_text.specs.Line.{raw_line}
 use Rattle.tui_text.specs.declared.alignment.Alignment.{Alignment}
@@ -53,20 +56,33 @@ length-filter : {A : Type 0} (test : A → Bool) (xs : List A) → length (filte
 length-filter test [] = omega arith
 length-filter test (x ∷ xs) = grind (arith, length-filter test xs)
 
-length-lines_of : {A : Type 0} (blank : A → Bool) (size : A → ℕ) (w : ℕ) (trim : Bool) (n : ℕ) (xs : List A) → length (lines_of blank size w trim n xs) ≤ n
-length-lines_of blank size w trim zero xs = omega arith
-length-lines_of blank size w trim (suc n) [] = omega arith
-length-lines_of blank size w trim (suc n) (x ∷ xs) =
-    let s = line_start blank trim (x ∷ xs) in
-    let k = line_len blank size w s in
-    omega (arith, length-lines_of blank size w trim n (after_break blank size (w - sum_by size (take k s)) (drop k s)))
+length-lines_of : {A : Type 0} (rule : Way A) (n : ℕ) (xs : List A) → length (lines_of rule n xs) ≤ n
+length-lines_of rule zero xs = omega arith
+length-lines_of rule (suc n) [] = omega arith
+length-lines_of rule (suc n) (x ∷ xs) =
+    let s = line_start rule.blank rule.trim (x ∷ xs) in
+    let k = line_len (ends_piece rule) rule.blank rule.size rule.width s in
+    omega (arith, length-lines_of rule n (after_break rule (rule.width - sum_by rule.size (take k s)) (drop k s)))
 
-length-wrap_kept : {A : Type 0} (blank : A → Bool) (size : A → ℕ) (w : ℕ) (trim : Bool) (xs : List A) → length (wrap_kept blank size w trim xs) ≤ 1 + length xs
-length-wrap_kept blank size w trim [] = omega arith
-length-wrap_kept blank size w trim (x ∷ xs) = omega (arith, length-lines_of blank size w trim (length (x ∷ xs)) (x ∷ xs))
+length-wrap_kept : {A : Type 0} (rule : Way A) (xs : List A) → length (wrap_kept rule xs) ≤ 1 + length xs
+length-wrap_kept rule [] = omega arith
+length-wrap_kept rule (x ∷ xs) = omega (arith, length-lines_of rule (length (x ∷ xs)) (x ∷ xs))
 
-length-wrap : {A : Type 0} (blank : A → Bool) (size : A → ℕ) (w : ℕ) (trim : Bool) (xs : List A) → length (wrap blank size w trim xs) ≤ 1 + length xs
-length-wrap blank size w trim xs = omega (arith, length-wrap_kept blank size w trim (kept size w xs), length-filter (λ x. nat_le (size x) w) xs)
+length-with_cuts : (hyphens : Bool) (before gs : List Glyph) → length (with_cuts hyphens before gs) ≡ length gs
+length-with_cuts hyphens before [] = refl
+length-with_cuts hyphens before (g ∷ gs) = ap suc (length-with_cuts hyphens (g ∷ before) gs)
+
+length-wrap : (w : ℕ) (way : Wrap) (xs : List Glyph) → length (wrap w way xs) ≤ 1 + length xs
+length-wrap w way xs =
+    let kept_xs = kept glyph_width w xs in
+    let marked = with_cuts way.hyphens [] kept_xs in
+    omega (
+      arith,
+      length-map (wrap_kept (glyph_rule w way) marked) (map (λ (p : Glyph × Bool). p.0)),
+      length-wrap_kept (glyph_rule w way) marked,
+      length-with_cuts way.hyphens [] kept_xs,
+      length-filter (λ x. nat_le (glyph_width x) w) xs,
+    )
 
 length-line_graphemes : (style : Style) (text : List ℕ) → length (line_graphemes style (raw_line text)) ≤ length text
 length-line_graphemes style text =
@@ -75,10 +91,10 @@ length-line_graphemes style text =
     omega (arith, ap length all, length-map (clusters text) glyph, length-filter is_shown (graphemes true text), length-graphemes text)
 
 -- the lines of a text on one line
-pub length-wrap_text : (w : ℕ) (trim : Bool) (alignment : Alignment) (text : List ℕ) → length (wrap_text w trim alignment (one_line text)) ≤ 1 + length text
-length-wrap_text w trim alignment text =
+pub length-wrap_text : (w : ℕ) (way : Wrap) (alignment : Alignment) (text : List ℕ) → length (wrap_text w way alignment (one_line text)) ≤ 1 + length text
+length-wrap_text w way alignment text =
     let glyphs = line_graphemes no_style (raw_line text) in
-    let lines = wrap glyph_blank glyph_width w trim glyphs in
+    let lines = wrap w way glyphs in
     let all = append-nil (map (glyph_line alignment) lines) in
-    let few = length-wrap glyph_blank glyph_width w trim glyphs in
+    let few = length-wrap w way glyphs in
     omega (arith, ap length all, length-map lines (glyph_line alignment), few, length-line_graphemes no_style text)

@@ -8,6 +8,7 @@ use Rattle.tui_lists.specs.ListItem.{ListItemData}
 use Rattle.tui_lists.specs.declared.list.state.ListState.{ListState}
 use Rattle.tui_para.specs.Lines.{GlyphLine}
 use Rattle.tui_para.specs.Paragraph.{ParagraphData, paragraph_of}
+use Rattle.tui_para.specs.declared.wrap.Wrap.{Wrap}
 use Rattle.tui_para.specs.WrappedText.{WrappedText}
 use Rattle.tui_scene.specs.Item.{PlacedData, list, paragraph, still}
 use Rattle.tui_text.specs.Line.{raw_line}
@@ -40,9 +41,13 @@ demo_state n = record { offset = 0; selected = Some (n / 2) }
 abbrev pub one_line : List ℕ → TextData
 one_line text = record empty_text { lines = raw_line text ∷ [] }
 
--- such a text, wrapped with `trim`
+-- lines begin without their blanks, and break at blanks alone
+abbrev pub demo_wrap : Wrap
+demo_wrap = record { trim = true; hyphens = false }
+
+-- such a text, wrapped so
 abbrev pub demo_paragraph : List ℕ → ParagraphData
-demo_paragraph text = record (paragraph_of (one_line text)) { wrap = Some (record { trim = true }) }
+demo_paragraph text = record (paragraph_of (one_line text)) { wrap = Some demo_wrap }
 
 -- the list and, at its right, the words
 abbrev pub demo_scene : ℕ → List PlacedData
@@ -52,4 +57,4 @@ demo_scene n =
 
 -- at 20 columns the words are wrapped into so many lines
 abbrev pub HasLines : ℕ → ℕ → Type 0
-HasLines n count = (lines : List GlyphLine) × WrappedText 20 true Left (one_line (demo_text n)) lines × (count ≡ length lines)
+HasLines n count = (lines : List GlyphLine) × WrappedText 20 demo_wrap Left (one_line (demo_text n)) lines × (count ≡ length lines)

@@ -57,7 +57,10 @@ fn demo_paragraph<'t>(alloc: Global, text: &'t str) -> Mem<Paragraph<'t>>
 {
     let mut content = Text::new(alloc);
     content.push_line(Line::raw(alloc, text)?)?;
-    Ok(Paragraph::new(content).wrap(Wrap { trim: true }))
+    Ok(Paragraph::new(content).wrap(Wrap {
+        trim: true,
+        hyphens: false,
+    }))
 }
 
 /// The number of lines of the words, which is far below the greatest number of 64 bits.

@@ -8,7 +8,7 @@ use Rattle.tui_text.specs.declared.alignment.Alignment.{Alignment}
 use Rattle.tui_text.specs.declared.grapheme.StyledGrapheme.{StyledGrapheme}
 use Rattle.tui_para.specs.Answers.{Answers, both}
 use Rattle.tui_para.specs.Given.{AllReady, MayBe, MayGive, Ready, SourceGives, SourceReads, WillBe, WillGive, line_answers, source_answers}
-use Rattle.tui_para.specs.Lines.{GlyphLine, glyph_line, UnlessDone}
+use Rattle.tui_para.specs.Lines.{GlyphLine, glyph_line, GivenUnlessDone}
 
 -- readiness, a call on
 module _ {O I : Type 0} {outer : Ghosts O (I × Alignment)} {inner : Ghosts I StyledGrapheme} (o u : O) (x : I × Alignment) (r : AllReady outer inner o) (g : outer.next_gives o (Some x) u) where
@@ -126,5 +126,5 @@ module _ {O I : Type 0} (outer : O → Option (I × Alignment) → O → Type 0)
     will = λ ts h. ⊎_elim (λ t. absurd (false≢true (sym going ∙ t.0))) (λ t. (ts, refl, inl (refl, Gave-end outer (MayBe inner) (WillBe inner) o u step ts t.1))) h;
   }
 
-pub will_stop : (T : List GlyphLine → Type 0) (done : Bool) → done ≡ true → (ts : List GlyphLine) → UnlessDone done T ts → ts ≡ []
+pub will_stop : (T : List GlyphLine → Type 0) (done : Bool) → done ≡ true → (ts : List GlyphLine) → GivenUnlessDone done T ts → ts ≡ []
 will_stop T done e ts h = ⊎_elim (λ z. z.1) (λ z. absurd (false≢true (sym z.0 ∙ e))) h

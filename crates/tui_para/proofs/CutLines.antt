@@ -8,7 +8,7 @@ use Rattle.tui_text.specs.declared.grapheme.StyledGrapheme.{StyledGrapheme}
 use Rattle.std.specs.Prelude.{Option}
 use Rattle.tui_para.specs.Answers.{both}
 use Rattle.tui_para.specs.Given.{MayBe, MayGive, WillBe, WillGive, line_answers, source_answers}
-use Rattle.tui_para.specs.Lines.{GlyphLine, glyph_line, is_left, CutAll, IsFirst, IsFirstOf, LinesAfter, lines_from, TruncatesLine}
+use Rattle.tui_para.specs.Lines.{GlyphLine, glyph_line, is_left, CutAll, IsFirst, IsFirstOf, PartsThenLines, lines_from, TruncatesLine}
 use Rattle.tui_para.specs.Truncated.{truncate}
 use Rattle.tui_para.specs.Wrapping.{truncator_answers, truncator_lends}
 use Rattle.tui_para.specs.declared.truncator.LineTruncator.{LineTruncator}
@@ -43,6 +43,6 @@ module _ {O I : Type 0} (outer : O → Option (I × Alignment) → O → Type 0)
       (Gave-then texts (both source rest) rest (λ z. glyph_line a z.0 ∷ z.1) (λ ts. (glyphs, ts)) (line_gave outer inner s.lines u s.done going i a step)
       (Gave-beside source rest rest glyphs (λ ts. ts) (all_may inner (Some i) None all drains refl) (all_will inner (Some i) None all drains refl) (Gave-none rest)))
       (CutAll cuts) (CutAll cuts) s.width s.width some refl (Some (glyph_line a shown))
-      (λ ts comes. first_along (Some (glyph_line a shown)) (CutAll cuts (line ∷ ts)) (CutAll cuts (line ∷ ts)) (LinesAfter left a cuts ts) (CutAll cuts ts) (same_lists (CutAll cuts (line ∷ ts))) (none_before cuts left a (same_lists left) ts)
+      (λ ts comes. first_along (Some (glyph_line a shown)) (CutAll cuts (line ∷ ts)) (CutAll cuts (line ∷ ts)) (PartsThenLines left a cuts ts) (CutAll cuts ts) (same_lists (CutAll cuts (line ∷ ts))) (none_before cuts left a (same_lists left) ts)
       (part_first cuts (cuts line) left a shown ts (cut_first s.width s.offset line shown (cut ∙ ap (truncate glyph_width s.width (is_left a) s.offset) (sym (append-nil (map glyph_of all)))))))
       (λ e. cc)

@@ -4,8 +4,11 @@ use Rattle.std.specs.Prelude.{◌≢◌, ◌⊎◌, IfSome, sum_by}
 use Rattle.std.specs.List.{between}
 use Rattle.std.proofs.lemmas.Bool.{cases_Bool}
 use Rattle.std.proofs.lemmas.List.{append-nil, drop-drop, length-drop}
-use Rattle.tui_text.specs.Grapheme.{Glyph, glyph_blank, glyph_width}
-use Rattle.tui_para.specs.Marked.{glyphs_of}
+use Rattle.tui_text.specs.Grapheme.{Glyph, glyph_width}
+use Rattle.tui_para.specs.Rule.{Rule}
+use Rattle.tui_para.specs.Hyphenation.{marked_from}
+use Rattle.tui_para.specs.Hyphens.{glyph_rule}
+use Rattle.tui_para.specs.Marked.{cuts_of, glyphs_of}
 use Rattle.tui_para.specs.Wrapped.{HasLines, IsNextLine, kept}
 use Rattle.tui_para.specs.Wrapping.{FirstLine, IsNextPlace, glyphs_from}
 use Rattle.tui_para.specs.declared.wrapping.breaking.Place.{Place}
@@ -20,32 +23,32 @@ if_some P Q None f h = h
 if_some P Q (Some x) f h = f x h
 
 -- the lines begin with the next line
-line_taken : {A : Type 0} (blank : A → Bool) (size : A → ℕ) (w : ℕ) (trim : Bool) (xs line rest : List A) → xs ≢ [] → IsNextLine blank size w trim xs line rest → (lines : List (List A)) →
-    HasLines blank size w trim xs lines → (more : List (List A)) × (lines ≡ line ∷ more) × HasLines blank size w trim rest more
-line_taken blank size w trim xs line rest some n [] h = absurd (some h)
-line_taken blank size w trim xs line rest some n (k ∷ lines) h =
-    let same = same_next blank size w trim xs xs k line h.1 rest refl h.2 n in
-    (lines, ap (λ l. l ∷ lines) same.0, subst (λ r. HasLines blank size w trim r lines) same.1 h.3)
+line_taken : {A : Type 0} (rule : Rule A) (xs line rest : List A) → xs ≢ [] → IsNextLine rule xs line rest → (lines : List (List A)) →
+    HasLines rule xs lines → (more : List (List A)) × (lines ≡ line ∷ more) × HasLines rule rest more
+line_taken rule xs line rest some n [] h = absurd (some h)
+line_taken rule xs line rest some n (k ∷ lines) h =
+    let same = same_next rule xs xs k line h.1 rest refl h.2 n in
+    (lines, ap (λ l. l ∷ lines) same.0, subst (λ r. HasLines rule r lines) same.1 h.3)
 
 -- the next line of the front is the next line of all, where something is left of the front or nothing follows
-next_of_all : {A : Type 0} (blank : A → Bool) (size : A → ℕ) (w : ℕ) (trim : Bool) (xs line ys : List A) (next : ℕ) → (next < length xs) ⊎ (ys ≡ []) → IsNextLine blank size w trim xs line (drop next xs) →
-    IsNextLine blank size w trim (xs ++ ys) line (drop next xs ++ ys)
-next_of_all blank size w trim xs line ys next known n = ⊎_elim
-    (λ l. next-append blank size w trim xs line (drop next xs) ys n (λ e. (let z = ap length e in let t = length-drop next xs in absurd (omega arith))))
+next_of_all : {A : Type 0} (rule : Rule A) (xs line ys : List A) (next : ℕ) → (next < length xs) ⊎ (ys ≡ []) → IsNextLine rule xs line (drop next xs) →
+    IsNextLine rule (xs ++ ys) line (drop next xs ++ ys)
+next_of_all rule xs line ys next known n = ⊎_elim
+    (λ l. next-append rule xs line (drop next xs) ys n (λ e. (let z = ap length e in let t = length-drop next xs in absurd (omega arith))))
     (λ e. rw e (rw (append-nil xs, append-nil (drop next xs)) n))
     known
 
 module _ {I : Type 0} (s : TextLine I) (glyphs : List Glyph) where
-  first_empty : (p : Place) → p ≡ record { start = s.place; end = s.place; next = s.place; width = 0 } → s.is_new ≡ true → glyphs ≡ [] → drop s.place (glyphs_of s.line) ≡ [] → FirstLine s p glyphs
+  first_empty : (p : Place) → p ≡ record { start = s.place; end = s.place; next = s.place; width = 0 } → s.is_new ≡ true → glyphs ≡ [] → drop s.place (cuts_of s.line) ≡ [] → FirstLine s p glyphs
   first_empty p at new none gone =
-      let empty : glyphs_from s s.place glyphs ≡ [] = ap (λ k. k ++ kept glyph_width s.width glyphs) gone ∙ ap (kept glyph_width s.width) none in
+      let empty : glyphs_from s s.place glyphs ≡ [] = ap (λ k. k ++ marked_from s.line.hyphenation (kept glyph_width s.width glyphs)) gone ∙ ap (λ k. marked_from s.line.hyphenation (kept glyph_width s.width k)) none in
       rw at (record {
         lends = λ rest h.
-            let ends = no_lines glyph_blank glyph_width s.width s.trim _ rest empty h in
-            inl (new, inl (empty, ap (λ k. k ∷ rest) (between-nil s.place (glyphs_of s.line)) ∙ ap (λ ks. [] ∷ ks) ends));
+            let ends = no_lines (glyph_rule s.width s.wrap) _ rest empty h in
+            inl (new, inl (empty, ap (λ k. k ∷ rest) (between-nil s.place (cuts_of s.line)) ∙ ap (λ ks. [] ∷ ks) ends));
         takes = λ parts h. ⊎_elim
             (λ t. ⊎_elim
-            (λ k. ([], k.1 ∙ sym (ap (λ l. l ∷ []) (between-nil s.place (glyphs_of s.line))), empty))
+            (λ k. ([], k.1 ∙ sym (ap (λ l. l ∷ []) (between-nil s.place (cuts_of s.line))), empty))
             (λ k. absurd (k.0 empty))
             t.1)
             (λ t. absurd (no_new t.0))
@@ -55,18 +58,18 @@ module _ {I : Type 0} (s : TextLine I) (glyphs : List Glyph) where
       no_new : s.is_new ≡ false → ⊥
       no_new e = cc
 
-  module _ (start end next width : ℕ) (l : s.place < length (glyphs_of s.line))
-      (n : IsNextLine glyph_blank glyph_width s.width s.trim (drop s.place (glyphs_of s.line)) (between start end (drop s.place (glyphs_of s.line))) (drop next (drop s.place (glyphs_of s.line))))
-      (known : (next < length (drop s.place (glyphs_of s.line))) ⊎ (glyphs ≡ [])) where
+  module _ (start end next width : ℕ) (l : s.place < length (cuts_of s.line))
+      (n : IsNextLine (glyph_rule s.width s.wrap) (drop s.place (cuts_of s.line)) (between start end (drop s.place (cuts_of s.line))) (drop next (drop s.place (cuts_of s.line))))
+      (known : (next < length (drop s.place (cuts_of s.line))) ⊎ (glyphs ≡ [])) where
     pub first_known : FirstLine s (record { start = s.place + start; end = s.place + end; next = s.place + next; width = width }) glyphs
     first_known =
-        let all = glyphs_of s.line in
+        let all = cuts_of s.line in
         let xs = drop s.place all in
-        let ys = kept glyph_width s.width glyphs in
+        let ys = marked_from s.line.hyphenation (kept glyph_width s.width glyphs) in
         let line = between start end xs in
-        let has = HasLines glyph_blank glyph_width s.width s.trim in
-        let first : IsNextLine glyph_blank glyph_width s.width s.trim (xs ++ ys) line (drop next xs ++ ys) =
-        next_of_all glyph_blank glyph_width s.width s.trim xs line ys next (⊎_elim (λ k. inl k) (λ e. inr (ap (kept glyph_width s.width) e)) known) n in
+        let has = HasLines (glyph_rule s.width s.wrap) in
+        let first : IsNextLine (glyph_rule s.width s.wrap) (xs ++ ys) line (drop next xs ++ ys) =
+        next_of_all (glyph_rule s.width s.wrap) xs line ys next (⊎_elim (λ k. inl k) (λ e. inr (ap (λ k. marked_from s.line.hyphenation (kept glyph_width s.width k)) e)) known) n in
         let some : xs ≢ [] = λ e. (let z = ap length e in let t = length-drop s.place all in absurd (omega arith)) in
         let more : xs ++ ys ≢ [] = some_append xs ys some in
         let at : between (s.place + start) (s.place + end) all ≡ line = sym (between-drop s.place start end all) in
@@ -78,12 +81,12 @@ module _ {I : Type 0} (s : TextLine I) (glyphs : List Glyph) where
               ⊎_elim (λ e. inl (e, inr (more, lines))) (λ e. inr (e, lines)) (cases_Bool s.is_new);
           takes = λ parts h.
               let lines : has (xs ++ ys) parts = ⊎_elim (λ t. ⊎_elim (λ k. absurd (more k.0)) (λ k. k.1) t.1) (λ t. t.1) h in
-              let taken = line_taken glyph_blank glyph_width s.width s.trim (xs ++ ys) line (drop next xs ++ ys) more first parts lines in
+              let taken = line_taken (glyph_rule s.width s.wrap) (xs ++ ys) line (drop next xs ++ ys) more first parts lines in
               (taken.0, taken.1 ∙ ap (λ k. k ∷ taken.0) (sym at), subst (λ k. has k taken.0) (sym after) taken.2);
         }
 
 -- the place of the one empty line
-pub empty_place : {I : Type 0} (s : TextLine I) (p : Place) → p ≡ record { start = s.place; end = s.place; next = s.place; width = 0 } → s.is_new ≡ true → s.source ≡ None → drop s.place (glyphs_of s.line) ≡ [] → IsNextPlace s p
+pub empty_place : {I : Type 0} (s : TextLine I) (p : Place) → p ≡ record { start = s.place; end = s.place; next = s.place; width = 0 } → s.is_new ≡ true → s.source ≡ None → drop s.place (cuts_of s.line) ≡ [] → IsNextPlace s p
 empty_place s p at new ends gone = record {
   order = rw at (omega arith);
   within = rw at (s.within, s.within);

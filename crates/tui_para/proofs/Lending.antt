@@ -5,7 +5,7 @@ use Rattle.std.specs.Prelude.{◌↔◌, ◌⊎◌}
 use Rattle.tui_text.specs.Grapheme.{Glyph}
 use Rattle.tui_text.specs.declared.alignment.Alignment.{Alignment}
 use Rattle.tui_para.specs.Answers.{Answers}
-use Rattle.tui_para.specs.Lines.{GlyphLine, glyph_line, CutAll, IsFirst, IsFirstOf, LinesAfter, LinesFrom, lines_from}
+use Rattle.tui_para.specs.Lines.{GlyphLine, glyph_line, CutAll, IsFirst, IsFirstOf, PartsThenLines, LinesFrom, lines_from}
 use Rattle.tui_para.proofs.Answering.{Gave}
 
 -- what holds of the same lists
@@ -24,14 +24,14 @@ same_lists P xs = (λ h. h, λ h. h)
 
 module _ (R : GlyphLine → List (List Glyph) → Type 0) where
   -- where no part is left of the text line that was begun
-  pub none_before : (P : List (List Glyph) → Type 0) (a : Alignment) → ((parts : List (List Glyph)) → P parts ↔ (parts ≡ [])) → (ts lines : List GlyphLine) → LinesAfter P a R ts lines ↔ CutAll R ts lines
+  pub none_before : (P : List (List Glyph) → Type 0) (a : Alignment) → ((parts : List (List Glyph)) → P parts ↔ (parts ≡ [])) → (ts lines : List GlyphLine) → PartsThenLines P a R ts lines ↔ CutAll R ts lines
   none_before P a none ts lines = (
     λ (parts, p, (rest, cut, e)). subst (CutAll R ts) (sym (e ∙ ap (λ ps. map (glyph_line a) ps ++ rest) ((none parts).0 p))) cut,
     λ cut. ([], (none []).1 refl, (lines, cut, refl)),
   )
 
   -- one more part of it
-  pub part_first : (P Q : List (List Glyph) → Type 0) (a : Alignment) (part : List Glyph) (ts : List GlyphLine) → IsFirstOf (Some part) P Q → IsFirstOf (Some (glyph_line a part)) (LinesAfter P a R ts) (LinesAfter Q a R ts)
+  pub part_first : (P Q : List (List Glyph) → Type 0) (a : Alignment) (part : List Glyph) (ts : List GlyphLine) → IsFirstOf (Some part) P Q → IsFirstOf (Some (glyph_line a part)) (PartsThenLines P a R ts) (PartsThenLines Q a R ts)
   part_first P Q a part ts h = record {
     lends = λ lines (parts, q, (rest, cut, e)). (part ∷ parts, h.lends parts q, (rest, cut, ap (λ k. glyph_line a part ∷ k) e));
     takes = λ lines (parts, p, (rest, cut, e)).
@@ -40,7 +40,7 @@ module _ (R : GlyphLine → List (List Glyph) → Type 0) where
   }
 
   -- its end, where no text line comes after it
-  pub end_first : (P Q : List (List Glyph) → Type 0) (a b : Alignment) → IsFirstOf None P Q → IsFirstOf None (LinesAfter P a R []) (LinesAfter Q b R [])
+  pub end_first : (P Q : List (List Glyph) → Type 0) (a b : Alignment) → IsFirstOf None P Q → IsFirstOf None (PartsThenLines P a R []) (PartsThenLines Q b R [])
   end_first P Q a b h = record {
     lends = ([], h.lends, ([], refl, refl));
     takes = λ lines (parts, p, (rest, cut, e)). (let k = h.takes parts p in (e ∙ (ap (λ ps. map (glyph_line a) ps ++ rest) k.0 ∙ cut), ([], k.1, ([], refl, refl))));

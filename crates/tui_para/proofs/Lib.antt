@@ -2,6 +2,10 @@ mod Unique
 mod Greedy
 mod Rows
 mod Mapped
+mod WithCuts
+mod Zipped
+mod WithoutCuts
+mod LinesBehind
 mod Filled
 mod Parts
 mod Lending

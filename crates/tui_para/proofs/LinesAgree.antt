@@ -1,13 +1,14 @@
 -- Lines that may come are those that come in any case, where these are known.
 use Rattle.std.proofs.Common.{◌≡◌, ℕ, Bool, List, [], ◌∷◌, ◌++◌, Option, Some, None, map, refl, sym, ap, ◌∙◌, ⊎_elim, subst, arith}
 use Rattle.std.proofs.lemmas.Bool.{false≢true}
-use Rattle.tui_text.specs.Grapheme.{Glyph, glyph_blank, glyph_width}
+use Rattle.tui_text.specs.Grapheme.{Glyph, glyph_width}
 use Rattle.tui_text.specs.declared.alignment.Alignment.{Alignment}
 use Rattle.tui_text.specs.declared.grapheme.StyledGrapheme.{StyledGrapheme}
+use Rattle.tui_para.specs.declared.wrap.Wrap.{Wrap}
 use Rattle.tui_para.specs.Answers.{Answers}
 use Rattle.tui_para.specs.Given.{MayGive, WillGive, IsGlyph, MayBe, WillBe, SourceGives}
-use Rattle.tui_para.specs.Lines.{GlyphLine, glyph_line, is_left, LinesFrom, TruncatesLine, UnlessDone, WrapsLine}
-use Rattle.tui_para.specs.Places.{wrap}
+use Rattle.tui_para.specs.Lines.{GlyphLine, glyph_line, is_left, LinesFrom, TruncatesLine, GivenUnlessDone, WrapsLine}
+use Rattle.tui_para.specs.Hyphens.{Uncut, glyph_rule, uncut, wrap}
 use Rattle.tui_para.specs.Truncated.{truncate}
 use Rattle.tui_para.specs.Wrapped.{IsTheOne}
 use Rattle.tui_para.specs.Wrapping.{LinesOfRest, TruncatorCuts, TruncatorMayLend, TruncatorWillLend, WrapperCuts, WrapperMayLend, WrapperWillLend, truncator_answers, wrapper_answers}
@@ -32,7 +33,7 @@ module _ {O I : Type 0} (outer : O → Option (I × Alignment) → O → Type 0)
       let alignment : t.alignment ≡ u.alignment = sym m.1 ∙ w.1 in
       ap (glyph_line t.alignment) glyphs ∙ ap (λ a. glyph_line a u.glyphs) alignment
 
-  texts_agree : (done : Bool) (o : O) (ts us : List GlyphLine) → UnlessDone done (MayGive outer (MayBe inner) o) ts → UnlessDone done (WillGive outer (WillBe inner) o) us → ts ≡ us
+  texts_agree : (done : Bool) (o : O) (ts us : List GlyphLine) → GivenUnlessDone done (MayGive outer (MayBe inner) o) ts → GivenUnlessDone done (WillGive outer (WillBe inner) o) us → ts ≡ us
   texts_agree done o ts us m w = ⊎_elim
       (λ a. ⊎_elim (λ b. a.1 ∙ sym b.1) (λ b. absurd (false≢true (sym b.0 ∙ a.0))) w)
       (λ a. ⊎_elim (λ b. absurd (false≢true (sym a.0 ∙ b.0))) (λ b. items_agree outer (MayBe inner) (WillBe inner) line_agrees o ts us a.1 b.1) w)
@@ -43,11 +44,14 @@ source_agrees : {I : Type 0} (inner : I → Option StyledGrapheme → I → Type
 source_agrees inner None glyphs others m w = m ∙ sym w
 source_agrees inner (Some i) glyphs others m w = items_agree inner IsGlyph IsGlyph (λ g y z e f. sym e ∙ f) i glyphs others m w
 
-rest_agrees : (is_new : Bool) (w : ℕ) (trim : Bool) (xs : List Glyph) (parts others : List (List Glyph)) → LinesOfRest is_new w trim xs parts → LinesOfRest is_new w trim xs others → parts ≡ others
-rest_agrees is_new w trim xs parts others h g = ⊎_elim
-    (λ a. ⊎_elim (λ b. same_kept glyph_blank glyph_width w trim xs parts others a.1 b.1) (λ b. absurd (false≢true (sym b.0 ∙ a.0))) g)
-    (λ a. ⊎_elim (λ b. absurd (false≢true (sym a.0 ∙ b.0))) (λ b. same_lines glyph_blank glyph_width w trim parts others xs xs refl a.1 b.1) g)
+rest_agrees : (is_new : Bool) (w : ℕ) (way : Wrap) (xs : List (Glyph × Bool)) (parts others : List (List (Glyph × Bool))) → LinesOfRest is_new w way xs parts → LinesOfRest is_new w way xs others → parts ≡ others
+rest_agrees is_new w way xs parts others h g = ⊎_elim
+    (λ a. ⊎_elim (λ b. same_kept (glyph_rule w way) xs parts others a.1 b.1) (λ b. absurd (false≢true (sym b.0 ∙ a.0))) g)
+    (λ a. ⊎_elim (λ b. absurd (false≢true (sym a.0 ∙ b.0))) (λ b. same_lines (glyph_rule w way) parts others xs xs refl a.1 b.1) g)
     h
+
+parts_agree : (is_new : Bool) (w : ℕ) (way : Wrap) (xs : List (Glyph × Bool)) (parts others : List (List Glyph)) → Uncut (LinesOfRest is_new w way xs) parts → Uncut (LinesOfRest is_new w way xs) others → parts ≡ others
+parts_agree is_new w way xs parts others (cut, h, e) (sliced, g, f) = e ∙ (ap uncut (rest_agrees is_new w way xs cut sliced h g) ∙ sym f)
 
 -- lines that may come are those that come in any case, where this holds of what the iterators give, and that has one cut
 lines_agree : {X : Type 0} (k : Answers X) (cuts : X → List GlyphLine → Type 0) → ((x y : X) → k.may x → k.will y → x ≡ y) → ((x : X) (lines others : List GlyphLine) → cuts x lines → cuts x others → lines ≡ others) →
@@ -69,9 +73,9 @@ module _ {O I : Type 0} (outer : O → Option (I × Alignment) → O → Type 0)
       once : (x : List Glyph × List GlyphLine) (lines others : List GlyphLine) → WrapperCuts s x lines → WrapperCuts s x others → lines ≡ others
       once x lines others (parts, p, (rest, cut, e)) (pieces, q, (more, sliced, d)) =
           let w = s.current.width in
-          let trim = s.current.trim in
-          let only = cut_once (WrapsLine w trim) (λ t. wrap glyph_blank glyph_width w trim t.glyphs) (wraps_only_to w trim) x.1 in
-          e ∙ (ap (λ ps. map (glyph_line s.alignment) ps ++ rest) (rest_agrees s.current.is_new w trim _ parts pieces p q)
+          let way = s.current.wrap in
+          let only = cut_once (WrapsLine w way) (λ t. wrap w way t.glyphs) (wraps_only_to w way) x.1 in
+          e ∙ (ap (λ ps. map (glyph_line s.alignment) ps ++ rest) (parts_agree s.current.is_new w way _ parts pieces p q)
           ∙ (ap (λ ls. map (glyph_line s.alignment) pieces ++ ls) (only rest cut ∙ sym (only more sliced)) ∙ sym d))
 
   pub truncator_agrees : (s : LineTruncator O I) (lines known : List GlyphLine) → TruncatorMayLend outer inner s lines → TruncatorWillLend outer inner s known → lines ≡ known

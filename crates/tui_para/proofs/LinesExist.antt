@@ -1,20 +1,22 @@
 -- There are lines that a composer lends, where there is something that its iterators give.
 use Rattle.std.proofs.Common.{◌≤◌, ℕ, Bool, true, false, List, [], ◌∷◌, ◌++◌, map, length, drop, refl, sym, inl, inr, ⊎_elim, arith}
 use Rattle.std.proofs.lemmas.Bool.{cases_lt}
-use Rattle.std.proofs.lemmas.List.Elements.{All-append, All-drop, recursion_from_All}
-use Rattle.tui_text.specs.Grapheme.{Glyph, glyph_blank, glyph_width}
+use Rattle.std.proofs.lemmas.List.Elements.{All-append, All-drop, All-from_recursion, recursion_from_All}
+use Rattle.tui_text.specs.Grapheme.{Glyph, glyph_width}
+use Rattle.tui_para.specs.declared.wrap.Wrap.{Wrap}
 use Rattle.tui_para.specs.Lines.{GlyphLine, glyph_line, cut_all, is_left, LinesFrom, TruncatesLine, WrapsLine}
-use Rattle.tui_para.specs.Marked.{glyphs_of}
-use Rattle.tui_para.specs.Places.{lines_of, wrap, wrap_kept}
+use Rattle.tui_para.specs.Marked.{cuts_of}
+use Rattle.tui_para.specs.Hyphenation.{marked_from}
+use Rattle.tui_para.specs.Hyphens.{glyph_rule, uncut, wrap}
+use Rattle.tui_para.specs.Places.{lines_of, wrap_kept}
 use Rattle.tui_para.specs.Truncated.{truncate}
-use Rattle.tui_para.specs.Wrapped.{WrapsKept, kept}
+use Rattle.tui_para.specs.Wrapped.{kept}
 use Rattle.tui_para.specs.Wrapping.{LinesOfRest, PartsWith, TruncatorCuts, WrapperCuts, glyphs_from}
 use Rattle.tui_para.specs.declared.wrapping.text_line.TextLine.{TextLine}
 use Rattle.tui_para.specs.declared.truncator.LineTruncator.{LineTruncator}
 use Rattle.tui_para.specs.declared.wrapper.WordWrapper.{WordWrapper}
-use Rattle.tui_para.proofs.Filled.{no_cons}
-use Rattle.tui_para.proofs.Greedy.{AllFit, lines_are}
-use Rattle.tui_para.proofs.Parts.{all_kept}
+use Rattle.tui_para.proofs.Greedy.{AllFit, all_fit-kept, lines_are, wrap_kept_is}
+use Rattle.tui_para.proofs.WithCuts.{fit-marked}
 use Rattle.tui_para.proofs.TextCut.{cut_is, truncates_to, wraps_to}
 
 -- what is given is cut into lines
@@ -22,28 +24,27 @@ pub lines_exist : {X : Type 0} (given : X → Type 0) (cuts : X → List GlyphLi
 lines_exist given cuts exist (x, gives) w = ⊎_elim (λ some. (let (lines, cut) = exist x in (lines, inr (some, (x, gives, cut))))) (λ none. ([], inl (omega arith, refl))) (cases_lt 0 w)
 
 -- graphemes that fit have lines
-rest_wraps : (w : ℕ) (trim : Bool) (xs : List Glyph) → AllFit glyph_width w xs → WrapsKept glyph_blank glyph_width w trim xs (wrap_kept glyph_blank glyph_width w trim xs)
-rest_wraps w trim [] fit = inl (refl, refl)
-rest_wraps w trim (x ∷ xs) fit = inr (λ e. no_cons x xs (sym e), lines_are glyph_blank glyph_width w trim (length (x ∷ xs)) (x ∷ xs) (omega arith) fit)
-
-rest_exists : (is_new : Bool) (w : ℕ) (trim : Bool) (xs : List Glyph) → AllFit glyph_width w xs → (parts : List (List Glyph)) × LinesOfRest is_new w trim xs parts
-rest_exists true w trim xs fit = (wrap_kept glyph_blank glyph_width w trim xs, inl (refl, rest_wraps w trim xs fit))
-rest_exists false w trim xs fit = (lines_of glyph_blank glyph_width w trim (length xs) xs, inr (refl, lines_are glyph_blank glyph_width w trim (length xs) xs (omega arith) fit))
+rest_exists : (is_new : Bool) (w : ℕ) (way : Wrap) (xs : List (Glyph × Bool)) → AllFit (λ (p : Glyph × Bool). glyph_width p.0) w xs → (parts : List (List (Glyph × Bool))) × LinesOfRest is_new w way xs parts
+rest_exists true w way xs fit = (wrap_kept (glyph_rule w way) xs, inl (refl, wrap_kept_is (glyph_rule w way) xs fit))
+rest_exists false w way xs fit = (lines_of (glyph_rule w way) (length xs) xs, inr (refl, lines_are (glyph_rule w way) (length xs) xs (omega arith) fit))
 
 -- the parts that are left of a text line
 parts_exist : {I : Type 0} (s : TextLine I) (glyphs : List Glyph) → (parts : List (List Glyph)) × PartsWith s glyphs parts
 parts_exist s glyphs =
-    let fits = λ (x : Glyph). glyph_width x ≤ s.width in
-    let fit = All-append fits (drop s.place (glyphs_of s.line)) (kept glyph_width s.width glyphs) (All-drop fits s.place (glyphs_of s.line) s.fit) (all_kept glyph_width s.width glyphs (kept glyph_width s.width glyphs) refl) in
-    rest_exists s.is_new s.width s.trim (glyphs_from s s.place glyphs) (recursion_from_All fits (glyphs_from s s.place glyphs) fit)
+    let fits = λ (x : Glyph × Bool). glyph_width x.0 ≤ s.width in
+    let left = marked_from s.line.hyphenation (kept glyph_width s.width glyphs) in
+    let fit = All-append fits (drop s.place (cuts_of s.line)) left (All-drop fits s.place (cuts_of s.line) s.fit)
+    (All-from_recursion fits left (fit-marked s.width s.line.hyphenation (kept glyph_width s.width glyphs) (all_fit-kept glyph_width s.width glyphs))) in
+    let (cut, has) = rest_exists s.is_new s.width s.wrap (glyphs_from s s.place glyphs) (recursion_from_All fits (glyphs_from s s.place glyphs) fit) in
+    (uncut cut, (cut, has, refl))
 
 -- the lines of a wrapper, and of a truncator
 pub wrapper_cuts : {O I : Type 0} (s : WordWrapper O I) (x : List Glyph × List GlyphLine) → (lines : List GlyphLine) × WrapperCuts s x lines
 wrapper_cuts s x =
-    let wraps = λ (t : GlyphLine). wrap glyph_blank glyph_width s.current.width s.current.trim t.glyphs in
+    let wraps = λ (t : GlyphLine). wrap s.current.width s.current.wrap t.glyphs in
     let (parts, left) = parts_exist s.current x.0 in
     let rest = cut_all wraps x.1 in
-    (map (glyph_line s.alignment) parts ++ rest, (parts, left, (rest, cut_is (WrapsLine s.current.width s.current.trim) wraps (wraps_to s.current.width s.current.trim) x.1, refl)))
+    (map (glyph_line s.alignment) parts ++ rest, (parts, left, (rest, cut_is (WrapsLine s.current.width s.current.wrap) wraps (wraps_to s.current.width s.current.wrap) x.1, refl)))
 
 pub truncator_cuts : {O I : Type 0} (s : LineTruncator O I) (ts : List GlyphLine) → (lines : List GlyphLine) × TruncatorCuts s ts lines
 truncator_cuts s ts =

@@ -4,7 +4,8 @@ use Rattle.std.specs.Prelude.{◌≢◌, sum_by}
 use Rattle.std.specs.List.{between}
 use Rattle.std.proofs.lemmas.List.{drop-drop, drop-map, take-map, take_rest}
 use Rattle.std.proofs.lemmas.List.Elements.{All-map, All-drop, All-from_recursion}
-use Rattle.tui_para.specs.Wrapped.{HasLines, kept, Wrapped}
+use Rattle.tui_para.specs.Rule.{Rule}
+use Rattle.tui_para.specs.Wrapped.{HasLines, WrapsKept, kept}
 use Rattle.tui_para.proofs.Filled.{no_cons}
 use Rattle.tui_para.proofs.Greedy.{all_fit-kept}
 use Rattle.tui_para.proofs.Mapped.{sum_by-map}
@@ -21,13 +22,13 @@ between-drop place start end xs =
     let n : place + end - (place + start) ≡ end - start = omega arith in
     ap (take (end - start)) (drop-drop start place xs) ∙ sym (ap (λ i. take i (drop (place + start) xs)) n)
 
-pub no_lines : {A : Type 0} (blank : A → Bool) (size : A → ℕ) (w : ℕ) (trim : Bool) (xs : List A) (lines : List (List A)) → xs ≡ [] → HasLines blank size w trim xs lines → lines ≡ []
-no_lines blank size w trim xs [] e h = refl
-no_lines blank size w trim xs (l ∷ ls) e h = absurd (h.0 e)
+pub no_lines : {A : Type 0} (rule : Rule A) (xs : List A) (lines : List (List A)) → xs ≡ [] → HasLines rule xs lines → lines ≡ []
+no_lines rule xs [] e h = refl
+no_lines rule xs (l ∷ ls) e h = absurd (h.0 e)
 
-pub lines_some : {A : Type 0} (blank : A → Bool) (size : A → ℕ) (w : ℕ) (trim : Bool) (xs : List A) (lines : List (List A)) → HasLines blank size w trim xs lines → xs ≢ [] → 0 < length lines
-lines_some blank size w trim xs [] h some = absurd (some h)
-lines_some blank size w trim xs (l ∷ ls) h some = omega arith
+pub lines_some : {A : Type 0} (rule : Rule A) (xs : List A) (lines : List (List A)) → HasLines rule xs lines → xs ≢ [] → 0 < length lines
+lines_some rule xs [] h some = absurd (some h)
+lines_some rule xs (l ∷ ls) h some = omega arith
 
 module _ {A B : Type 0} (f : A → B) (xs : List A) (ys : List B) (place : ℕ) (seen : ys ≡ take (length (map f xs) - place) (drop place (map f xs))) where
   -- what is seen of the graphemes from a place on
@@ -40,11 +41,11 @@ module _ {A B : Type 0} (f : A → B) (xs : List A) (ys : List B) (place : ℕ) 
   pub seen_width : (size : B → ℕ) (start end n : ℕ) → n ≡ sum_by size (between start end ys) → n ≡ sum_by (λ x. size (f x)) (between (place + start) (place + end) xs)
   seen_width size start end n e =
       e ∙ (ap (λ t. sum_by size (between start end t)) (sym seen_from) ∙ (ap (sum_by size) (between-map f start end (drop place xs))
-      ∙ (sum_by-map f (λ y. true) size (between start end (drop place xs)) ∙ ap (sum_by (λ x. size (f x))) (between-drop place start end xs))))
+      ∙ (sum_by-map f (λ y. true) (λ y. true) size (between start end (drop place xs)) ∙ ap (sum_by (λ x. size (f x))) (between-drop place start end xs))))
 
 pub all_kept : {A : Type 0} (size : A → ℕ) (w : ℕ) (xs ys : List A) → ys ≡ kept size w xs → All (λ x. size x ≤ w) ys
 all_kept size w xs ys e = subst (All (λ x. size x ≤ w)) (sym e) (All-from_recursion (λ x. size x ≤ w) (kept size w xs) (all_fit-kept size w xs))
 
 -- a text line has a line
-pub wraps_some : {A : Type 0} (blank : A → Bool) (size : A → ℕ) (w : ℕ) (trim : Bool) (xs : List A) → Wrapped blank size w trim xs [] → ⊥
-wraps_some blank size w trim xs h = ⊎_elim (λ e. no_cons _ _ e.1) (λ e. e.0 e.1) h
+pub wraps_some : {A : Type 0} (rule : Rule A) (xs : List A) → WrapsKept rule xs [] → ⊥
+wraps_some rule xs h = ⊎_elim (λ e. no_cons _ _ e.1) (λ e. e.0 e.1) h

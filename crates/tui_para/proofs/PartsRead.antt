@@ -1,85 +1,126 @@
 -- The parts that are left of a text line: where more of it is read, and where the next of them is found.
-use Rattle.std.proofs.Common.{◌≡◌, ℕ, List, [], ◌++◌, Option, Some, None, Bool, false, drop, map, refl, sym, ap, ◌∙◌, subst, inr, ⊎_elim, arith}
+use Rattle.std.proofs.Common.{◌≡◌, ◌≤◌, ℕ, List, [], ◌++◌, length, Option, Some, None, Bool, false, drop, map, refl, sym, ap, ◌∙◌, subst, inr, ⊎_elim, arith}
 use Rattle.std.proofs.lemmas.Bool.{false≢true}
-use Rattle.std.proofs.lemmas.List.{append-nil, append_assoc, drop_all}
+use Rattle.std.proofs.lemmas.List.{append-nil, append_assoc, drop_all, length-map, map-append}
 use Rattle.std.specs.List.{between}
-use Rattle.std.specs.Prelude.{◌↔◌}
-use Rattle.tui_text.specs.Grapheme.{Glyph, glyph_of, glyph_blank, glyph_width}
+use Rattle.std.specs.Prelude.{◌↔◌, sum_by}
+use Rattle.tui_text.specs.Grapheme.{Glyph, glyph_of, glyph_width}
 use Rattle.tui_text.specs.declared.grapheme.StyledGrapheme.{StyledGrapheme}
 use Rattle.tui_para.specs.Given.{SourceReads}
+use Rattle.tui_para.specs.Hyphenation.{behind_all, marked_from}
+use Rattle.tui_para.specs.Hyphens.{Uncut, glyph_rule, uncut}
 use Rattle.tui_para.specs.Lines.{IsFirstOf}
-use Rattle.tui_para.specs.Marked.{IsPart, glyphs_of, part_of}
+use Rattle.tui_para.specs.Marked.{HasKept, IsPart, cuts_of, glyphs_of, part_of}
 use Rattle.tui_para.specs.Wrapped.{HasLines, kept}
-use Rattle.tui_para.specs.Wrapping.{FindsPart, HasRead, IsNextPlace, LinesOfRest, PartsWith, glyphs_from}
+use Rattle.tui_para.specs.Wrapping.{CutPartsWith, FindsPart, HasRead, IsNextPlace, LinesOfRest, PartsWith, glyphs_from}
+use Rattle.tui_para.specs.declared.wrap.Wrap.{Wrap}
 use Rattle.tui_para.specs.declared.wrapping.breaking.Place.{Place}
+use Rattle.tui_para.specs.declared.wrapping.hyphenation.Hyphenation.{Hyphenation}
+use Rattle.tui_para.specs.declared.wrapping.marked.Marked.{Marked}
 use Rattle.tui_para.specs.declared.wrapping.part.Part.{Part}
 use Rattle.tui_para.specs.declared.wrapping.text_line.TextLine.{TextLine}
 use Rattle.tui_para.proofs.Lending.{first_along, same_lists}
-use Rattle.tui_para.proofs.Parts.{no_lines}
-use Rattle.tui_para.proofs.Sources.{kept-append, kept-behind, reads_none, reads_then}
+use Rattle.tui_para.proofs.Parts.{between-map, no_lines}
+use Rattle.tui_para.proofs.Sources.{kept-append, reads_none, reads_then}
+use Rattle.tui_para.proofs.WithCuts.{behind-append, first_uncut, glyph_part, marked-append}
 
 -- what holds of equal values
-same_rest : (parts : List (List Glyph)) (a b : Bool) (w v : ℕ) (trim other : Bool) (xs ys : List Glyph) → a ≡ b → w ≡ v → trim ≡ other → xs ≡ ys → LinesOfRest a w trim xs parts → LinesOfRest b v other ys parts
-same_rest parts a b w v trim other xs ys new width trims whole h =
-    subst (λ k. LinesOfRest k v other ys parts) new (subst (λ n. LinesOfRest a n other ys parts) width (subst (λ k. LinesOfRest a w k ys parts) trims (subst (λ gs. LinesOfRest a w trim gs parts) whole h)))
+same_rest : (parts : List (List (Glyph × Bool))) (a b : Bool) (w v : ℕ) (way other : Wrap) (xs ys : List (Glyph × Bool)) → a ≡ b → w ≡ v → way ≡ other → xs ≡ ys →
+    LinesOfRest a w way xs parts → LinesOfRest b v other ys parts
+same_rest parts a b w v way other xs ys new width ways whole h =
+    subst (λ k. LinesOfRest k v other ys parts) new (subst (λ n. LinesOfRest a n other ys parts) width (subst (λ k. LinesOfRest a w k ys parts) ways (subst (λ gs. LinesOfRest a w way gs parts) whole h)))
 
-same_has : (parts : List (List Glyph)) (w v : ℕ) (trim other : Bool) (xs ys : List Glyph) → w ≡ v → trim ≡ other → xs ≡ ys → HasLines glyph_blank glyph_width w trim xs parts → HasLines glyph_blank glyph_width v other ys parts
-same_has parts w v trim other xs ys width trims whole h =
-    let has = HasLines glyph_blank glyph_width in
-    subst (λ n. has n other ys parts) width (subst (λ k. has w k ys parts) trims (subst (λ gs. has w trim gs parts) whole h))
+same_has : (parts : List (List (Glyph × Bool))) (w v : ℕ) (way other : Wrap) (xs ys : List (Glyph × Bool)) → w ≡ v → way ≡ other → xs ≡ ys → HasLines (glyph_rule w way) xs parts → HasLines (glyph_rule v other) ys parts
+same_has parts w v way other xs ys width ways whole h =
+    let has = λ (n : ℕ) (k : Wrap). HasLines (glyph_rule n k) in
+    subst (λ n. has n other ys parts) width (subst (λ k. has w k ys parts) ways (subst (λ gs. has w way gs parts) whole h))
 
 -- the parts where no grapheme is left
-module _ {I : Type 0} (s : TextLine I) (old : s.is_new ≡ false) (gone : drop s.place (glyphs_of s.line) ≡ []) (glyphs : List Glyph) (none : glyphs ≡ []) where
+module _ {I : Type 0} (s : TextLine I) (old : s.is_new ≡ false) (gone : drop s.place (cuts_of s.line) ≡ []) (glyphs : List Glyph) (none : glyphs ≡ []) where
   empty : glyphs_from s s.place glyphs ≡ []
-  empty = ap (λ k. k ++ kept glyph_width s.width glyphs) gone ∙ ap (kept glyph_width s.width) none
+  empty = ap (λ k. k ++ marked_from s.line.hyphenation (kept glyph_width s.width glyphs)) gone ∙ ap (λ k. marked_from s.line.hyphenation (kept glyph_width s.width k)) none
+
+  cut_none : (parts : List (List (Glyph × Bool))) → CutPartsWith s glyphs parts → parts ≡ []
+  cut_none parts h = ⊎_elim (λ e. absurd (false≢true (sym old ∙ e.0))) (λ e. no_lines (glyph_rule s.width s.wrap) _ parts empty e.1) h
 
   pub only_none : (parts : List (List Glyph)) → PartsWith s glyphs parts ↔ (parts ≡ [])
   only_none parts = (
-    λ h. ⊎_elim (λ e. absurd (false≢true (sym old ∙ e.0))) (λ e. no_lines glyph_blank glyph_width s.width s.trim _ parts empty e.1) h,
-    λ e. subst (PartsWith s glyphs) (sym e) (inr (old, empty)),
+    λ (cut, h, e). e ∙ ap uncut (cut_none cut h),
+    λ e. ([], inr (old, empty), e),
   )
 
 -- those of a composer that was just made
-pub no_parts : {I : Type 0} (s : TextLine I) → s.is_new ≡ false → glyphs_of s.line ≡ [] → (glyphs : List Glyph) → glyphs ≡ [] → (parts : List (List Glyph)) → PartsWith s glyphs parts ↔ (parts ≡ [])
+pub no_parts : {I : Type 0} (s : TextLine I) → s.is_new ≡ false → cuts_of s.line ≡ [] → (glyphs : List Glyph) → glyphs ≡ [] → (parts : List (List Glyph)) → PartsWith s glyphs parts ↔ (parts ≡ [])
 no_parts s old none = only_none s old (ap (drop s.place) none ∙ drop_all s.place [] (omega arith))
+
+-- graphemes that are read behind others, and then more
+module _ (w v : ℕ) (b c : Hyphenation) (xs ys : List Glyph) (width : v ≡ w) (goes : c ≡ behind_all b (kept glyph_width w xs)) where
+  more_marked : marked_from b (kept glyph_width w xs) ++ marked_from c (kept glyph_width v ys) ≡ marked_from b (kept glyph_width w (xs ++ ys))
+  more_marked =
+      let first = kept glyph_width w xs in
+      ap (λ k. marked_from b first ++ k) (ap (λ n. marked_from c (kept glyph_width n ys)) width ∙ ap (λ d. marked_from d (kept glyph_width w ys)) goes)
+      ∙ (sym (marked-append b first (kept glyph_width w ys)) ∙ sym (ap (marked_from b) (kept-append glyph_width w xs ys)))
+
+  pub marked_then : (front before after : List (Glyph × Bool)) → before ≡ front ++ marked_from b (kept glyph_width w xs) → after ≡ before ++ marked_from c (kept glyph_width v ys) →
+      after ≡ front ++ marked_from b (kept glyph_width w (xs ++ ys))
+  marked_then front before after e h =
+      h ∙ (ap (λ k. k ++ marked_from c (kept glyph_width v ys)) e ∙ (append_assoc front (marked_from b (kept glyph_width w xs)) (marked_from c (kept glyph_width v ys)) ∙ ap (λ k. front ++ k) more_marked))
+
+  pub behind_then : (d : Hyphenation) → d ≡ behind_all c (kept glyph_width v ys) → d ≡ behind_all b (kept glyph_width w (xs ++ ys))
+  behind_then d h =
+      h ∙ (ap (λ n. behind_all c (kept glyph_width n ys)) width ∙ (ap (λ k. behind_all k (kept glyph_width w ys)) goes
+      ∙ (sym (behind-append b (kept glyph_width w xs) (kept glyph_width w ys)) ∙ sym (ap (behind_all b) (kept-append glyph_width w xs ys)))))
+
+-- graphemes were kept, and then more
+pub HasKept-then : (w : ℕ) (xs ys : List StyledGrapheme) (old middle new : Marked) → HasKept w xs old middle → HasKept w ys middle new → HasKept w (xs ++ ys) old new
+HasKept-then w xs ys old middle new a b =
+    let both = sym (map-append glyph_of xs ys) in
+    record {
+      behind = subst (λ k. cuts_of new ≡ cuts_of old ++ marked_from old.hyphenation (kept glyph_width w k)) both
+          (marked_then w w old.hyphenation middle.hyphenation (map glyph_of xs) (map glyph_of ys) refl a.goes_on (cuts_of old) (cuts_of middle) (cuts_of new) a.behind b.behind);
+      goes_on = subst (λ k. new.hyphenation ≡ behind_all old.hyphenation (kept glyph_width w k)) both
+          (behind_then w w old.hyphenation middle.hyphenation (map glyph_of xs) (map glyph_of ys) refl a.goes_on new.hyphenation b.goes_on);
+    }
 
 module _ {I : Type 0} (gives : I → Option StyledGrapheme → I → Type 0) where
   -- nothing is read yet
   pub HasRead-none : (s : TextLine I) → HasRead gives s s
-  HasRead-none s = record { taken = []; reads = reads_none gives s.source; behind = sym (append-nil (drop s.place (glyphs_of s.line))); is_new = refl; width = refl; trim = refl }
+  HasRead-none s = record { taken = []; reads = reads_none gives s.source; behind = sym (append-nil (drop s.place (cuts_of s.line))); goes_on = refl; is_new = refl; width = refl; wrap = refl }
 
   -- and then more
   pub HasRead-then : (s t u : TextLine I) → HasRead gives s t → HasRead gives t u → HasRead gives s u
   HasRead-then s t u a b =
-      let after = drop u.place (glyphs_of u.line) in
-      let before = drop t.place (glyphs_of t.line) in
+      let after = drop u.place (cuts_of u.line) in
+      let before = drop t.place (cuts_of t.line) in
+      let front = drop s.place (cuts_of s.line) in
+      let h = s.line.hyphenation in
+      let both = sym (map-append glyph_of a.taken b.taken) in
       record {
         taken = a.taken ++ b.taken;
         reads = reads_then gives s.source t.source u.source a.taken b.taken a.reads b.reads;
-        behind = kept-behind glyph_of glyph_width s.width (drop s.place (glyphs_of s.line)) before after a.taken b.taken a.behind
-            (subst (λ w. after ≡ before ++ kept glyph_width w (map glyph_of b.taken)) a.width b.behind);
+        behind = subst (λ k. after ≡ front ++ marked_from h (kept glyph_width s.width k)) both
+            (marked_then s.width t.width h t.line.hyphenation (map glyph_of a.taken) (map glyph_of b.taken) a.width a.goes_on front before after a.behind b.behind);
+        goes_on = subst (λ k. u.line.hyphenation ≡ behind_all h (kept glyph_width s.width k)) both
+            (behind_then s.width t.width h t.line.hyphenation (map glyph_of a.taken) (map glyph_of b.taken) a.width a.goes_on u.line.hyphenation b.goes_on);
         is_new = b.is_new ∙ a.is_new;
         width = b.width ∙ a.width;
-        trim = b.trim ∙ a.trim;
+        wrap = b.wrap ∙ a.wrap;
       }
 
   module _ (s t : TextLine I) (r : HasRead gives s t) (glyphs : List Glyph) where
     read_from : glyphs_from t t.place glyphs ≡ glyphs_from s s.place (map glyph_of r.taken ++ glyphs)
-    read_from =
-        let front = drop s.place (glyphs_of s.line) in
-        let middle = kept glyph_width s.width (map glyph_of r.taken) in
-        ap (λ k. k ++ kept glyph_width t.width glyphs) r.behind ∙ (ap (λ w. front ++ middle ++ kept glyph_width w glyphs) r.width
-        ∙ (append_assoc front middle (kept glyph_width s.width glyphs) ∙ ap (λ k. front ++ k) (sym (kept-append glyph_width s.width (map glyph_of r.taken) glyphs))))
+    read_from = marked_then s.width t.width s.line.hyphenation t.line.hyphenation (map glyph_of r.taken) glyphs r.width r.goes_on
+        (drop s.place (cuts_of s.line)) (drop t.place (cuts_of t.line)) (glyphs_from t t.place glyphs) r.behind refl
 
     -- the parts stay the same
     pub read_parts : (parts : List (List Glyph)) → PartsWith t glyphs parts ↔ PartsWith s (map glyph_of r.taken ++ glyphs) parts
     read_parts parts = (
-      same_rest parts t.is_new s.is_new t.width s.width t.trim s.trim _ _ r.is_new r.width r.trim read_from,
-      same_rest parts s.is_new t.is_new s.width t.width s.trim t.trim _ _ (sym r.is_new) (sym r.width) (sym r.trim) (sym read_from),
+      λ (cut, h, e). (cut, same_rest cut t.is_new s.is_new t.width s.width t.wrap s.wrap _ _ r.is_new r.width r.wrap read_from h, e),
+      λ (cut, h, e). (cut, same_rest cut s.is_new t.is_new s.width t.width s.wrap t.wrap _ _ (sym r.is_new) (sym r.width) (sym r.wrap) (sym read_from) h, e),
     )
 
   -- it is over
-  pub found_none : (s t : TextLine I) → HasRead gives s t → t.source ≡ None → t.is_new ≡ false → drop t.place (glyphs_of t.line) ≡ [] → FindsPart gives s t None
+  pub found_none : (s t : TextLine I) → HasRead gives s t → t.source ≡ None → t.is_new ≡ false → drop t.place (cuts_of t.line) ≡ [] → FindsPart gives s t None
   found_none s t r ends old gone = record {
     is_part = tt;
     taken = r.taken;
@@ -92,33 +133,43 @@ module _ {I : Type 0} (gives : I → Option StyledGrapheme → I → Type 0) whe
   }
 
   -- or its next part is passed
-  module _ (s t u : TextLine I) (p : Place) (part : Part) (source : u.source ≡ t.source) (line : glyphs_of u.line ≡ glyphs_of t.line) (width : u.width ≡ t.width) (trim : u.trim ≡ t.trim) (old : u.is_new ≡ false) (place : u.place ≡ p.next)
+  module _ (s t u : TextLine I) (p : Place) (part : Part) (source : u.source ≡ t.source) (line : u.line ≡ t.line) (width : u.width ≡ t.width) (wrap : u.wrap ≡ t.wrap) (old : u.is_new ≡ false) (place : u.place ≡ p.next)
       (at : part ≡ record { start = p.start; end = p.end; width = p.width }) where
     from : (glyphs : List Glyph) → glyphs_from u u.place glyphs ≡ glyphs_from t p.next glyphs
     from glyphs =
-        ap (λ k. drop k (glyphs_of u.line) ++ kept glyph_width u.width glyphs) place
-        ∙ (ap (λ k. drop p.next k ++ kept glyph_width u.width glyphs) line ∙ ap (λ w. drop p.next (glyphs_of t.line) ++ kept glyph_width w glyphs) width)
+        ap (λ k. drop k (cuts_of u.line) ++ marked_from u.line.hyphenation (kept glyph_width u.width glyphs)) place
+        ∙ (ap (λ (m : Marked). drop p.next (cuts_of m) ++ marked_from m.hyphenation (kept glyph_width u.width glyphs)) line
+        ∙ ap (λ w. drop p.next (cuts_of t.line) ++ marked_from t.line.hyphenation (kept glyph_width w glyphs)) width)
 
-    left : (glyphs : List Glyph) (parts : List (List Glyph)) → HasLines glyph_blank glyph_width t.width t.trim (glyphs_from t p.next glyphs) parts ↔ PartsWith u glyphs parts
+    left : (glyphs : List Glyph) (parts : List (List Glyph)) → Uncut (HasLines (glyph_rule t.width t.wrap) (glyphs_from t p.next glyphs)) parts ↔ PartsWith u glyphs parts
     left glyphs parts = (
-      λ h. inr (old, same_has parts t.width u.width t.trim u.trim _ _ (sym width) (sym trim) (sym (from glyphs)) h),
-      λ h. ⊎_elim (λ e. absurd (false≢true (sym old ∙ e.0))) (λ e. same_has parts u.width t.width u.trim t.trim _ _ width trim (from glyphs) e.1) h,
+      λ (cut, h, e). (cut, inr (old, same_has cut t.width u.width t.wrap u.wrap _ _ (sym width) (sym wrap) (sym (from glyphs)) h), e),
+      λ (cut, h, e). (cut, ⊎_elim (λ k. absurd (false≢true (sym old ∙ k.0))) (λ k. same_has cut u.width t.width u.wrap t.wrap _ _ width wrap (from glyphs) k.1) h, e),
     )
 
-    shown : between p.start p.end (glyphs_of t.line) ≡ part_of (glyphs_of u.line) part
-    shown = ap (between p.start p.end) (sym line) ∙ sym (ap (part_of (glyphs_of u.line)) at)
+    seen : between p.start p.end (glyphs_of t.line) ≡ part_of (glyphs_of u.line) part
+    seen = ap (λ (m : Marked). between p.start p.end (glyphs_of m)) (sym line) ∙ sym (ap (part_of (glyphs_of u.line)) at)
+
+    shown : map glyph_part (between p.start p.end (cuts_of t.line)) ≡ part_of (glyphs_of u.line) part
+    shown = sym (between-map glyph_part p.start p.end (cuts_of t.line)) ∙ seen
 
     stands : IsNextPlace t p → IsPart (glyphs_of u.line) part
     stands k =
-        subst (IsPart (glyphs_of u.line)) (sym at) (subst (λ gs. IsPart gs (record { start = p.start; end = p.end; width = p.width })) (sym line) (record { order = k.order; within = k.within.0; columns = k.columns }))
+        let long = length-map (cuts_of t.line) glyph_part in
+        let near = k.within.0 in
+        subst (IsPart (glyphs_of u.line)) (sym at)
+        (subst (λ (m : Marked). IsPart (glyphs_of m) (record { start = p.start; end = p.end; width = p.width })) (sym line) (record { order = k.order; within = omega arith; columns = k.columns }))
 
     pub found_part : HasRead gives s t → IsNextPlace t p → FindsPart gives s u (Some part)
     found_part r k = record {
       is_part = stands k;
       taken = r.taken;
       reads = subst (λ o. SourceReads gives s.source r.taken o) (sym source) r.reads;
-      first = λ glyphs ended. subst (λ k. IsFirstOf (Some k) (PartsWith s (map glyph_of r.taken ++ glyphs)) (PartsWith u glyphs)) shown
-          (first_along (Some (between p.start p.end (glyphs_of t.line))) (PartsWith t glyphs) (PartsWith s (map glyph_of r.taken ++ glyphs)) (HasLines glyph_blank glyph_width t.width t.trim (glyphs_from t p.next glyphs)) (PartsWith u glyphs)
-          (read_parts s t r glyphs) (left glyphs) (k.first glyphs (λ e. ended (source ∙ e))));
+      first = λ glyphs ended.
+          let has = HasLines (glyph_rule t.width t.wrap) (glyphs_from t p.next glyphs) in
+          let first = first_uncut (Some (between p.start p.end (cuts_of t.line))) (CutPartsWith t glyphs) has (k.first glyphs (λ e. ended (source ∙ e))) in
+          subst (λ k. IsFirstOf (Some k) (PartsWith s (map glyph_of r.taken ++ glyphs)) (PartsWith u glyphs)) shown
+          (first_along (Some (map glyph_part (between p.start p.end (cuts_of t.line)))) (PartsWith t glyphs) (PartsWith s (map glyph_of r.taken ++ glyphs)) (Uncut has) (PartsWith u glyphs)
+          (read_parts s t r glyphs) (left glyphs) first);
       ends = λ e. cc;
     }

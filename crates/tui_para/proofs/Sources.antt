@@ -16,13 +16,6 @@ Yields-append gives s t u (x ∷ xs) ys (j, step, g) h = (j, step, Yields-append
 pub kept-append : {A : Type 0} (size : A → ℕ) (w : ℕ) (xs ys : List A) → kept size w (xs ++ ys) ≡ kept size w xs ++ kept size w ys
 kept-append size w xs ys = filter-append (λ x. nat_le (size x) w) xs ys
 
--- graphemes that are kept behind those that were
-pub kept-behind : {A B : Type 0} (f : A → B) (size : B → ℕ) (w : ℕ) (first before after : List B) (xs ys : List A) → before ≡ first ++ kept size w (map f xs) → after ≡ before ++ kept size w (map f ys) →
-    after ≡ first ++ kept size w (map f (xs ++ ys))
-kept-behind f size w first before after xs ys e h =
-    h ∙ (ap (λ k. k ++ kept size w (map f ys)) e ∙ (append_assoc first (kept size w (map f xs)) (kept size w (map f ys))
-    ∙ ap (λ k. first ++ k) (sym (ap (kept size w) (map-append f xs ys) ∙ kept-append size w (map f xs) (map f ys)))))
-
 -- an iterator over graphemes that gave some, and then more
 pub reads_none : {I : Type 0} (gives : I → Option StyledGrapheme → I → Type 0) (source : Option I) → SourceReads gives source [] source
 reads_none gives None = (refl, refl)
@@ -34,9 +27,3 @@ reads_then gives (Some i) None q xs ys g (none, same) =
     subst (λ r. SourceReads gives (Some i) (xs ++ ys) r) (sym same) (subst (Drains gives i) (sym (append-nil xs) ∙ ap (λ z. xs ++ z) (sym none)) g)
 reads_then gives (Some i) (Some j) None xs ys g (v, (t, h, step)) = (v, (t, Yields-append gives i j t xs ys g h, step))
 reads_then gives (Some i) (Some j) (Some k) xs ys g h = Yields-append gives i j k xs ys g h
-
--- graphemes that are kept behind some of those that fit
-pub fit_behind : {A : Type 0} (size : A → ℕ) (w n : ℕ) (xs front after ys : List A) → All (λ x. size x ≤ w) xs → front ≡ drop n xs → after ≡ front ++ kept size w ys → All (λ x. size x ≤ w) after
-fit_behind size w n xs front after ys fit cut e =
-    let fits = λ (x : _). size x ≤ w in
-    subst (All fits) (sym e) (All-append fits front (kept size w ys) (subst (All fits) (sym cut) (All-drop fits n xs fit)) (all_kept size w ys (kept size w ys) refl))

@@ -4,7 +4,7 @@ use Rattle.std.proofs.lemmas.List.{drop-map}
 use Rattle.std.specs.Iterator.{YieldsFirstBy}
 use Rattle.std.specs.Option.{option_map_or}
 use Rattle.std.specs.Prelude.{MatchOption, OnOk, Result, Ok, Err}
-use Rattle.tui_text.specs.Grapheme.{Glyph, glyph_of, glyph_blank, glyph_width}
+use Rattle.tui_text.specs.Grapheme.{Glyph, glyph_of, glyph_width}
 use Rattle.tui_text.specs.Graphemes.{glyphs_left}
 use Rattle.tui_text.specs.Text.{TextData}
 use Rattle.tui_text.specs.declared.alignment.Alignment.{Alignment}
@@ -12,7 +12,7 @@ use Rattle.tui_text.specs.declared.graphemes.Graphemes.{Graphemes}
 use Rattle.tui_para.specs.Given.{WillGive, WillBe, IsGlyph}
 use Rattle.tui_para.specs.Lines.{GlyphLine, glyph_line, is_left, CutAll, cut_all, WrapsLine, TruncatesLine}
 use Rattle.tui_para.specs.Paragraph.{ParagraphData}
-use Rattle.tui_para.specs.Places.{wrap}
+use Rattle.tui_para.specs.Hyphens.{wrap}
 use Rattle.tui_para.specs.Rendering.{ParagraphLines, paragraph_lines}
 use Rattle.tui_para.specs.TextLines.{glyph_line_left, glyph_lines_left}
 use Rattle.tui_para.specs.Truncated.{truncate}
@@ -20,10 +20,9 @@ use Rattle.tui_para.specs.Wrapped.{IsTheOne}
 use Rattle.tui_para.specs.WrappedText.{WrappedText, TruncatedText, wrap_text, truncate_text, text_glyph_lines}
 use Rattle.tui_para.specs.declared.text_lines.TextLines.{TextLines}
 use Rattle.tui_para.specs.declared.wrap.Wrap.{Wrap}
-use Rattle.tui_para.proofs.Greedy.{wrap_is}
+use Rattle.tui_para.proofs.WithCuts.{wrap_is, wraps_only}
 use Rattle.tui_para.proofs.Filled.{no_cons}
 use Rattle.tui_para.proofs.TruncatedOnce.{truncate_is, truncates_once}
-use Rattle.tui_para.proofs.Unique.{wrapped_once}
 
 module _ (R : GlyphLine → List (List Glyph) → Type 0) (f : GlyphLine → List (List Glyph)) where
   pub cut_is : ((t : GlyphLine) → R t (f t)) → (ts : List GlyphLine) → CutAll R ts (cut_all f ts)
@@ -35,11 +34,11 @@ module _ (R : GlyphLine → List (List Glyph) → Type 0) (f : GlyphLine → Lis
   cut_once one (t ∷ ts) lines (parts, r, (rest, cut, e)) =
       e ∙ (ap (λ ps. map (glyph_line t.alignment) ps ++ rest) (one t parts r) ∙ ap (λ ls. map (glyph_line t.alignment) (f t) ++ ls) (cut_once one ts rest cut))
 
-pub wraps_to : (w : ℕ) (trim : Bool) (t : GlyphLine) → WrapsLine w trim t (wrap glyph_blank glyph_width w trim t.glyphs)
-wraps_to w trim t = wrap_is glyph_blank glyph_width w trim t.glyphs
+pub wraps_to : (w : ℕ) (way : Wrap) (t : GlyphLine) → WrapsLine w way t (wrap w way t.glyphs)
+wraps_to w way t = wrap_is w way t.glyphs
 
-pub wraps_only_to : (w : ℕ) (trim : Bool) (t : GlyphLine) (parts : List (List Glyph)) → WrapsLine w trim t parts → parts ≡ wrap glyph_blank glyph_width w trim t.glyphs
-wraps_only_to w trim t parts h = wrapped_once glyph_blank glyph_width w trim t.glyphs parts (wrap glyph_blank glyph_width w trim t.glyphs) h (wraps_to w trim t)
+pub wraps_only_to : (w : ℕ) (way : Wrap) (t : GlyphLine) (parts : List (List Glyph)) → WrapsLine w way t parts → parts ≡ wrap w way t.glyphs
+wraps_only_to w way t parts h = wraps_only w way t.glyphs parts h
 
 pub truncates_to : (w offset : ℕ) (t : GlyphLine) → TruncatesLine w offset t (truncate glyph_width w (is_left t.alignment) offset t.glyphs ∷ [])
 truncates_to w offset t = (truncate glyph_width w (is_left t.alignment) offset t.glyphs, truncate_is glyph_width w (is_left t.alignment) offset t.glyphs, refl)
@@ -56,10 +55,10 @@ pub one_each-drop : (f : GlyphLine → List Glyph) (n : ℕ) (ts : List GlyphLin
 one_each-drop f n ts = one_each f (drop n ts) ∙ (sym (drop-map (λ t. glyph_line t.alignment (f t)) n ts) ∙ sym (ap (drop n) (one_each f ts)))
 
 -- exactly one list of lines
-pub text_wraps_once : (w : ℕ) (trim : Bool) (a : Alignment) (text : TextData) → IsTheOne (WrappedText w trim a text) (wrap_text w trim a text)
-text_wraps_once w trim a text = record {
-  meets = cut_is (WrapsLine w trim) (λ t. wrap glyph_blank glyph_width w trim t.glyphs) (wraps_to w trim) (text_glyph_lines text a);
-  alone = λ lines h. cut_once (WrapsLine w trim) (λ t. wrap glyph_blank glyph_width w trim t.glyphs) (wraps_only_to w trim) (text_glyph_lines text a) lines h;
+pub text_wraps_once : (w : ℕ) (way : Wrap) (a : Alignment) (text : TextData) → IsTheOne (WrappedText w way a text) (wrap_text w way a text)
+text_wraps_once w way a text = record {
+  meets = cut_is (WrapsLine w way) (λ t. wrap w way t.glyphs) (wraps_to w way) (text_glyph_lines text a);
+  alone = λ lines h. cut_once (WrapsLine w way) (λ t. wrap w way t.glyphs) (wraps_only_to w way) (text_glyph_lines text a) lines h;
 }
 
 pub text_truncates_once : (w offset : ℕ) (a : Alignment) (text : TextData) → IsTheOne (TruncatedText w offset a text) (truncate_text w offset a text)
@@ -91,10 +90,10 @@ glyph_lines_will s ts e = will_give glyph_line_left glyph_lines_left (WillBe (Yi
 pub lines_are : (p : ParagraphData) (w : ℕ) → ParagraphLines p w (paragraph_lines p w)
 lines_are p w = by_wrap p.wrap
   where
-    by_wrap : (o : Option Wrap) → MatchOption o (TruncatedText w p.scroll_x p.alignment p.text (option_map_or (λ (wrap : Wrap). wrap_text w wrap.trim p.alignment p.text) o (truncate_text w p.scroll_x p.alignment p.text)))
-        (λ wrap. WrappedText w wrap.trim p.alignment p.text (option_map_or (λ (wrap : Wrap). wrap_text w wrap.trim p.alignment p.text) o (truncate_text w p.scroll_x p.alignment p.text)))
+    by_wrap : (o : Option Wrap) → MatchOption o (TruncatedText w p.scroll_x p.alignment p.text (option_map_or (λ (wrap : Wrap). wrap_text w wrap p.alignment p.text) o (truncate_text w p.scroll_x p.alignment p.text)))
+        (λ wrap. WrappedText w wrap p.alignment p.text (option_map_or (λ (wrap : Wrap). wrap_text w wrap p.alignment p.text) o (truncate_text w p.scroll_x p.alignment p.text)))
     by_wrap None = (text_truncates_once w p.scroll_x p.alignment p.text).meets
-    by_wrap (Some wrap) = (text_wraps_once w wrap.trim p.alignment p.text).meets
+    by_wrap (Some wrap) = (text_wraps_once w wrap p.alignment p.text).meets
 
 -- what follows where a call is Ok
 pub on_ok : {T E : Type 0} {P Q : Type 0} (r : Result T E) → (P → Q) → OnOk r P → OnOk r Q

@@ -4,7 +4,7 @@ use Rattle.tui_text.specs.Grapheme.{Glyph}
 use Rattle.tui_text.specs.Graphemes.{glyphs_left}
 use Rattle.tui_text.specs.declared.graphemes.Graphemes.{Graphemes}
 use Rattle.tui_para.specs.Given.{IsGlyph, SourceGives, WillBe, WillGive}
-use Rattle.tui_para.specs.Lines.{GlyphLine, UnlessDone}
+use Rattle.tui_para.specs.Lines.{GlyphLine, GivenUnlessDone}
 use Rattle.tui_para.specs.TextLines.{gives_graphemes, gives_lines, glyph_lines_left}
 use Rattle.tui_para.specs.Wrapping.{TruncatorCuts, TruncatorWillLend, WrapperCuts, WrapperWillLend, truncator_answers, wrapper_answers}
 use Rattle.tui_para.specs.declared.text_lines.TextLines.{TextLines}
@@ -17,7 +17,7 @@ source_known : (source : Option Graphemes) → (glyphs : List Glyph) × SourceGi
 source_known None = ([], refl)
 source_known (Some s) = (glyphs_left s, glyphs_will s (glyphs_left s) refl)
 
-texts_known : (done : Bool) (s : TextLines) → (ts : List GlyphLine) × UnlessDone done (WillGive gives_lines (WillBe gives_graphemes) s) ts
+texts_known : (done : Bool) (s : TextLines) → (ts : List GlyphLine) × GivenUnlessDone done (WillGive gives_lines (WillBe gives_graphemes) s) ts
 texts_known true s = ([], inl (refl, refl))
 texts_known false s = (glyph_lines_left s, inr (refl, glyph_lines_will s (glyph_lines_left s) refl))
 

@@ -3,64 +3,91 @@ use Rattle.std.proofs.Common.{◌≡◌, ℕ, ◌-◌, ◌<◌, ◌≤◌, List,
 use Rattle.std.specs.Prelude.{◌≢◌, ◌⊎◌, sum_by, not}
 use Rattle.std.proofs.lemmas.List.Sums.{sum_by-cons, sum_by-append}
 use Rattle.std.proofs.lemmas.List.{append_cancel_left}
-use Rattle.tui_para.specs.Wrapped.{word, next_word, no_blank, ends_in, begins_blank, IsLine, IsNextLine, HasLines, WrapsKept, Wrapped, kept, line_start}
+use Rattle.std.proofs.lemmas.Bool.{cases_Bool}
+use Rattle.tui_para.specs.Rule.{Rule, ends_piece}
+use Rattle.tui_para.specs.Wrapped.{up_to, next_piece, no_blank, ends_in, begins, Breaks, IsLine, IsNextLine, HasLines, WrapsKept, line_start}
 
--- a word ends between the two lists; `p` stands for what the first one ends with where it is empty
-abbrev EndsPiece : {A : Type 0} → (A → Bool) → Bool → List A → List A → Type 0
-EndsPiece blank p d a = (ends_in (no_blank blank) p d ≡ true) × (begins_blank blank a ≡ true)
+-- a piece ends between the two lists; `p` stands for what the first one ends with where it is empty
+abbrev pub EndsPiece : {A : Type 0} → Rule A → Bool → List A → List A → Type 0
+EndsPiece rule p d a = (ends_in (no_blank rule.blank) p d ≡ true) × (begins (ends_piece rule) a ≡ true)
 
--- a word doesn't go on past a blank
-word_stops : {A : Type 0} (blank : A → Bool) (k : List A) (y : A) (ys : List A) → blank y ≡ true → word blank (k ++ y ∷ ys) ≡ k ++ y ∷ ys → ⊥
-word_stops blank [] y ys b e = grind (arith, b, e)
-word_stops blank (x ∷ k) y ys b e = grind (arith, word_stops blank k y ys b)
+-- so at a soft break and at a hyphen break
+module _ {A : Type 0} (rule : Rule A) where
+  pub begins_blank : (a : List A) → begins rule.blank a ≡ true → begins (ends_piece rule) a ≡ true
+  begins_blank [] h = h
+  begins_blank (x ∷ a) h = grind (arith, h)
 
-one_word_stops : {A : Type 0} (blank : A → Bool) (so_far : Bool) (k : List A) (y : A) (ys : List A) → so_far ≡ false → EndsPiece blank so_far k (y ∷ ys) → next_word blank (k ++ y ∷ ys) ≡ k ++ y ∷ ys → ⊥
-one_word_stops blank so_far [] y ys f d e = grind arith
-one_word_stops blank so_far (x ∷ k) y ys f d e = grind (arith, word_stops blank k y ys, one_word_stops blank (not (blank x)) k y ys)
+  pub begins_cut : (a : List A) → begins rule.cut a ≡ true → begins (ends_piece rule) a ≡ true
+  begins_cut [] h = h
+  begins_cut (x ∷ a) h = grind (arith, h)
 
--- a word ends at the latest where a blank follows
-word_within : {A : Type 0} (blank : A → Bool) (size : A → ℕ) (d a : List A) → (a ≡ []) ⊎ (begins_blank blank a ≡ true) → sum_by size (word blank (d ++ a)) ≤ sum_by size d
-word_within blank size [] [] h = omega arith
-word_within blank size [] (x ∷ a) h = grind arith
-word_within blank size (x ∷ d) a h = grind (arith, word_within blank size d a h, sum_by-cons size x d, sum_by-cons size x (word blank (d ++ a)))
+  -- and where a piece ends and what follows is too wide there is one of the two
+  pub breaks_there : (room : ℕ) (line after : List A) → ends_in (no_blank rule.blank) false line ≡ true → begins (ends_piece rule) after ≡ true →
+      room < sum_by rule.size (next_piece rule after) → Breaks rule room line after
+  breaks_there room line [] word next wide = absurd (cc)
+  breaks_there room line (x ∷ after) word next wide = ⊎_elim
+      (λ cut. inr (inl (record { word_before = word; next = cut; too_wide = wide })))
+      (λ no_cut. inl (record { word_before = word; next = grind (arith, next, no_cut); too_wide = wide }))
+      (cases_Bool (rule.cut x))
 
-next_word_within : {A : Type 0} (blank : A → Bool) (size : A → ℕ) (so_far : Bool) (d a : List A) → (a ≡ []) ⊎ ((so_far ≡ false) × EndsPiece blank so_far d a) → sum_by size (next_word blank (d ++ a)) ≤ sum_by size d
-next_word_within blank size so_far [] [] h = omega arith
-next_word_within blank size so_far [] (x ∷ a) h = grind arith
-next_word_within blank size so_far (x ∷ d) a h =
-    let c = sum_by-cons size x d in
-    let u = sum_by-cons size x (word blank (d ++ a)) in
-    let v = sum_by-cons size x (next_word blank (d ++ a)) in
-    grind (arith, word_within blank size d a, next_word_within blank size (not (blank x)) d a, c, u, v)
+-- a piece doesn't go on past its end
+piece_stops : {A : Type 0} (test : A → Bool) (k : List A) (y : A) (ys : List A) → test y ≡ true → up_to test (k ++ y ∷ ys) ≡ k ++ y ∷ ys → ⊥
+piece_stops test [] y ys b e = grind (arith, b, e)
+piece_stops test (x ∷ k) y ys b e = grind (arith, piece_stops test k y ys b)
+
+one_piece_stops : {A : Type 0} (rule : Rule A) (so_far : Bool) (k : List A) (y : A) (ys : List A) → so_far ≡ false → EndsPiece rule so_far k (y ∷ ys) → next_piece rule (k ++ y ∷ ys) ≡ k ++ y ∷ ys → ⊥
+one_piece_stops rule so_far [] y ys f d e = grind arith
+one_piece_stops rule so_far (x ∷ k) y ys f d e = grind (arith, piece_stops (ends_piece rule) k y ys d.1, one_piece_stops rule (not (rule.blank x)) k y ys)
+
+-- a piece ends at the latest where one ends
+piece_within : {A : Type 0} (test : A → Bool) (size : A → ℕ) (d a : List A) → (a ≡ []) ⊎ (begins test a ≡ true) → sum_by size (up_to test (d ++ a)) ≤ sum_by size d
+piece_within test size [] [] h = omega arith
+piece_within test size [] (x ∷ a) h = grind arith
+piece_within test size (x ∷ d) a h = grind (arith, piece_within test size d a h, sum_by-cons size x d, sum_by-cons size x (up_to test (d ++ a)))
+
+next_piece_within : {A : Type 0} (rule : Rule A) (so_far : Bool) (d a : List A) → (a ≡ []) ⊎ ((so_far ≡ false) × EndsPiece rule so_far d a) → sum_by rule.size (next_piece rule (d ++ a)) ≤ sum_by rule.size d
+next_piece_within rule so_far [] [] h = omega arith
+next_piece_within rule so_far [] (x ∷ a) h = grind arith
+next_piece_within rule so_far (x ∷ d) a h =
+    let c = sum_by-cons rule.size x d in
+    let u = sum_by-cons rule.size x (up_to (ends_piece rule) (d ++ a)) in
+    let v = sum_by-cons rule.size x (next_piece rule (d ++ a)) in
+    grind (arith, piece_within (ends_piece rule) rule.size d a, next_piece_within rule (not (rule.blank x)) d a, c, u, v)
 
 pub ends_in-append : {A : Type 0} (test : A → Bool) (so_far : Bool) (xs ys : List A) → ends_in test so_far (xs ++ ys) ≡ ends_in test (ends_in test so_far xs) ys
 ends_in-append test so_far [] ys = refl
 ends_in-append test so_far (x ∷ xs) ys = ends_in-append test (test x) xs ys
 
--- a word ends in no blank
-pub word_ends : {A : Type 0} (blank : A → Bool) (so_far : Bool) (v : List A) → (v ≢ []) ⊎ (so_far ≡ true) → word blank v ≡ v → ends_in (no_blank blank) so_far v ≡ true
-word_ends blank so_far [] n e = grind arith
-word_ends blank so_far (x ∷ v) n e = grind (arith, word_ends blank (not (blank x)) v)
+-- a piece ends in no blank
+pub piece_ends : {A : Type 0} (rule : Rule A) (so_far : Bool) (v : List A) → (v ≢ []) ⊎ (so_far ≡ true) → up_to (ends_piece rule) v ≡ v → ends_in (no_blank rule.blank) so_far v ≡ true
+piece_ends rule so_far [] n e = grind arith
+piece_ends rule so_far (x ∷ v) n e = grind (arith, piece_ends rule (not (rule.blank x)) v)
 
 -- a line that breaks has no longer line beside it
-no_longer : {A : Type 0} (blank : A → Bool) (size : A → ℕ) (w : ℕ) (k : List A) (y : A) (ys a : List A) → IsLine blank size w k (y ∷ ys ++ a) → IsLine blank size w (k ++ y ∷ ys) a → ⊥
-no_longer blank size w k y ys a l m =
-    let e = sum_by-append size k (y ∷ ys) in
-    let f = sum_by-cons size y ys in
-    -- a line that ends with a word, before what is too wide
-    let at_word : EndsPiece blank false k (y ∷ ys ++ a) → w - sum_by size k < sum_by size (next_word blank (y ∷ ys ++ a)) → ⊥ =
+no_longer : {A : Type 0} (rule : Rule A) (k : List A) (y : A) (ys a : List A) → IsLine rule k (y ∷ ys ++ a) → IsLine rule (k ++ y ∷ ys) a → ⊥
+no_longer rule k y ys a l m =
+    let e = sum_by-append rule.size k (y ∷ ys) in
+    let f = sum_by-cons rule.size y ys in
+    -- a line that ends with a word, and after which a piece ends, before what is too wide
+    let at_piece : EndsPiece rule false k (y ∷ ys ++ a) → rule.width - sum_by rule.size k < sum_by rule.size (next_piece rule (y ∷ ys ++ a)) → ⊥ =
     λ ends wide.
+    let longer_ends : ends_in (no_blank rule.blank) false (k ++ y ∷ ys) ≡ true → begins (ends_piece rule) a ≡ true → ⊥ =
+    λ word next. (let i = next_piece_within rule false (y ∷ ys) a (inr (refl, (sym (ends_in-append (no_blank rule.blank) false k (y ∷ ys)) ∙ word, next))) in omega arith) in
     ⊎_elim
-    (λ n. let i = next_word_within blank size false (y ∷ ys) a (inl n) in omega arith)
+    (λ n. let i = next_piece_within rule false (y ∷ ys) a (inl n) in omega arith)
     (⊎_elim
-    (λ soft. let i = next_word_within blank size false (y ∷ ys) a (inr (refl, (sym (ends_in-append (no_blank blank) false k (y ∷ ys)) ∙ soft.word_before, soft.blank_after))) in omega arith)
-    (λ hard. one_word_stops blank false k y ys refl ends hard.one_word))
+    (λ soft. longer_ends soft.word_before (begins_blank rule a soft.next))
+    (⊎_elim
+    (λ hyphen. longer_ends hyphen.word_before (begins_cut rule a hyphen.next))
+    (λ hard. one_piece_stops rule false k y ys refl ends hard.one_piece)))
     m.breaks in
     ⊎_elim
     (λ n. cc)
     (⊎_elim
-    (λ soft. at_word (soft.word_before, soft.blank_after) soft.too_wide)
-    (λ hard. let t = hard.too_wide in omega arith))
+    (λ soft. at_piece (soft.word_before, begins_blank rule (y ∷ ys ++ a) soft.next) soft.too_wide)
+    (⊎_elim
+    (λ hyphen. at_piece (hyphen.word_before, begins_cut rule (y ∷ ys ++ a) hyphen.next) hyphen.too_wide)
+    (λ hard. let t = hard.too_wide in omega arith)))
     l.breaks
 
 -- the parts that two cuts of one list have first: the same, or one of them is longer
@@ -77,37 +104,34 @@ cuts (x ∷ k) a (y ∷ m) b e =
     ⊎_elim (λ s. inl (cc)) (⊎_elim (λ s. inr (inl (s.0, s.1, cc s.2, s.3))) (λ s. inr (inr (s.0, s.1, cc s.2, s.3)))) (cuts k a m b t)
 
 -- a list has at most one line at its front
-pub same_line : {A : Type 0} (blank : A → Bool) (size : A → ℕ) (w : ℕ) (k a m b : List A) → k ++ a ≡ m ++ b → IsLine blank size w k a → IsLine blank size w m b → k ≡ m
-same_line blank size w k a m b e l n =
+pub same_line : {A : Type 0} (rule : Rule A) (k a m b : List A) → k ++ a ≡ m ++ b → IsLine rule k a → IsLine rule m b → k ≡ m
+same_line rule k a m b e l n =
     ⊎_elim (λ s. s)
     (⊎_elim
-    (λ s. absurd (no_longer blank size w k s.0 s.1 b (subst (λ t. IsLine blank size w k t) s.3 l) (subst (λ t. IsLine blank size w t b) s.2 n)))
-    (λ s. absurd (no_longer blank size w m s.0 s.1 a (subst (λ t. IsLine blank size w m t) s.3 n) (subst (λ t. IsLine blank size w t a) s.2 l))))
+    (λ s. absurd (no_longer rule k s.0 s.1 b (subst (λ t. IsLine rule k t) s.3 l) (subst (λ t. IsLine rule t b) s.2 n)))
+    (λ s. absurd (no_longer rule m s.0 s.1 a (subst (λ t. IsLine rule m t) s.3 n) (subst (λ t. IsLine rule t a) s.2 l))))
     (cuts k a m b e)
 
-pub same_next : {A : Type 0} (blank : A → Bool) (size : A → ℕ) (w : ℕ) (trim : Bool) (xs ys k m r t : List A) → xs ≡ ys → IsNextLine blank size w trim xs k r → IsNextLine blank size w trim ys m t → (k ≡ m) × (r ≡ t)
-same_next blank size w trim xs ys k m r t e h g =
-    let whole : k ++ h.after ≡ m ++ g.after = sym h.joined ∙ (ap (line_start blank trim) e ∙ g.joined) in
-    let line = same_line blank size w k h.after m g.after whole h.line_is g.line_is in
+pub same_next : {A : Type 0} (rule : Rule A) (xs ys k m r t : List A) → xs ≡ ys → IsNextLine rule xs k r → IsNextLine rule ys m t → (k ≡ m) × (r ≡ t)
+same_next rule xs ys k m r t e h g =
+    let whole : k ++ h.after ≡ m ++ g.after = sym h.joined ∙ (ap (line_start rule.blank rule.trim) e ∙ g.joined) in
+    let line = same_line rule k h.after m g.after whole h.line_is g.line_is in
     let after : h.after ≡ g.after = append_cancel_left k h.after g.after (whole ∙ ap (λ t. t ++ g.after) (sym line)) in
     let rest : r ≡ t = cc (h.rest_is, g.rest_is) in
     (line, rest)
 
 -- and at most one list of lines
-pub same_lines : {A : Type 0} (blank : A → Bool) (size : A → ℕ) (w : ℕ) (trim : Bool) (ks ms : List (List A)) (xs ys : List A) → xs ≡ ys → HasLines blank size w trim xs ks → HasLines blank size w trim ys ms → ks ≡ ms
-same_lines blank size w trim [] [] xs ys e h g = refl
-same_lines blank size w trim [] (m ∷ ms) xs ys e h g = absurd (g.0 (sym e ∙ h))
-same_lines blank size w trim (k ∷ ks) [] xs ys e h g = absurd (h.0 (e ∙ g))
-same_lines blank size w trim (k ∷ ks) (m ∷ ms) xs ys e h g =
-    let n = same_next blank size w trim xs ys k m h.1 g.1 e h.2 g.2 in
-    let rest = same_lines blank size w trim ks ms h.1 g.1 n.1 h.3 g.3 in
+pub same_lines : {A : Type 0} (rule : Rule A) (ks ms : List (List A)) (xs ys : List A) → xs ≡ ys → HasLines rule xs ks → HasLines rule ys ms → ks ≡ ms
+same_lines rule [] [] xs ys e h g = refl
+same_lines rule [] (m ∷ ms) xs ys e h g = absurd (g.0 (sym e ∙ h))
+same_lines rule (k ∷ ks) [] xs ys e h g = absurd (h.0 (e ∙ g))
+same_lines rule (k ∷ ks) (m ∷ ms) xs ys e h g =
+    let n = same_next rule xs ys k m h.1 g.1 e h.2 g.2 in
+    let rest = same_lines rule ks ms h.1 g.1 n.1 h.3 g.3 in
     cc
 
-pub same_kept : {A : Type 0} (blank : A → Bool) (size : A → ℕ) (w : ℕ) (trim : Bool) (xs : List A) (ks ms : List (List A)) → WrapsKept blank size w trim xs ks → WrapsKept blank size w trim xs ms → ks ≡ ms
-same_kept blank size w trim xs ks ms =
+pub same_kept : {A : Type 0} (rule : Rule A) (xs : List A) (ks ms : List (List A)) → WrapsKept rule xs ks → WrapsKept rule xs ms → ks ≡ ms
+same_kept rule xs ks ms =
     ⊎_elim
     (λ h. ⊎_elim (λ g. h.1 ∙ sym g.1) (λ g. absurd (g.0 h.0)))
-    (λ h. ⊎_elim (λ g. absurd (h.0 g.0)) (λ g. same_lines blank size w trim ks ms xs xs refl h.1 g.1))
-
-pub wrapped_once : {A : Type 0} (blank : A → Bool) (size : A → ℕ) (w : ℕ) (trim : Bool) (xs : List A) (ks ms : List (List A)) → Wrapped blank size w trim xs ks → Wrapped blank size w trim xs ms → ks ≡ ms
-wrapped_once blank size w trim xs ks ms h g = same_kept blank size w trim (kept size w xs) ks ms h g
+    (λ h. ⊎_elim (λ g. absurd (h.0 g.0)) (λ g. same_lines rule ks ms xs xs refl h.1 g.1))

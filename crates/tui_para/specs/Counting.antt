@@ -1,8 +1,9 @@
 -- How the lines of graphemes that are read one by one are counted, with numbers alone.
 use Rattle.std.specs.Prelude.{ℕ, ◌+◌, Bool, true, false, cond, not, ◌&&◌, nat_lt, List, [], ◌∷◌, length, sum_by}
 use Rattle.tui_cells.specs.declared.style.Style.{Style}
-use Rattle.tui_para.specs.Places.{wrap}
-use Rattle.tui_text.specs.Grapheme.{glyph_blank, glyph_width}
+use Rattle.tui_para.specs.Hyphens.{wrap}
+use Rattle.tui_para.specs.Rule.{Rule, ends_piece}
+use Rattle.tui_para.specs.declared.wrap.Wrap.{Wrap}
 use Rattle.tui_text.specs.Graphemes.{line_graphemes}
 use Rattle.tui_text.specs.Line.{LineData}
 use Rattle.tui_text.specs.Text.{TextData}
@@ -40,11 +41,11 @@ add_letter c s = record c { some = true; in_word = true; word = c.word + s }
 abbrev pub overflows : ℕ → Counter → ℕ → Bool
 overflows w c s = nat_lt w (c.line + c.blanks + c.word + s)
 
--- where a blank comes: the word under way ends
+-- where a piece ends, if one is under way
 abbrev pub after_word : Counter → Counter
 after_word c = cond c.in_word (end_word c) c
 
--- and the blank is left out, ends the line, or is taken
+-- where a blank comes: it is left out, ends the line, or is taken
 abbrev pub on_blank : ℕ → Bool → Counter → ℕ → Counter
 on_blank w trim c s = cond (trim && not c.begun) (skip_blank c) (cond (overflows w c s) (end_line c) (add_blank c s))
 
@@ -56,13 +57,15 @@ soft w c s = cond (c.begun && overflows w c s) (take_word_along c) c
 abbrev pub hard : ℕ → Counter → ℕ → Counter
 hard w c s = cond (overflows w c s) (end_line c) c
 
--- one grapheme more, of a width, a blank or not
-abbrev pub step : ℕ → Bool → Counter → ℕ → Bool → Counter
-step w trim c s is_blank = cond is_blank (on_blank w trim (after_word c) s) (add_letter (hard w (soft w c s) s) s)
+-- one grapheme more, of a width: before it a piece ends or not, and it is a blank or not
+abbrev pub step : ℕ → Bool → Counter → ℕ → Bool → Bool → Counter
+step w trim c s ends blank =
+    let d = cond ends (after_word c) c in
+    cond blank (on_blank w trim d s) (add_letter (hard w (soft w d s) s) s)
 
-abbrev pub steps : {A : Type 0} → (A → Bool) → (A → ℕ) → ℕ → Bool → Counter → List A → Counter
-steps blank size w trim c [] = c
-steps blank size w trim c (x ∷ xs) = steps blank size w trim (step w trim c (size x) (blank x)) xs
+abbrev pub steps : {A : Type 0} → Rule A → Counter → List A → Counter
+steps rule c [] = c
+steps rule c (x ∷ xs) = steps rule (step rule.width rule.trim c (rule.size x) (ends_piece rule x) (rule.blank x)) xs
 
 -- the lines, with the one that is under way
 abbrev pub counted : Counter → ℕ
@@ -73,9 +76,9 @@ abbrev pub cut_count : Counter → Counter
 cut_count c = record c { lines = saturated c.lines }
 
 -- the lines into which a text line is wrapped
-abbrev pub wrapped_len : ℕ → Bool → Style → LineData → ℕ
-wrapped_len w trim base line = length (wrap glyph_blank glyph_width w trim (line_graphemes base line))
+abbrev pub wrapped_len : ℕ → Wrap → Style → LineData → ℕ
+wrapped_len w way base line = length (wrap w way (line_graphemes base line))
 
 -- the lines into which the text's lines are wrapped together
-abbrev pub wrapped_text_len : ℕ → Bool → TextData → ℕ
-wrapped_text_len w trim text = sum_by (wrapped_len w trim text.style) text.lines
+abbrev pub wrapped_text_len : ℕ → Wrap → TextData → ℕ
+wrapped_text_len w way text = sum_by (wrapped_len w way text.style) text.lines

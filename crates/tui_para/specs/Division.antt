@@ -1,6 +1,6 @@
 -- Divisions of words into lines.
 use Rattle.std.specs.Prelude.{◌≡◌, ◌≢◌, ℕ, ◌+◌, ◌<◌, ◌≤◌, Bool, true, All, List, [], ◌∷◌, ◌++◌, length, sum_by, flat_map}
-use Rattle.tui_para.specs.Wrapped.{word}
+use Rattle.tui_para.specs.Wrapped.{up_to}
 
 -- the width of a group of words, with a blank of width 1 between two of them
 abbrev pub group_width : {A : Type 0} → (A → ℕ) → List (List A) → ℕ
@@ -23,7 +23,7 @@ pub record IsFewest {A : Type 0} (size : A → ℕ) (words : List (List A)) (w n
 
 -- a word has a grapheme, and none that is a blank
 abbrev pub IsWord : {A : Type 0} → (A → Bool) → List A → Type 0
-IsWord blank v = (v ≢ []) × (word blank v ≡ v)
+IsWord blank v = (v ≢ []) × (up_to blank v ≡ v)
 
 -- the graphemes are these words, parted by single blanks of width 1, with no blank at either end
 abbrev pub Spaced : {A : Type 0} → (A → Bool) → (A → ℕ) → List (List A) → List A → Type 0

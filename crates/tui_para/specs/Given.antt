@@ -7,7 +7,7 @@ use Rattle.tui_text.specs.Grapheme.{Glyph, glyph_of}
 use Rattle.tui_text.specs.declared.alignment.Alignment.{Alignment}
 use Rattle.tui_text.specs.declared.grapheme.StyledGrapheme.{StyledGrapheme}
 use Rattle.tui_para.specs.Answers.{Answers}
-use Rattle.tui_para.specs.Lines.{GlyphLine, UnlessDone}
+use Rattle.tui_para.specs.Lines.{GlyphLine, GivenUnlessDone}
 
 -- there is a way in which the iterator gives items that R relates to these values, and then ends
 abbrev pub MayGive : {S A B : Type 0} → (S → Option A → S → Type 0) → (A → B → Type 0) → S → List B → Type 0
@@ -41,8 +41,8 @@ source_answers gives source = record { may = SourceGives (MayGive gives IsGlyph)
 abbrev pub line_answers : {O I : Type 0} → (O → Option (I × Alignment) → O → Type 0) → (I → Option StyledGrapheme → I → Type 0) → Bool → O →
     Answers (List GlyphLine)
 line_answers outer inner done o = record {
-  may = UnlessDone done (MayGive outer (MayBe inner) o);
-  will = UnlessDone done (WillGive outer (WillBe inner) o);
+  may = GivenUnlessDone done (MayGive outer (MayBe inner) o);
+  will = GivenUnlessDone done (WillGive outer (WillBe inner) o);
 }
 
 -- an iterator gave these graphemes and became the other, or ended; one that has ended gave none

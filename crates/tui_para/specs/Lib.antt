@@ -1,5 +1,9 @@
+pub mod Rule
 pub mod Wrapped
 pub mod Places
+pub mod Hyphens
+pub mod LinesLeft
+pub mod Hyphenation
 pub mod Truncated
 pub mod Cut
 pub mod Counting

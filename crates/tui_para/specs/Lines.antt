@@ -1,11 +1,12 @@
 -- Lines of graphemes, and how text lines are cut into them.
 use Rattle.std.specs.Prelude.{◌≡◌, ◌⊎◌, ◌<◌, ℕ, Bool, true, false, List, [], ◌∷◌, ◌++◌, map, flat_map, Option, Some, None}
-use Rattle.tui_text.specs.Grapheme.{Glyph, glyph_blank, glyph_width}
+use Rattle.tui_text.specs.Grapheme.{Glyph, glyph_width}
 use Rattle.tui_text.specs.declared.alignment.Alignment.{Alignment}
 use Rattle.tui_text.specs.declared.alignment.Alignment.TheVariants.{Left, Center, Right}
 use Rattle.tui_para.specs.Answers.{Answers}
+use Rattle.tui_para.specs.Hyphens.{Wrapped}
 use Rattle.tui_para.specs.Truncated.{Truncated}
-use Rattle.tui_para.specs.Wrapped.{Wrapped}
+use Rattle.tui_para.specs.declared.wrap.Wrap.{Wrap}
 
 -- a line: its graphemes and its alignment
 pub record GlyphLine : Type 0 where
@@ -26,8 +27,8 @@ abbrev pub cut_all : (GlyphLine → List (List Glyph)) → List GlyphLine → Li
 cut_all f ts = flat_map (λ t. map (glyph_line t.alignment) (f t)) ts
 
 -- it is wrapped
-abbrev pub WrapsLine : ℕ → Bool → GlyphLine → List (List Glyph) → Type 0
-WrapsLine w trim t parts = Wrapped glyph_blank glyph_width w trim t.glyphs parts
+abbrev pub WrapsLine : ℕ → Wrap → GlyphLine → List (List Glyph) → Type 0
+WrapsLine w wrap t parts = Wrapped w wrap t.glyphs parts
 
 abbrev pub is_left : Alignment → Bool
 is_left Left = true
@@ -50,29 +51,33 @@ lines_from given cuts w = record { may = LinesFrom given.may cuts w; will = Line
 abbrev pub LinesOf : (List GlyphLine → Type 0) → (GlyphLine → List (List Glyph) → Type 0) → ℕ → List GlyphLine → Type 0
 LinesOf texts R w lines = LinesFrom texts (CutAll R) w lines
 
--- parts of a text line that was begun, which P tells, and the lines of the text lines after it
-abbrev pub LinesAfter : (List (List Glyph) → Type 0) → Alignment → (GlyphLine → List (List Glyph) → Type 0) → List GlyphLine → List GlyphLine → Type 0
-LinesAfter P alignment R ts lines =
-    (parts : List (List Glyph)) × P parts × ((rest : List GlyphLine) × CutAll R ts rest × (lines ≡ map (glyph_line alignment) parts ++ rest))
+-- the lines of a text line that was begun and of those after it: the parts left of the first one, which `Begun` tells, in
+-- its alignment, and then all parts of the others
+abbrev pub PartsThenLines : (Begun : List (List Glyph) → Type 0) → Alignment → (Cuts : GlyphLine → List (List Glyph) → Type 0) → List GlyphLine →
+    List GlyphLine → Type 0
+PartsThenLines Begun alignment Cuts others lines =
+    (parts : List (List Glyph)) × Begun parts × ((rest : List GlyphLine) × CutAll Cuts others rest × (lines ≡ map (glyph_line alignment) parts ++ rest))
 
--- no list but the empty one, where there is no more
-abbrev pub UnlessDone : Bool → (List GlyphLine → Type 0) → List GlyphLine → Type 0
-UnlessDone done texts ts = ((done ≡ true) × (ts ≡ [])) ⊎ ((done ≡ false) × texts ts)
+-- the text lines that are still given: none where this is done, else those that `Given` tells
+abbrev pub GivenUnlessDone : (done : Bool) → (Given : List GlyphLine → Type 0) → List GlyphLine → Type 0
+GivenUnlessDone done Given lines = ((done ≡ true) × (lines ≡ [])) ⊎ ((done ≡ false) × Given lines)
 
--- one is taken from the front of each list, or none is left: each list of Q with it in front is one of P
-abbrev pub LendsFirst : {A : Type 0} → (List A → Type 0) → Option A → (List A → Type 0) → Type 0
-LendsFirst P None Q = P []
-LendsFirst {A} P (Some x) Q = (xs : List A) → Q xs → P (x ∷ xs)
+-- some lists of `Before` begin with this item, one for each list of `After`, with which it goes on; without an item, the
+-- empty list is one of `Before`
+abbrev pub SomeBegin : {A : Type 0} → (Before : List A → Type 0) → Option A → (After : List A → Type 0) → Type 0
+SomeBegin Before None After = Before []
+SomeBegin {A} Before (Some x) After = (xs : List A) → After xs → Before (x ∷ xs)
 
--- and each list of P has it in front, with one of Q after it; where none is left, none is later
-abbrev pub TakesFirst : {A : Type 0} → (List A → Type 0) → Option A → (List A → Type 0) → Type 0
-TakesFirst {A} P None Q = (xs : List A) → P xs → (xs ≡ []) × Q []
-TakesFirst {A} P (Some x) Q = (xs : List A) → P xs → (rest : List A) × (xs ≡ x ∷ rest) × Q rest
+-- each list of `Before` begins with this item, and goes on with a list of `After`; without an item, each is empty, and the
+-- empty list is one of `After`
+abbrev pub EachBegins : {A : Type 0} → (Before : List A → Type 0) → Option A → (After : List A → Type 0) → Type 0
+EachBegins {A} Before None After = (xs : List A) → Before xs → (xs ≡ []) × After []
+EachBegins {A} Before (Some x) After = (xs : List A) → Before xs → (rest : List A) × (xs ≡ x ∷ rest) × After rest
 
 -- one is taken from the lists that may come and from those that come in any case, or none is left
 pub record IsFirst {A : Type 0} (first : Option A) (before after : Answers (List A)) : Type 0 where
-  pub lends : LendsFirst before.may first after.may
-  pub takes : TakesFirst before.will first after.will
+  pub lends : SomeBegin before.may first after.may
+  pub takes : EachBegins before.will first after.will
 
 -- the same where these lists come, and no others
 abbrev pub IsFirstOf : {A : Type 0} → Option A → (List A → Type 0) → (List A → Type 0) → Type 0

@@ -1,13 +1,27 @@
 -- What wrapping sees of a grapheme.
-use Rattle.std.specs.Prelude.{ℕ, Bool}
+use Rattle.std.specs.Prelude.{ℕ, Bool, ◌||◌}
 use Rattle.tui_text.specs.Grapheme.{Glyph, glyph_blank, glyph_width}
+use Rattle.tui_para.specs.Rule.{Rule}
+use Rattle.tui_para.specs.declared.wrap.Wrap.{Wrap}
 use Rattle.tui_para.specs.declared.wrapping.mark.Mark.{Mark}
 
-abbrev pub mark_of : Glyph → Mark
-mark_of g = record { width = glyph_width g; blank = glyph_blank g }
+-- of one with whether its word is cut before it
+abbrev pub mark_of : Glyph × Bool → Mark
+mark_of p = record { width = glyph_width p.0; blank = glyph_blank p.0; cut = p.1 }
 
 abbrev pub is_blank : Mark → Bool
 is_blank m = m.blank
 
+-- its word is cut before it
+abbrev pub is_cut : Mark → Bool
+is_cut m = m.cut
+
+-- a piece of a word ends before it
+abbrev pub ends_before : Mark → Bool
+ends_before m = m.cut || m.blank
+
 abbrev pub size_of : Mark → ℕ
 size_of m = m.width
+
+abbrev pub mark_rule : ℕ → Wrap → Rule Mark
+mark_rule w wrap = record { blank = is_blank; cut = is_cut; size = size_of; width = w; trim = wrap.trim }

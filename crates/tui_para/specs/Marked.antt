@@ -1,18 +1,25 @@
 -- The graphemes that a list with their marks holds.
-use Rattle.std.specs.Prelude.{◌≡◌, ◌≤◌, ℕ, List, ◌++◌, length, map, sum_by}
-use Rattle.std.specs.List.{between}
+use Rattle.std.specs.Prelude.{◌≡◌, ◌≤◌, ℕ, Bool, List, ◌++◌, length, map, sum_by}
+use Rattle.std.specs.List.{between, zip}
 use Rattle.tui_text.specs.Grapheme.{Glyph, glyph_of, glyph_width}
 use Rattle.tui_text.specs.declared.grapheme.StyledGrapheme.{StyledGrapheme}
+use Rattle.tui_para.specs.Hyphenation.{behind_all, marked_from}
 use Rattle.tui_para.specs.Wrapped.{kept}
+use Rattle.tui_para.specs.Mark.{is_cut}
 use Rattle.tui_para.specs.declared.wrapping.marked.Marked.{Marked}
 use Rattle.tui_para.specs.declared.wrapping.part.Part.{Part}
 
+-- each with whether its word is cut before it
+abbrev pub cuts_of : Marked → List (Glyph × Bool)
+cuts_of m = zip (map glyph_of m.graphemes.items) (map is_cut m.marks.items)
+
 abbrev pub glyphs_of : Marked → List Glyph
-glyphs_of m = map glyph_of m.graphemes.items
+glyphs_of m = map (λ p. p.0) (cuts_of m)
 
 -- behind the graphemes that were there stand those of `taken` that are not wider than w
-abbrev pub HasKept : ℕ → List StyledGrapheme → Marked → Marked → Type 0
-HasKept w taken old new = glyphs_of new ≡ glyphs_of old ++ kept glyph_width w (map glyph_of taken)
+pub record HasKept (w : ℕ) (taken : List StyledGrapheme) (old new : Marked) : Type 0 where
+  pub behind : cuts_of new ≡ cuts_of old ++ marked_from old.hyphenation (kept glyph_width w (map glyph_of taken))
+  pub goes_on : new.hyphenation ≡ behind_all old.hyphenation (kept glyph_width w (map glyph_of taken))
 
 -- those of a part
 abbrev pub part_of : List Glyph → Part → List Glyph

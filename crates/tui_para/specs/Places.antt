@@ -1,6 +1,7 @@
 -- Where a line stands among graphemes, in numbers of graphemes, and the lines of a list as a function.
 use Rattle.std.specs.Prelude.{ℕ, zero, suc, ◌-◌, Bool, false, cond, not, ◌&&◌, nat_le, nat_lt, List, [], ◌∷◌, length, take, drop, sum_by}
-use Rattle.tui_para.specs.Wrapped.{after_break, line_start, kept}
+use Rattle.tui_para.specs.Rule.{Rule, ends_piece}
+use Rattle.tui_para.specs.Wrapped.{after_break, line_start}
 
 -- the blanks at the front
 abbrev pub blanks_len : {A : Type 0} → (A → Bool) → List A → ℕ
@@ -16,32 +17,29 @@ abbrev pub dropped_len : {A : Type 0} → (A → Bool) → (A → ℕ) → ℕ �
 dropped_len blank size room [] = 0
 dropped_len blank size room (x ∷ xs) = cond (blank x) (suc (cond (nat_le (size x) room) (dropped_len blank size (room - size x) xs) 0)) 0
 
--- the line that goes on for n graphemes so far, of which the first `words` end with the last word that a blank follows,
--- and which leaves some room: where a grapheme doesn't fit it ends after these words, or where it is if there are none
-abbrev pub goes_on_for : {A : Type 0} → (A → Bool) → (A → ℕ) → Bool → ℕ → ℕ → ℕ → List A → ℕ
-goes_on_for blank size in_word words n room [] = n
-goes_on_for blank size in_word words n room (x ∷ xs) =
-    let ended = cond (in_word && blank x) n words in
-    cond (nat_le (size x) room) (goes_on_for blank size (not (blank x)) ended (suc n) (room - size x) xs) (cond (nat_lt 0 ended) ended n)
+-- the line that goes on for n graphemes so far, of which the first `pieces` end with the last piece that has ended, and
+-- which leaves some room: where a grapheme doesn't fit it ends after these, or where it is if there are none. `ends` tells
+-- before which graphemes a piece ends
+abbrev pub goes_on_for : {A : Type 0} → (A → Bool) → (A → Bool) → (A → ℕ) → Bool → ℕ → ℕ → ℕ → List A → ℕ
+goes_on_for ends blank size in_word pieces n room [] = n
+goes_on_for ends blank size in_word pieces n room (x ∷ xs) =
+    let ended = cond (in_word && ends x) n pieces in
+    cond (nat_le (size x) room) (goes_on_for ends blank size (not (blank x)) ended (suc n) (room - size x) xs) (cond (nat_lt 0 ended) ended n)
 
 -- the line at the front
-abbrev pub line_len : {A : Type 0} → (A → Bool) → (A → ℕ) → ℕ → List A → ℕ
-line_len blank size w xs = goes_on_for blank size false 0 0 w xs
+abbrev pub line_len : {A : Type 0} → (A → Bool) → (A → Bool) → (A → ℕ) → ℕ → List A → ℕ
+line_len ends blank size w xs = goes_on_for ends blank size false 0 0 w xs
 
 -- the lines of graphemes, n at most
-abbrev pub lines_of : {A : Type 0} → (A → Bool) → (A → ℕ) → ℕ → Bool → ℕ → List A → List (List A)
-lines_of blank size w trim zero xs = []
-lines_of blank size w trim (suc n) [] = []
-lines_of blank size w trim (suc n) (x ∷ xs) =
-    let s = line_start blank trim (x ∷ xs) in
-    let k = line_len blank size w s in
-    take k s ∷ lines_of blank size w trim n (after_break blank size (w - sum_by size (take k s)) (drop k s))
+abbrev pub lines_of : {A : Type 0} → Rule A → ℕ → List A → List (List A)
+lines_of rule zero xs = []
+lines_of rule (suc n) [] = []
+lines_of rule (suc n) (x ∷ xs) =
+    let s = line_start rule.blank rule.trim (x ∷ xs) in
+    let k = line_len (ends_piece rule) rule.blank rule.size rule.width s in
+    take k s ∷ lines_of rule n (after_break rule (rule.width - sum_by rule.size (take k s)) (drop k s))
 
 -- the same where none is wider than w: one empty line where there is no grapheme
-abbrev pub wrap_kept : {A : Type 0} → (A → Bool) → (A → ℕ) → ℕ → Bool → List A → List (List A)
-wrap_kept blank size w trim [] = [] ∷ []
-wrap_kept blank size w trim (x ∷ xs) = lines_of blank size w trim (length (x ∷ xs)) (x ∷ xs)
-
--- the lines into which graphemes are wrapped: the one list that `Wrapped` admits
-abbrev pub wrap : {A : Type 0} → (A → Bool) → (A → ℕ) → ℕ → Bool → List A → List (List A)
-wrap blank size w trim xs = wrap_kept blank size w trim (kept size w xs)
+abbrev pub wrap_kept : {A : Type 0} → Rule A → List A → List (List A)
+wrap_kept rule [] = [] ∷ []
+wrap_kept rule (x ∷ xs) = lines_of rule (length (x ∷ xs)) (x ∷ xs)

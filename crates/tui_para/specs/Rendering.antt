@@ -18,7 +18,7 @@ use Rattle.tui_para.specs.WrappedText.{WrappedText, TruncatedText, wrap_text, tr
 
 -- the lines of a paragraph at a width
 abbrev pub ParagraphLines : ParagraphData → ℕ → List GlyphLine → Type 0
-ParagraphLines p w lines = MatchOption p.wrap (TruncatedText w p.scroll_x p.alignment p.text lines) (λ wrap. WrappedText w wrap.trim p.alignment p.text lines)
+ParagraphLines p w lines = MatchOption p.wrap (TruncatedText w p.scroll_x p.alignment p.text lines) (λ wrap. WrappedText w wrap p.alignment p.text lines)
 
 -- a cell under the styles of a paragraph and of its block
 abbrev pub base_of : Option BlockData → Style → Look → Look
@@ -32,7 +32,7 @@ pub record ParagraphShows (p : ParagraphData) (clip : Rect) (before after : Scre
 
 -- the lines as a function
 abbrev pub paragraph_lines : ParagraphData → ℕ → List GlyphLine
-paragraph_lines p w = option_map_or (λ wrap. wrap_text w wrap.trim p.alignment p.text) p.wrap (truncate_text w p.scroll_x p.alignment p.text)
+paragraph_lines p w = option_map_or (λ wrap. wrap_text w wrap p.alignment p.text) p.wrap (truncate_text w p.scroll_x p.alignment p.text)
 
 -- what stands under the text of a paragraph with a block: the paragraph's style on the clip, and the block
 abbrev pub under_layers : Option BlockData → Style → Rect → List Layer

@@ -1,15 +1,16 @@
--- How a list of graphemes is wrapped into lines of a width. `blank` tells which graphemes are blanks, `size` a grapheme's width.
+-- How a list of graphemes is wrapped into lines.
 use Rattle.std.specs.Prelude.{◌≡◌, ◌≢◌, ℕ, ◌-◌, ◌<◌, ◌≤◌, ◌⊎◌, Bool, true, false, cond, not, nat_le, All, List, [], ◌∷◌, ◌++◌, sum_by, filter}
+use Rattle.tui_para.specs.Rule.{Rule, ends_piece}
 
--- the part of a word that stands at the front
-abbrev pub word : {A : Type 0} → (A → Bool) → List A → List A
-word blank [] = []
-word blank (x ∷ xs) = cond (blank x) [] (x ∷ word blank xs)
+-- what stands before the first grapheme that passes the test
+abbrev pub up_to : {A : Type 0} → (A → Bool) → List A → List A
+up_to test [] = []
+up_to test (x ∷ xs) = cond (test x) [] (x ∷ up_to test xs)
 
--- the blanks at the front together with the word after them, if there is one
-abbrev pub next_word : {A : Type 0} → (A → Bool) → List A → List A
-next_word blank [] = []
-next_word blank (x ∷ xs) = cond (blank x) (x ∷ next_word blank xs) (x ∷ word blank xs)
+-- the blanks at the front together with the piece of a word after them, if there is one
+abbrev pub next_piece : {A : Type 0} → Rule A → List A → List A
+next_piece rule [] = []
+next_piece rule (x ∷ xs) = cond (rule.blank x) (x ∷ next_piece rule xs) (x ∷ up_to (ends_piece rule) xs)
 
 -- without the blanks at the front
 abbrev pub without_blanks : {A : Type 0} → (A → Bool) → List A → List A
@@ -17,9 +18,10 @@ without_blanks blank [] = []
 without_blanks blank (x ∷ xs) = cond (blank x) (without_blanks blank xs) (x ∷ xs)
 
 -- after a break that leaves some room: without the longest run of blanks that fits the room, and without one blank more
-abbrev pub after_break : {A : Type 0} → (A → Bool) → (A → ℕ) → ℕ → List A → List A
-after_break blank size room [] = []
-after_break blank size room (x ∷ xs) = cond (blank x) (cond (nat_le (size x) room) (after_break blank size (room - size x) xs) xs) (x ∷ xs)
+abbrev pub after_break : {A : Type 0} → Rule A → ℕ → List A → List A
+after_break rule room [] = []
+after_break rule room (x ∷ xs) =
+    cond (rule.blank x) (cond (nat_le (rule.size x) room) (after_break rule (room - rule.size x) xs) xs) (x ∷ xs)
 
 abbrev pub no_blank : {A : Type 0} → (A → Bool) → A → Bool
 no_blank blank x = not (blank x)
@@ -29,60 +31,68 @@ abbrev pub ends_in : {A : Type 0} → (A → Bool) → Bool → List A → Bool
 ends_in test so_far [] = so_far
 ends_in test so_far (x ∷ xs) = ends_in test (test x) xs
 
--- whether a blank stands at the front
-abbrev pub begins_blank : {A : Type 0} → (A → Bool) → List A → Bool
-begins_blank blank [] = false
-begins_blank blank (x ∷ xs) = blank x
+-- whether the first grapheme passes the test
+abbrev pub begins : {A : Type 0} → (A → Bool) → List A → Bool
+begins test [] = false
+begins test (x ∷ xs) = test x
 
 -- the first grapheme is wider than the room
 abbrev pub IsNextWider : {A : Type 0} → (A → ℕ) → ℕ → List A → Type 0
 IsNextWider size room [] = ⊥
 IsNextWider size room (x ∷ xs) = room < size x
 
--- the line ends with a word, a blank follows, and what follows up to the end of the next word is wider than the room
-pub record IsSoftBreak {A : Type 0} (blank : A → Bool) (size : A → ℕ) (room : ℕ) (line after : List A) : Type 0 where
-  pub word_before : ends_in (no_blank blank) false line ≡ true
-  pub blank_after : begins_blank blank after ≡ true
-  pub too_wide : room < sum_by size (next_word blank after)
+-- the line ends with a word, what follows begins with a grapheme that passes the test, and up to the end of the next piece
+-- it is wider than the room
+pub record BreaksBefore {A : Type 0} (rule : Rule A) (test : A → Bool) (room : ℕ) (line after : List A) : Type 0 where
+  pub word_before : ends_in (no_blank rule.blank) false line ≡ true
+  pub next : begins test after ≡ true
+  pub too_wide : room < sum_by rule.size (next_piece rule after)
 
--- the line is blanks and then a part of one word, and the next grapheme is wider than the room
-pub record IsHardBreak {A : Type 0} (blank : A → Bool) (size : A → ℕ) (room : ℕ) (line after : List A) : Type 0 where
-  pub one_word : next_word blank line ≡ line
-  pub too_wide : IsNextWider size room after
+-- so before a blank, and so where a word is cut
+abbrev pub IsSoftBreak : {A : Type 0} → Rule A → ℕ → List A → List A → Type 0
+IsSoftBreak rule room line after = BreaksBefore rule rule.blank room line after
 
--- a line of width w at most that has all that is left, or breaks before the rest in one of the two ways
-pub record IsLine {A : Type 0} (blank : A → Bool) (size : A → ℕ) (w : ℕ) (line after : List A) : Type 0 where
-  pub fits : sum_by size line ≤ w
-  pub breaks : (after ≡ []) ⊎ (IsSoftBreak blank size (w - sum_by size line) line after ⊎ IsHardBreak blank size (w - sum_by size line) line after)
+abbrev pub IsHyphenBreak : {A : Type 0} → Rule A → ℕ → List A → List A → Type 0
+IsHyphenBreak rule room line after = BreaksBefore rule rule.cut room line after
+
+-- the line is blanks and then a part of one piece, and the next grapheme is wider than the room
+pub record IsHardBreak {A : Type 0} (rule : Rule A) (room : ℕ) (line after : List A) : Type 0 where
+  pub one_piece : next_piece rule line ≡ line
+  pub too_wide : IsNextWider rule.size room after
+
+-- a line breaks before what is left in one of the three ways
+abbrev pub Breaks : {A : Type 0} → Rule A → ℕ → List A → List A → Type 0
+Breaks rule room line after = IsSoftBreak rule room line after ⊎ (IsHyphenBreak rule room line after ⊎ IsHardBreak rule room line after)
+
+-- a line that is not too wide and has all that is left, or breaks before the rest
+pub record IsLine {A : Type 0} (rule : Rule A) (line after : List A) : Type 0 where
+  pub fits : sum_by rule.size line ≤ rule.width
+  pub breaks : (after ≡ []) ⊎ Breaks rule (rule.width - sum_by rule.size line) line after
 
 -- where a line begins: with `trim` after the blanks at the front
 abbrev pub line_start : {A : Type 0} → (A → Bool) → Bool → List A → List A
 line_start blank trim xs = cond trim (without_blanks blank xs) xs
 
 -- the first line of the graphemes is `line`, and `rest` is left for the lines after it
-pub record IsNextLine {A : Type 0} (blank : A → Bool) (size : A → ℕ) (w : ℕ) (trim : Bool) (xs line rest : List A) : Type 0 where
+pub record IsNextLine {A : Type 0} (rule : Rule A) (xs line rest : List A) : Type 0 where
   pub after : List A
-  pub joined : line_start blank trim xs ≡ line ++ after
-  pub line_is : IsLine blank size w line after
-  pub rest_is : rest ≡ after_break blank size (w - sum_by size line) after
+  pub joined : line_start rule.blank rule.trim xs ≡ line ++ after
+  pub line_is : IsLine rule line after
+  pub rest_is : rest ≡ after_break rule (rule.width - sum_by rule.size line) after
 
 -- the graphemes have these lines: a further line exactly where something is left
-abbrev pub HasLines : {A : Type 0} → (A → Bool) → (A → ℕ) → ℕ → Bool → List A → List (List A) → Type 0
-HasLines blank size w trim xs [] = xs ≡ []
-HasLines {A} blank size w trim xs (line ∷ lines) =
-    (xs ≢ []) × (rest : List A) × IsNextLine blank size w trim xs line rest × HasLines blank size w trim rest lines
+abbrev pub HasLines : {A : Type 0} → Rule A → List A → List (List A) → Type 0
+HasLines rule xs [] = xs ≡ []
+HasLines {A} rule xs (line ∷ lines) =
+    (xs ≢ []) × (rest : List A) × IsNextLine rule xs line rest × HasLines rule rest lines
 
 -- without the graphemes that are wider than w
 abbrev pub kept : {A : Type 0} → (A → ℕ) → ℕ → List A → List A
 kept size w xs = filter (λ x. nat_le (size x) w) xs
 
 -- graphemes of which none is wider than w have these lines: one empty line where there is no grapheme
-abbrev pub WrapsKept : {A : Type 0} → (A → Bool) → (A → ℕ) → ℕ → Bool → List A → List (List A) → Type 0
-WrapsKept blank size w trim xs lines = ((xs ≡ []) × (lines ≡ [] ∷ [])) ⊎ ((xs ≢ []) × HasLines blank size w trim xs lines)
-
--- the graphemes are wrapped into these lines
-abbrev pub Wrapped : {A : Type 0} → (A → Bool) → (A → ℕ) → ℕ → Bool → List A → List (List A) → Type 0
-Wrapped blank size w trim xs lines = WrapsKept blank size w trim (kept size w xs) lines
+abbrev pub WrapsKept : {A : Type 0} → Rule A → List A → List (List A) → Type 0
+WrapsKept rule xs lines = ((xs ≡ []) × (lines ≡ [] ∷ [])) ⊎ ((xs ≢ []) × HasLines rule xs lines)
 
 -- the lines one after another are the list, but for blanks before and behind each line
 abbrev pub LeavesOutBlanks : {A : Type 0} → (A → Bool) → List A → List (List A) → Type 0

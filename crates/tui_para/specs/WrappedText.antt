@@ -1,11 +1,13 @@
 -- The lines into which a text is cut.
-use Rattle.std.specs.Prelude.{ℕ, Bool, All, List, [], ◌∷◌, map, unwrap_or}
+use Rattle.std.specs.Prelude.{ℕ, All, List, [], ◌∷◌, map, unwrap_or}
 use Rattle.tui_cells.specs.declared.style.Style.{Style}
 use Rattle.tui_para.specs.Division.{SpacedWithin}
 use Rattle.tui_para.specs.Lines.{GlyphLine, glyph_line, is_left, CutAll, cut_all, WrapsLine, TruncatesLine}
-use Rattle.tui_para.specs.Places.{wrap}
+use Rattle.tui_para.specs.Hyphens.{wrap}
 use Rattle.tui_para.specs.Truncated.{truncate}
+use Rattle.tui_para.specs.declared.wrap.Wrap.{Wrap}
 use Rattle.tui_text.specs.Grapheme.{Glyph, glyph_blank, glyph_width}
+use Rattle.tui_para.specs.declared.wrap.Wrap.{Wrap}
 use Rattle.tui_text.specs.Graphemes.{line_graphemes}
 use Rattle.tui_text.specs.Line.{LineData}
 use Rattle.tui_text.specs.Text.{TextData}
@@ -19,16 +21,16 @@ abbrev pub text_glyph_lines : TextData → Alignment → List GlyphLine
 text_glyph_lines text alignment = map (text_glyph_line text.style alignment) text.lines
 
 -- the text is wrapped into these lines: those of each text line, in order
-abbrev pub WrappedText : ℕ → Bool → Alignment → TextData → List GlyphLine → Type 0
-WrappedText w trim alignment text lines = CutAll (WrapsLine w trim) (text_glyph_lines text alignment) lines
+abbrev pub WrappedText : ℕ → Wrap → Alignment → TextData → List GlyphLine → Type 0
+WrappedText w wrap alignment text lines = CutAll (WrapsLine w wrap) (text_glyph_lines text alignment) lines
 
 -- the text is not wrapped and is cut into these lines: one of each text line
 abbrev pub TruncatedText : ℕ → ℕ → Alignment → TextData → List GlyphLine → Type 0
 TruncatedText w offset alignment text lines = CutAll (TruncatesLine w offset) (text_glyph_lines text alignment) lines
 
 -- the same as functions
-abbrev pub wrap_text : ℕ → Bool → Alignment → TextData → List GlyphLine
-wrap_text w trim alignment text = cut_all (λ t. wrap glyph_blank glyph_width w trim t.glyphs) (text_glyph_lines text alignment)
+abbrev pub wrap_text : ℕ → Wrap → Alignment → TextData → List GlyphLine
+wrap_text w way alignment text = cut_all (λ t. wrap w way t.glyphs) (text_glyph_lines text alignment)
 
 abbrev pub truncate_text : ℕ → ℕ → Alignment → TextData → List GlyphLine
 truncate_text w offset alignment text = cut_all (λ t. truncate glyph_width w (is_left t.alignment) offset t.glyphs ∷ []) (text_glyph_lines text alignment)

@@ -2,42 +2,48 @@
 use Rattle.std.specs.Prelude.{◌≡◌, ◌≤◌, ◌⊎◌, ℕ, Bool, true, false, List, [], ◌++◌, length, drop, map, Option, Some, None, option_map, IfSome, sum_by}
 use Rattle.std.specs.List.{between}
 use Rattle.std.specs.declared.iter.Iterator.{Ghosts}
-use Rattle.tui_text.specs.Grapheme.{Glyph, glyph_of, glyph_blank, glyph_width}
+use Rattle.tui_text.specs.Grapheme.{Glyph, glyph_of, glyph_width}
 use Rattle.tui_text.specs.declared.alignment.Alignment.{Alignment}
 use Rattle.tui_text.specs.declared.grapheme.StyledGrapheme.{StyledGrapheme}
 use Rattle.tui_para.specs.Answers.{Answers, both}
 use Rattle.tui_para.specs.Given.{AllReady, Ready, SourceReads, line_answers, source_answers}
-use Rattle.tui_para.specs.Lines.{GlyphLine, glyph_line, CutAll, IsFirst, IsFirstOf, LinesAfter, TruncatesLine, WrapsLine, lines_from}
-use Rattle.tui_para.specs.Marked.{IsPart, glyphs_of, part_of}
+use Rattle.tui_para.specs.Lines.{GlyphLine, glyph_line, CutAll, IsFirst, IsFirstOf, PartsThenLines, TruncatesLine, WrapsLine, lines_from}
+use Rattle.tui_para.specs.Marked.{IsPart, cuts_of, glyphs_of, part_of}
+use Rattle.tui_para.specs.Hyphenation.{behind_all, marked_from}
+use Rattle.tui_para.specs.Hyphens.{Uncut, glyph_rule}
 use Rattle.tui_para.specs.Wrapped.{HasLines, WrapsKept, kept}
+use Rattle.tui_para.specs.declared.wrap.Wrap.{Wrap}
 use Rattle.tui_para.specs.declared.wrapping.breaking.Place.{Place}
 use Rattle.tui_para.specs.declared.wrapping.part.Part.{Part}
 use Rattle.tui_para.specs.declared.wrapping.text_line.TextLine.{TextLine}
 use Rattle.tui_para.specs.declared.truncator.LineTruncator.{LineTruncator}
 use Rattle.tui_para.specs.declared.wrapper.WordWrapper.{WordWrapper}
 
--- the graphemes of a text line from a place on, where these are still to be read
-abbrev pub glyphs_from : {I : Type 0} → TextLine I → ℕ → List Glyph → List Glyph
-glyphs_from s place glyphs = drop place (glyphs_of s.line) ++ kept glyph_width s.width glyphs
+-- the graphemes of a text line from a place on, where these are still to be read, each with whether its word is cut before it
+abbrev pub glyphs_from : {I : Type 0} → TextLine I → ℕ → List Glyph → List (Glyph × Bool)
+glyphs_from s place glyphs = drop place (cuts_of s.line) ++ marked_from s.line.hyphenation (kept glyph_width s.width glyphs)
 
 -- the lines of the graphemes that are left of a text line: one at least where none was lent
-abbrev pub LinesOfRest : Bool → ℕ → Bool → List Glyph → List (List Glyph) → Type 0
-LinesOfRest is_new w trim glyphs parts = ((is_new ≡ true) × WrapsKept glyph_blank glyph_width w trim glyphs parts)
-    ⊎ ((is_new ≡ false) × HasLines glyph_blank glyph_width w trim glyphs parts)
+abbrev pub LinesOfRest : Bool → ℕ → Wrap → List (Glyph × Bool) → List (List (Glyph × Bool)) → Type 0
+LinesOfRest is_new w wrap glyphs parts = ((is_new ≡ true) × WrapsKept (glyph_rule w wrap) glyphs parts)
+    ⊎ ((is_new ≡ false) × HasLines (glyph_rule w wrap) glyphs parts)
 
 -- those that are not lent yet, where these graphemes are still to be read
+abbrev pub CutPartsWith : {I : Type 0} → TextLine I → List Glyph → List (List (Glyph × Bool)) → Type 0
+CutPartsWith s glyphs = LinesOfRest s.is_new s.width s.wrap (glyphs_from s s.place glyphs)
+
 abbrev pub PartsWith : {I : Type 0} → TextLine I → List Glyph → List (List Glyph) → Type 0
-PartsWith s glyphs = LinesOfRest s.is_new s.width s.trim (glyphs_from s s.place glyphs)
+PartsWith s glyphs = Uncut (CutPartsWith s glyphs)
 
 -- the first of them is what stands at this place, and those after it begin at the next
 abbrev pub FirstLine : {I : Type 0} → TextLine I → Place → List Glyph → Type 0
-FirstLine s p glyphs = IsFirstOf (Some (between p.start p.end (glyphs_of s.line))) (PartsWith s glyphs)
-    (HasLines glyph_blank glyph_width s.width s.trim (glyphs_from s p.next glyphs))
+FirstLine s p glyphs = IsFirstOf (Some (between p.start p.end (cuts_of s.line))) (CutPartsWith s glyphs)
+    (HasLines (glyph_rule s.width s.wrap) (glyphs_from s p.next glyphs))
 
 -- the place is that of the first line, whatever is still to be read
 pub record IsNextPlace {I : Type 0} (s : TextLine I) (p : Place) : Type 0 where
   pub order : p.start ≤ p.end
-  pub within : (p.end ≤ length (glyphs_of s.line)) × (p.next ≤ length (glyphs_of s.line))
+  pub within : (p.end ≤ length (cuts_of s.line)) × (p.next ≤ length (cuts_of s.line))
   pub columns : p.width ≡ sum_by glyph_width (between p.start p.end (glyphs_of s.line))
   pub first : (glyphs : List Glyph) → (s.source ≡ None → glyphs ≡ []) → FirstLine s p glyphs
 
@@ -45,10 +51,12 @@ pub record IsNextPlace {I : Type 0} (s : TextLine I) (p : Place) : Type 0 where
 pub record HasRead {I : Type 0} (gives : I → Option StyledGrapheme → I → Type 0) (old new : TextLine I) : Type 0 where
   pub taken : List StyledGrapheme
   pub reads : SourceReads gives old.source taken new.source
-  pub behind : drop new.place (glyphs_of new.line) ≡ drop old.place (glyphs_of old.line) ++ kept glyph_width old.width (map glyph_of taken)
+  pub behind : drop new.place (cuts_of new.line)
+      ≡ drop old.place (cuts_of old.line) ++ marked_from old.line.hyphenation (kept glyph_width old.width (map glyph_of taken))
+  pub goes_on : new.line.hyphenation ≡ behind_all old.line.hyphenation (kept glyph_width old.width (map glyph_of taken))
   pub is_new : new.is_new ≡ old.is_new
   pub width : new.width ≡ old.width
-  pub trim : new.trim ≡ old.trim
+  pub wrap : new.wrap ≡ old.wrap
 
 -- a text line read some graphemes and found its next part, or that there is none: this part is the first of those that
 -- are left, whatever is still to be read
@@ -62,7 +70,7 @@ pub record FindsPart {I : Type 0} (gives : I → Option StyledGrapheme → I →
 
 -- the lines of a wrapper, where these are the graphemes and the text lines that its iterators still give
 abbrev pub WrapperCuts : {O I : Type 0} → WordWrapper O I → List Glyph × List GlyphLine → List GlyphLine → Type 0
-WrapperCuts s x = LinesAfter (PartsWith s.current x.0) s.alignment (WrapsLine s.current.width s.current.trim) x.1
+WrapperCuts s x = PartsThenLines (PartsWith s.current x.0) s.alignment (WrapsLine s.current.width s.current.wrap) x.1
 
 -- those of a truncator, where these text lines are still given
 abbrev pub TruncatorCuts : {O I : Type 0} → LineTruncator O I → List GlyphLine → List GlyphLine → Type 0

@@ -9,33 +9,37 @@ ghost use Rattle.tui_text.specs.Width.{saturated};
 mod counter;
 
 use crate::counting::counter::Counter;
+use crate::wrap::Wrap;
+use crate::wrapping::hyphenation::Hyphenation;
 use tui_cells::Style;
-use tui_text::{Line, Text, cell_width};
+use tui_text::{Line, Text};
 
 /// How many lines a text line is wrapped into, cut at the greatest number of 64 bits.
-fn line_count(line: &Line<'_>, base: Style, width: usize, trim: bool) -> usize
+fn line_count(line: &Line<'_>, base: Style, width: usize, wrap: Wrap) -> usize
     requires { width < 2 ^ 16 }
-    ensures { result ≡ saturated (wrapped_len width trim base (line_data line.now)) }
+    ensures { result ≡ saturated (wrapped_len width wrap base (line_data line.now)) }
 {
     let mut counter = Counter::new();
+    let mut hyphenation = Hyphenation::new(wrap.hyphens);
     for grapheme in line.styled_graphemes(base) {
-        let size = usize::from(cell_width(grapheme.symbol));
-        if size <= width {
-            counter.read(size, grapheme.is_whitespace(), width, trim);
+        let (mark, behind) = hyphenation.mark(&grapheme);
+        if usize::from(mark.width) <= width {
+            counter.read(mark, width, wrap.trim);
+            hyphenation = behind;
         }
     }
     counter.count().max(1)
 }
 
 /// How many lines the text lines are wrapped into together, cut at the greatest number of 64 bits.
-pub(crate) fn wrapped_count(text: &Text<'_>, width: usize, trim: bool) -> usize
+pub(crate) fn wrapped_count(text: &Text<'_>, width: usize, wrap: Wrap) -> usize
     requires { width < 2 ^ 16 }
-    ensures { result ≡ saturated (wrapped_text_len width trim (text_data text.now)) }
+    ensures { result ≡ saturated (wrapped_text_len width wrap (text_data text.now)) }
 {
     let base = text.text_style();
     let mut count = 0usize;
     for line in text.lines() {
-        count = count.saturating_add(line_count(line, base, width, trim));
+        count = count.saturating_add(line_count(line, base, width, wrap));
     }
     count
 }

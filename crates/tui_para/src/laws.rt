@@ -1,33 +1,44 @@
 //! Laws of the definitions.
 
-ghost use Rattle.std.specs.Prelude.{◌≡◌, ◌<◌, ℕ, Bool, List};
+ghost use Rattle.std.specs.Prelude.{◌≡◌, ◌<◌, ℕ, Bool, List, length};
 ghost use Rattle.tui_text.specs.Grapheme.{Glyph, glyph_blank, glyph_width};
 ghost use Rattle.tui_text.specs.Text.{TextData};
 ghost use Rattle.tui_text.specs.declared.alignment.Alignment.{Alignment};
 ghost use Rattle.tui_para.specs.Lines.{GlyphLine};
-ghost use Rattle.tui_para.specs.Places.{wrap};
+ghost use Rattle.tui_para.specs.LinesLeft.{GoesOnAfter};
+ghost use Rattle.tui_para.specs.Hyphens.{Wrapped, wrap};
 ghost use Rattle.tui_para.specs.TextLines.{gives_graphemes, gives_lines};
 ghost use Rattle.tui_para.specs.Truncated.{Truncated, truncate};
-ghost use Rattle.tui_para.specs.Wrapped.{IsTheOne, LeavesOutBlanks, Wrapped, kept};
+ghost use Rattle.tui_para.specs.Wrapped.{IsTheOne, LeavesOutBlanks, kept};
 ghost use Rattle.tui_para.specs.WrappedText.{TruncatedText, WrappedText, truncate_text, wrap_text};
 ghost use Rattle.tui_para.specs.Wrapping.{TruncatorCanLend, TruncatorMayLend, TruncatorWillLend, WrapperCanLend, WrapperMayLend, WrapperWillLend};
+ghost use Rattle.tui_para.specs.declared.wrap.Wrap.{Wrap};
 
 use crate::text_lines::TextLines;
 use crate::truncator::LineTruncator;
 use crate::wrapper::WordWrapper;
 use tui_text::{Alignment, Graphemes, StyledGrapheme};
 
-/// Exactly one list of lines wraps a list of graphemes, at every width of at least 1, with and without `trim`.
+/// Exactly one list of lines wraps a list of graphemes, at every width of at least 1, with and without `trim`
+/// and breaks after hyphens.
 pub fn wraps_exactly_once()
-    ensures { (w : ℕ) (trim : Bool) (graphemes : List Glyph) → 0 < w
-        → IsTheOne (Wrapped glyph_blank glyph_width w trim graphemes) (wrap glyph_blank glyph_width w trim graphemes) }
+    ensures { (w : ℕ) (way : Wrap) (graphemes : List Glyph) → 0 < w
+        → IsTheOne (Wrapped w way graphemes) (wrap w way graphemes) }
 {}
 
 /// Wrapping leaves out nothing but graphemes that are wider than the width, and blanks before and behind the lines: all
 /// others stand in the lines, each once and in their order.
 pub fn wrapping_leaves_out_blanks()
-    ensures { (w : ℕ) (trim : Bool) (graphemes : List Glyph) (lines : List (List Glyph)) → Wrapped glyph_blank glyph_width w trim graphemes lines
+    ensures { (w : ℕ) (way : Wrap) (graphemes : List Glyph) (lines : List (List Glyph)) → Wrapped w way graphemes lines
         → LeavesOutBlanks glyph_blank (kept glyph_width w graphemes) lines }
+{}
+
+/// The lines of a wrapping from any of them on are those of the graphemes that are left there, cut where their words are cut
+/// in the whole. Without breaks after hyphens they are the wrapping of these graphemes alone, so that a text line can be
+/// wrapped on from the beginning of any of its lines.
+pub fn wrapping_goes_on()
+    ensures { (w : ℕ) (way : Wrap) (graphemes : List Glyph) (lines : List (List Glyph)) (k : ℕ) → Wrapped w way graphemes lines → k < length lines
+        → GoesOnAfter w way graphemes lines k }
 {}
 
 /// Exactly one line of a list of graphemes is shown at a width where it isn't wrapped, whatever the offset.
@@ -36,10 +47,11 @@ pub fn truncates_exactly_once()
         → IsTheOne (Truncated glyph_width w left offset graphemes) (truncate glyph_width w left offset graphemes) }
 {}
 
-/// Exactly one list of lines wraps a text, at every width of at least 1, with and without `trim`.
+/// Exactly one list of lines wraps a text, at every width of at least 1, with and without `trim`
+/// and breaks after hyphens.
 pub fn text_wraps_exactly_once()
-    ensures { (w : ℕ) (trim : Bool) (alignment : Alignment) (text : TextData) → 0 < w
-        → IsTheOne (WrappedText w trim alignment text) (wrap_text w trim alignment text) }
+    ensures { (w : ℕ) (way : Wrap) (alignment : Alignment) (text : TextData) → 0 < w
+        → IsTheOne (WrappedText w way alignment text) (wrap_text w way alignment text) }
 {}
 
 /// Exactly one list of lines is that of a text which isn't wrapped, at every width.

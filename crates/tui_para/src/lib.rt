@@ -21,7 +21,7 @@ pub use laws::{
     text_truncates_exactly_once, text_truncator_lends_one, text_wrapper_lends_one,
     text_wraps_exactly_once, truncates_exactly_once, truncator_lends_some,
     truncator_lends_what_is_known, wrapper_lends_some, wrapper_lends_what_is_known,
-    wrapping_leaves_out_blanks, wraps_exactly_once,
+    wrapping_goes_on, wrapping_leaves_out_blanks, wraps_exactly_once,
 };
 pub use logo::RatatuiLogo;
 pub use paragraph::Paragraph;

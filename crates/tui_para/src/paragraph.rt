@@ -1,6 +1,6 @@
 //! Paragraphs.
 
-ghost use Rattle.std.specs.Prelude.{◌≡◌, ◌<◌, List, length, None, Some, Ok, All, IsOk, IfOk, true, IsSome, IfSome, ℕ, sum_by};
+ghost use Rattle.std.specs.Prelude.{◌≡◌, ◌<◌, List, length, None, Some, Ok, All, IsOk, IfOk, true, false, IsSome, IfSome, ℕ, sum_by};
 ghost use Rattle.tui_frames.specs.Block.{block_data};
 ghost use Rattle.tui_frames.specs.InBlock.{beside};
 ghost use Rattle.tui_para.specs.Paragraph.{block_columns, block_rows, paragraph_data, paragraph_of};
@@ -152,11 +152,12 @@ impl<'a> Paragraph<'a> {
         ensures unwrapped { 0 < width → (paragraph_data self.now).wrap ≡ None
             → result ≡ Ok (beside (length (paragraph_data self.now).text.lines) (block_rows (paragraph_data self.now))) }
         ensures wrapped { 0 < width → IfSome (paragraph_data self.now).wrap (λ wrap. (lines : List GlyphLine)
-            → WrappedText width wrap.trim (paragraph_data self.now).alignment (paragraph_data self.now).text lines
+            → WrappedText width wrap (paragraph_data self.now).alignment (paragraph_data self.now).text lines
             → result ≡ Ok (beside (saturated (length lines)) (block_rows (paragraph_data self.now)))) }
 
-        // Where each line of the text is words with single blanks between them, no division of the words has fewer lines.
-        ensures fewest { 0 < width → IsSome (paragraph_data self.now).wrap → (words : LineData → List (List Glyph))
+        // Without breaks after hyphens, where each line of the text is words with single blanks between them, no division of
+        // the words has fewer lines.
+        ensures fewest { 0 < width → IsSome (paragraph_data self.now).wrap → IfSome (paragraph_data self.now).wrap (λ wrap. wrap.hyphens ≡ false) → (words : LineData → List (List Glyph))
             → IsTextOf words width (paragraph_data self.now).text → (counts : LineData → ℕ)
             × All (λ line. IsFewest glyph_width (words line) width (counts line)) (paragraph_data self.now).text.lines
             × (result ≡ Ok (beside (saturated (sum_by counts (paragraph_data self.now).text.lines)) (block_rows (paragraph_data self.now)))) }
@@ -172,15 +173,15 @@ impl<'a> Paragraph<'a> {
         requires { 0 < width }
         ensures unwrapped { (paragraph_data self.now).wrap ≡ None → result ≡ length (paragraph_data self.now).text.lines }
         ensures wrapped { IfSome (paragraph_data self.now).wrap (λ wrap. (lines : List GlyphLine)
-            → WrappedText width wrap.trim (paragraph_data self.now).alignment (paragraph_data self.now).text lines → result ≡ saturated (length lines)) }
-        ensures fewest { IsSome (paragraph_data self.now).wrap → (words : LineData → List (List Glyph))
+            → WrappedText width wrap (paragraph_data self.now).alignment (paragraph_data self.now).text lines → result ≡ saturated (length lines)) }
+        ensures fewest { IsSome (paragraph_data self.now).wrap → IfSome (paragraph_data self.now).wrap (λ wrap. wrap.hyphens ≡ false) → (words : LineData → List (List Glyph))
             → IsTextOf words width (paragraph_data self.now).text → (counts : LineData → ℕ)
             × All (λ line. IsFewest glyph_width (words line) width (counts line)) (paragraph_data self.now).text.lines
             × (result ≡ saturated (sum_by counts (paragraph_data self.now).text.lines)) }
     {
         match self.wrap {
             None => self.text.height(),
-            Some(wrap) => wrapped_count(&self.text, usize::from(width), wrap.trim),
+            Some(wrap) => wrapped_count(&self.text, usize::from(width), wrap),
         }
     }
 

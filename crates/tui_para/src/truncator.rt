@@ -2,7 +2,7 @@
 
 ghost use Rattle.std.specs.Prelude.{◌≡◌, ◌↔◌, ℕ, List, false, true, IfOk, MatchResult};
 ghost use Rattle.tui_para.specs.Given.{AllReady, MayGive, MayBe, WillGive, WillBe};
-ghost use Rattle.tui_para.specs.Lines.{GlyphLine, LinesOf, TruncatesLine, UnlessDone};
+ghost use Rattle.tui_para.specs.Lines.{GlyphLine, LinesOf, TruncatesLine, GivenUnlessDone};
 ghost use Rattle.tui_para.specs.Wrapping.{FindsCut, TruncatorCanLend, TruncatorMayLend, TruncatorWillLend};
 
 use crate::composer::{LineComposer, WrappedLine};
@@ -98,7 +98,7 @@ where
     /// Reads its iterators to their ends, and lets all go.
     pub(crate) fn read_to_end(self)
         requires { TruncatorCanLend O.Iterator I.Iterator self }
-        ensures { (glyph_lines : List GlyphLine) × UnlessDone self.entry.done (MayGive O.next_gives (MayBe I.next_gives) self.entry.lines) glyph_lines }
+        ensures { (glyph_lines : List GlyphLine) × GivenUnlessDone self.entry.done (MayGive O.next_gives (MayBe I.next_gives) self.entry.lines) glyph_lines }
     {
         let LineTruncator { lines, done, .. } = self;
         if !done {

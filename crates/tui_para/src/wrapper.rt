@@ -3,18 +3,20 @@
 ghost use Rattle.std.specs.Prelude.{◌≡◌, ◌↔◌, List, false, true, IfOk, MatchResult};
 ghost use Rattle.tui_text.specs.Grapheme.{Glyph};
 ghost use Rattle.tui_para.specs.Given.{AllReady, IsGlyph, MayGive, MayBe, SourceGives, WillGive, WillBe};
-ghost use Rattle.tui_para.specs.Lines.{GlyphLine, LinesOf, UnlessDone, WrapsLine};
+ghost use Rattle.tui_para.specs.Hyphens.{at_blanks};
+ghost use Rattle.tui_para.specs.Lines.{GlyphLine, LinesOf, GivenUnlessDone, WrapsLine};
 ghost use Rattle.tui_para.specs.Wrapping.{FindsLine, WrapperCanLend, WrapperMayLend, WrapperWillLend};
 
 use crate::composer::{LineComposer, WrappedLine};
 use crate::ends::read_lines;
+use crate::wrap::Wrap;
 use crate::wrapping::part::Part;
 use crate::wrapping::text_line::TextLine;
 use std::alloc::Global;
 use tui_cells::{Mem, NoMemory};
 use tui_text::{Alignment, StyledGrapheme};
 
-/// Wraps text lines at blanks: each text line's own lines in order, with its alignment.
+/// Wraps text lines at blanks and, where asked for, after hyphens: each text line's own lines in order, with its alignment.
 #[derive(Drop)]
 pub struct WordWrapper<'a, O, I> {
     lines: O,
@@ -30,18 +32,41 @@ where
     I: Iterator<Item = StyledGrapheme<'a>>,
 {
     /// A wrapper over text lines, into lines of at most `max_line_width` columns. With `trim` each line begins without
-    /// its blanks.
+    /// its blanks. Lines break at blanks alone; `with_wrap` breaks them after hyphens too.
     pub fn new(alloc: Global, lines: O, max_line_width: u16, trim: bool) -> WordWrapper<'a, O, I>
         ensures failed { result.failed ≡ false }
         ensures ready { AllReady O.Iterator I.Iterator lines → WrapperCanLend O.Iterator I.Iterator result }
         ensures may { (glyph_lines : List GlyphLine) → WrapperMayLend O.next_gives I.next_gives result glyph_lines
-            ↔ LinesOf (MayGive O.next_gives (MayBe I.next_gives) lines) (WrapsLine max_line_width trim) max_line_width glyph_lines }
+            ↔ LinesOf (MayGive O.next_gives (MayBe I.next_gives) lines) (WrapsLine max_line_width (at_blanks trim)) max_line_width glyph_lines }
         ensures will { (glyph_lines : List GlyphLine) → WrapperWillLend O.next_gives I.next_gives result glyph_lines
-            ↔ LinesOf (WillGive O.next_gives (WillBe I.next_gives) lines) (WrapsLine max_line_width trim) max_line_width glyph_lines }
+            ↔ LinesOf (WillGive O.next_gives (WillBe I.next_gives) lines) (WrapsLine max_line_width (at_blanks trim)) max_line_width glyph_lines }
+    {
+        let wrap = Wrap {
+            trim,
+            hyphens: false,
+        };
+        WordWrapper::with_wrap(alloc, lines, max_line_width, wrap)
+    }
+
+    /// A wrapper over text lines, into lines of at most `max_line_width` columns. With `trim` each line begins without
+    /// its blanks. With `hyphens` a line may also end after a `-` that stands in a word directly between two graphemes that
+    /// aren't `-`.
+    pub fn with_wrap(
+        alloc: Global,
+        lines: O,
+        max_line_width: u16,
+        wrap: Wrap,
+    ) -> WordWrapper<'a, O, I>
+        ensures failed { result.failed ≡ false }
+        ensures ready { AllReady O.Iterator I.Iterator lines → WrapperCanLend O.Iterator I.Iterator result }
+        ensures may { (glyph_lines : List GlyphLine) → WrapperMayLend O.next_gives I.next_gives result glyph_lines
+            ↔ LinesOf (MayGive O.next_gives (MayBe I.next_gives) lines) (WrapsLine max_line_width wrap) max_line_width glyph_lines }
+        ensures will { (glyph_lines : List GlyphLine) → WrapperWillLend O.next_gives I.next_gives result glyph_lines
+            ↔ LinesOf (WillGive O.next_gives (WillBe I.next_gives) lines) (WrapsLine max_line_width wrap) max_line_width glyph_lines }
     {
         WordWrapper {
             lines,
-            current: TextLine::new(alloc, max_line_width, trim),
+            current: TextLine::new(alloc, max_line_width, wrap),
             alignment: Alignment::Left,
             done: false,
             failed: false,
@@ -95,7 +120,7 @@ where
     pub(crate) fn read_to_end(self)
         requires { WrapperCanLend O.Iterator I.Iterator self }
         ensures source { (glyphs : List Glyph) × SourceGives (MayGive I.next_gives IsGlyph) self.entry.current.source glyphs }
-        ensures lines { (glyph_lines : List GlyphLine) × UnlessDone self.entry.done (MayGive O.next_gives (MayBe I.next_gives) self.entry.lines) glyph_lines }
+        ensures lines { (glyph_lines : List GlyphLine) × GivenUnlessDone self.entry.done (MayGive O.next_gives (MayBe I.next_gives) self.entry.lines) glyph_lines }
     {
         let WordWrapper {
             lines,

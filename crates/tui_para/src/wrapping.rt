@@ -1,7 +1,8 @@
 //! What the wrapping of a text line is made of.
 
 mod breaking;
-mod mark;
+pub(crate) mod hyphenation;
+pub(crate) mod mark;
 mod marked;
 pub(crate) mod part;
 mod prefix;

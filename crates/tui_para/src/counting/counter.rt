@@ -1,7 +1,8 @@
 //! Counting the lines of one text line from numbers alone.
 
-ghost use Rattle.std.specs.Prelude.{◌≡◌, ◌+◌, ◌≤◌, ◌<◌, ◌^◌};
+ghost use Rattle.std.specs.Prelude.{◌≡◌, cond, ◌+◌, ◌≤◌, ◌<◌, ◌^◌};
 ghost use Rattle.tui_text.specs.Width.{saturated};
+ghost use Rattle.tui_para.specs.Mark.{ends_before};
 ghost use Rattle.tui_para.specs.Counting.{
   add_letter,
   after_word,
@@ -16,6 +17,8 @@ ghost use Rattle.tui_para.specs.Counting.{
   take_word_along,
 };
 
+use crate::wrapping::mark::Mark;
+
 /// The lines of the graphemes that were read, and how the last of them goes on.
 #[derive(Clone, Copy, Debug)]
 pub(crate) struct Counter {
@@ -23,15 +26,15 @@ pub(crate) struct Counter {
     lines: usize,
     /// A grapheme stands behind the last line that has ended.
     some: bool,
-    /// A word has ended in the line under way.
+    /// A piece of a word has ended in the line under way.
     begun: bool,
-    /// A word is under way.
+    /// A piece of a word is under way.
     in_word: bool,
-    /// The width of the line up to the end of its last word.
+    /// The width of the line up to the end of its last piece.
     line: usize,
     /// The width of the blanks since.
     blanks: usize,
-    /// The width of the word since.
+    /// The width of the piece since.
     word: usize,
 }
 
@@ -51,18 +54,18 @@ impl Counter {
     }
 
     /// Reads one grapheme more, which is not wider than a line.
-    pub(crate) fn read(&mut self, size: usize, is_blank: bool, width: usize, trim: bool)
+    pub(crate) fn read(&mut self, mark: Mark, width: usize, trim: bool)
         requires width { width < 2 ^ 16 }
-        requires small { size ≤ width }
+        requires small { mark.width ≤ width }
         requires fits { self.old.line + self.old.blanks + self.old.word ≤ width }
-        ensures step { cut_count self.new ≡ cut_count (step width trim self.old size is_blank) }
+        ensures step { cut_count self.new ≡ cut_count (step width trim self.old mark.width (ends_before mark) mark.blank) }
         ensures fits { self.new.line + self.new.blanks + self.new.word ≤ width }
     {
-        if is_blank {
-            self.end_word();
-            self.read_blank(size, width, trim);
+        self.end_piece(mark.ends_piece());
+        if mark.blank {
+            self.read_blank(usize::from(mark.width), width, trim);
         } else {
-            self.read_letter(size, width);
+            self.read_letter(usize::from(mark.width), width);
         }
     }
 
@@ -77,11 +80,12 @@ impl Counter {
         }
     }
 
-    fn end_word(&mut self)
+    /// Ends the piece of a word that is under way, where one ends here.
+    fn end_piece(&mut self, ends: bool)
         requires { self.old.line + self.old.blanks + self.old.word < 2 ^ 64 }
-        ensures { self.new ≡ after_word self.old }
+        ensures { self.new ≡ cond ends (after_word self.old) self.old }
     {
-        if self.in_word {
+        if ends && self.in_word {
             self.line = self.line + self.blanks + self.word;
             self.blanks = 0;
             self.word = 0;
@@ -128,7 +132,7 @@ impl Counter {
         self.some = true;
     }
 
-    /// Ends the line before the word that is under way.
+    /// Ends the line before the piece that is under way.
     fn take_word_along(&mut self)
         ensures { self.new ≡ cut_count (take_word_along self.old) }
     {

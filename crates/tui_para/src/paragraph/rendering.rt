@@ -27,7 +27,7 @@ impl<'a> Paragraph<'a> {
         match self.wrap {
             Some(wrap) => {
                 let lines = TextLines::new(&self.text, self.alignment);
-                let mut wrapper = WordWrapper::new(alloc, lines, clip.width, wrap.trim);
+                let mut wrapper = WordWrapper::with_wrap(alloc, lines, clip.width, wrap);
                 paint_lines(buf, clip, &mut wrapper, self.scroll.y)
             }
             None => {

@@ -1,12 +1,14 @@
 //! Where the lines of a text line begin and end.
 
 ghost use Rattle.std.specs.List.{between};
-ghost use Rattle.std.specs.Prelude.{◌≡◌, ◌≤◌, ◌<◌, ◌+◌, List, length, drop, take, map, cond, false, sum_by, All};
-ghost use Rattle.tui_text.specs.Grapheme.{Glyph, glyph_blank, glyph_width};
-ghost use Rattle.tui_para.specs.Mark.{mark_of, is_blank, size_of};
+ghost use Rattle.std.specs.Prelude.{◌≡◌, ◌≤◌, ◌<◌, ◌+◌, List, Bool, length, drop, take, map, cond, false, sum_by, All};
+ghost use Rattle.tui_text.specs.Grapheme.{Glyph};
+ghost use Rattle.tui_para.specs.Mark.{ends_before, mark_of, is_blank, size_of};
 ghost use Rattle.tui_para.specs.Places.{blanks_len, start_len, line_len, dropped_len};
+ghost use Rattle.tui_para.specs.Hyphens.{glyph_rule};
 ghost use Rattle.tui_para.specs.Wrapped.{IsNextLine};
 
+use crate::wrap::Wrap;
 use crate::wrapping::mark::Mark;
 use crate::wrapping::prefix::Prefix;
 
@@ -31,20 +33,20 @@ fn start_of(marks: &[Mark], trim: bool) -> usize
     if trim { leading_blanks(marks) } else { 0 }
 }
 
-/// The graphemes up to here where a word ends here, else those up to the end of the word before.
-fn whole_words(words: Prefix, here: Prefix, word_ends: bool) -> Prefix
-    ensures { result ≡ cond word_ends here words }
+/// The graphemes up to here where a piece of a word ends here, else those up to the end of the piece before.
+fn whole_pieces(pieces: Prefix, here: Prefix, piece_ends: bool) -> Prefix
+    ensures { result ≡ cond piece_ends here pieces }
 {
-    if word_ends { here } else { words }
+    if piece_ends { here } else { pieces }
 }
 
 /// The line that stands at the front.
 fn line_at(marks: &[Mark], width: u16) -> Prefix
     ensures within { result.len ≤ length marks.now }
-    ensures len { result.len ≡ line_len is_blank size_of width marks.now }
+    ensures len { result.len ≡ line_len ends_before is_blank size_of width marks.now }
     ensures room { result.room + sum_by size_of (take result.len marks.now) ≡ width }
 {
-    let mut words = Prefix {
+    let mut pieces = Prefix {
         len: 0,
         room: width,
     };
@@ -52,9 +54,9 @@ fn line_at(marks: &[Mark], width: u16) -> Prefix
     let mut in_word = false;
     for (i, mark) in marks.iter().enumerate() {
         let here = Prefix { len: i, room };
-        words = whole_words(words, here, in_word && mark.blank);
+        pieces = whole_pieces(pieces, here, in_word && mark.ends_piece());
         if mark.width > room {
-            return if words.len > 0 { words } else { here };
+            return if pieces.len > 0 { pieces } else { here };
         }
         room -= mark.width;
         in_word = !mark.blank;
@@ -93,15 +95,15 @@ pub(crate) struct Place {
 }
 
 /// The next line of graphemes with these marks, none of which is wider than a line.
-pub(crate) fn next_line(marks: &[Mark], width: u16, trim: bool) -> Place
+pub(crate) fn next_line(marks: &[Mark], width: u16, wrap: Wrap) -> Place
     requires { All (λ m. m.width ≤ width) marks.now }
     ensures order { (result.start ≤ result.end) × (result.end ≤ result.next) × (result.next ≤ length marks.now) }
     ensures moves { 0 < length marks.now → 0 < result.next }
     ensures width { result.width ≡ sum_by size_of (between result.start result.end marks.now) }
-    ensures line { (graphemes : List Glyph) → map mark_of graphemes ≡ marks.now
-        → IsNextLine glyph_blank glyph_width width trim graphemes (between result.start result.end graphemes) (drop result.next graphemes) }
+    ensures line { (graphemes : List (Glyph × Bool)) → map mark_of graphemes ≡ marks.now
+        → IsNextLine (glyph_rule width wrap) graphemes (between result.start result.end graphemes) (drop result.next graphemes) }
 {
-    let start = start_of(marks, trim);
+    let start = start_of(marks, wrap.trim);
     let rest = &marks[start..];
     let line = line_at(rest, width);
     let blanks = dropped(&rest[line.len..], line.room);

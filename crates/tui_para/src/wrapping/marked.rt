@@ -2,13 +2,15 @@
 
 ghost use Rattle.std.specs.Prelude.{◌≡◌, ◌≤◌, ◌+◌, Some, List, [], ◌∷◌, ◌++◌, length, drop, map, IfOk, IfSome, OnOk, OnErr, vec_len};
 ghost use Rattle.std.specs.Iterator.{size};
-ghost use Rattle.std.specs.List.{between};
+ghost use Rattle.std.specs.List.{between, zip};
 ghost use Rattle.tui_text.specs.Grapheme.{glyph_of};
 ghost use Rattle.tui_text.specs.declared.grapheme.StyledGrapheme.{StyledGrapheme};
 ghost use Rattle.tui_para.specs.Given.{Ready, SourceReads};
-ghost use Rattle.tui_para.specs.Mark.{mark_of};
+ghost use Rattle.tui_para.specs.Hyphenation.{at_start};
+ghost use Rattle.tui_para.specs.Mark.{is_cut, mark_of};
 
-use crate::wrapping::mark::{Mark, mark_of};
+use crate::wrapping::hyphenation::Hyphenation;
+use crate::wrapping::mark::Mark;
 use std::alloc::Global;
 use tui_cells::{Mem, NoMemory};
 use tui_text::StyledGrapheme;
@@ -18,29 +20,35 @@ use tui_text::StyledGrapheme;
 pub(crate) struct Marked<'a> {
     graphemes: Vec<StyledGrapheme<'a>>,
     marks: Vec<Mark>,
-    ghost marked: { marks.items ≡ map mark_of (map glyph_of graphemes.items) },
+    /// What stands before the grapheme that comes next.
+    hyphenation: Hyphenation,
+    ghost together: { length graphemes.items ≡ length marks.items },
+    ghost marked: { marks.items ≡ map mark_of (zip (map glyph_of graphemes.items) (map is_cut marks.items)) },
 }
 
 impl<'a> Marked<'a> {
-    ghost use Rattle.tui_para.specs.Marked.{HasKept, glyphs_of};
+    ghost use Rattle.tui_para.specs.Marked.{HasKept, cuts_of, glyphs_of};
 
-    pub(crate) fn new(alloc: Global) -> Marked<'a>
-        ensures { glyphs_of result ≡ [] }
+    /// No grapheme yet, at the beginning of a text line.
+    pub(crate) fn new(alloc: Global, hyphens: bool) -> Marked<'a>
+        ensures none { cuts_of result ≡ [] }
+        ensures start { result.hyphenation ≡ at_start hyphens }
     {
         Marked {
             graphemes: Vec::new(alloc),
             marks: Vec::new(alloc),
+            hyphenation: Hyphenation::new(hyphens),
         }
     }
 
     pub(crate) fn len(&self) -> usize
-        ensures { result ≡ length (glyphs_of self.now) }
+        ensures { result ≡ length (cuts_of self.now) }
     {
         self.marks.len()
     }
 
     pub(crate) fn marks(&self) -> &[Mark]
-        ensures { result.now ≡ map mark_of (glyphs_of self.now) }
+        ensures { result.now ≡ map mark_of (cuts_of self.now) }
     {
         &self.marks
     }
@@ -48,23 +56,27 @@ impl<'a> Marked<'a> {
     /// The graphemes between two places.
     pub(crate) fn part(&self, start: usize, end: usize) -> &[StyledGrapheme<'a>]
         requires order { start ≤ end }
-        requires within { end ≤ length (glyphs_of self.now) }
+        requires within { end ≤ length (cuts_of self.now) }
         ensures { map glyph_of result.now ≡ between start end (glyphs_of self.now) }
     {
         &self.graphemes[start..end]
     }
 
-    pub(crate) fn clear(&mut self)
-        ensures { glyphs_of self.new ≡ [] }
+    /// Leaves out all, at the beginning of a text line.
+    pub(crate) fn clear(&mut self, hyphens: bool)
+        ensures none { cuts_of self.new ≡ [] }
+        ensures start { self.new.hyphenation ≡ at_start hyphens }
     {
         self.graphemes.clear();
         self.marks.clear();
+        self.hyphenation = Hyphenation::new(hyphens);
     }
 
     fn push(&mut self, grapheme: StyledGrapheme<'a>, mark: Mark) -> Mem<()>
-        requires { mark ≡ mark_of (glyph_of grapheme) }
-        ensures ok { OnOk result (glyphs_of self.new ≡ glyphs_of self.old ++ glyph_of grapheme.entry ∷ []) }
-        ensures err { OnErr result (glyphs_of self.new ≡ glyphs_of self.old) }
+        requires { mark ≡ mark_of (glyph_of grapheme, mark.cut) }
+        ensures ok { OnOk result (cuts_of self.new ≡ cuts_of self.old ++ (glyph_of grapheme.entry, mark.cut) ∷ []) }
+        ensures err { OnErr result (cuts_of self.new ≡ cuts_of self.old) }
+        ensures same { self.new.hyphenation ≡ self.old.hyphenation }
     {
         self.marks.push(mark)?;
         match self.graphemes.push(grapheme) {
@@ -79,19 +91,21 @@ impl<'a> Marked<'a> {
     /// Puts a grapheme behind those that are there, unless it is wider than a line.
     fn keep(&mut self, grapheme: StyledGrapheme<'a>, width: u16) -> Mem<()>
         ensures ok { OnOk result (HasKept width (grapheme.entry ∷ []) self.old self.new) }
-        ensures err { OnErr result (glyphs_of self.new ≡ glyphs_of self.old) }
+        ensures err { OnErr result (HasKept width [] self.old self.new) }
     {
-        let mark = mark_of(&grapheme);
+        let (mark, behind) = self.hyphenation.mark(&grapheme);
         if mark.width <= width {
             self.push(grapheme, mark)?;
+            self.hyphenation = behind;
         }
         Ok(())
     }
 
     /// Leaves out the first `count` graphemes.
     pub(crate) fn drop_front(&mut self, count: usize)
-        requires { count ≤ length (glyphs_of self.old) }
-        ensures { glyphs_of self.new ≡ drop count (glyphs_of self.old) }
+        requires { count ≤ length (cuts_of self.old) }
+        ensures dropped { cuts_of self.new ≡ drop count (cuts_of self.old) }
+        ensures same { self.new.hyphenation ≡ self.old.hyphenation }
     {
         drop_front(&mut self.graphemes, count);
         drop_front(&mut self.marks, count);

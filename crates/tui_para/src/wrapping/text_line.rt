@@ -3,9 +3,11 @@
 ghost use Rattle.std.specs.Prelude.{◌≡◌, ◌≤◌, ◌<◌, List, [], None, Some, true, false, length, drop, map, All, IfOk, IfSome, IsSome, OnOk};
 ghost use Rattle.tui_text.specs.Grapheme.{Glyph, glyph_of, glyph_width};
 ghost use Rattle.tui_para.specs.Given.{IsGlyph, MayGive, Ready, SourceGives, source_left};
-ghost use Rattle.tui_para.specs.Marked.{glyphs_of, part_of};
+ghost use Rattle.tui_para.specs.Hyphenation.{at_start};
+ghost use Rattle.tui_para.specs.Marked.{cuts_of, glyphs_of, part_of};
 
 use crate::ends::read_line;
+use crate::wrap::Wrap;
 use crate::wrapping::breaking::{Place, next_line};
 use crate::wrapping::marked::Marked;
 use crate::wrapping::part::Part;
@@ -24,31 +26,31 @@ pub(crate) struct TextLine<'a, I> {
     /// Those that were read, from a part that was lent on.
     line: Marked<'a>,
     width: u16,
-    trim: bool,
+    wrap: Wrap,
     /// Where the graphemes begin that were not lent.
     place: usize,
     /// No part of it was lent.
     is_new: bool,
-    ghost within: { place ≤ length (glyphs_of line) },
-    ghost fit: { All (λ g. glyph_width g ≤ width) (glyphs_of line) },
+    ghost within: { place ≤ length (cuts_of line) },
+    ghost fit: { All (λ g. glyph_width g.0 ≤ width) (cuts_of line) },
 }
 
 impl<'a, I> TextLine<'a, I> {
     ghost use Rattle.tui_para.specs.Wrapping.{IsNextPlace};
 
     /// No text line yet.
-    pub(crate) fn new(alloc: Global, width: u16, trim: bool) -> TextLine<'a, I>
+    pub(crate) fn new(alloc: Global, width: u16, wrap: Wrap) -> TextLine<'a, I>
         ensures source { result.source ≡ None }
-        ensures line { glyphs_of result.line ≡ [] }
+        ensures line { cuts_of result.line ≡ [] }
         ensures old { result.is_new ≡ false }
         ensures width { result.width ≡ width }
-        ensures trim { result.trim ≡ trim }
+        ensures wrap { result.wrap ≡ wrap }
     {
         TextLine {
             source: None,
-            line: Marked::new(alloc),
+            line: Marked::new(alloc, wrap.hyphens),
             width,
-            trim,
+            wrap,
             place: 0,
             is_new: false,
         }
@@ -63,14 +65,14 @@ impl<'a, I> TextLine<'a, I> {
     /// The next line, where it is this one whatever graphemes are still to be read.
     fn known_line(&self) -> Option<Place>
         ensures some { IfSome result (IsNextPlace self.now) }
-        ensures none { result ≡ None → self.now.source ≡ None → (self.now.is_new ≡ false) × (drop self.now.place (glyphs_of self.now.line) ≡ []) }
+        ensures none { result ≡ None → self.now.source ≡ None → (self.now.is_new ≡ false) × (drop self.now.place (cuts_of self.now.line) ≡ []) }
     {
         if self.place >= self.line.len() {
             return self.empty_line();
         }
         let marks = self.line.marks();
         let rest = &marks[self.place..];
-        let line = next_line(rest, self.width, self.trim);
+        let line = next_line(rest, self.width, self.wrap);
         if line.next == rest.len() && self.source.is_some() {
             return None;
         }
@@ -102,11 +104,11 @@ impl<'a, I> TextLine<'a, I> {
 
     /// Goes on behind a line.
     fn pass(&mut self, line: Place) -> Part
-        requires { line.next ≤ length (glyphs_of self.old.line) }
+        requires { line.next ≤ length (cuts_of self.old.line) }
         ensures source { self.new.source ≡ self.old.source }
-        ensures line { glyphs_of self.new.line ≡ glyphs_of self.old.line }
+        ensures line { self.new.line ≡ self.old.line }
         ensures width { self.new.width ≡ self.old.width }
-        ensures trim { self.new.trim ≡ self.old.trim }
+        ensures wrap { self.new.wrap ≡ self.old.wrap }
         ensures is_new { self.new.is_new ≡ false }
         ensures place { self.new.place ≡ line.next }
         ensures part { result ≡ record { start = line.start; end = line.end; width = line.width } }
@@ -123,7 +125,7 @@ impl<'a, I> TextLine<'a, I> {
     /// The graphemes of a part.
     pub(crate) fn part(&self, part: Part) -> &[StyledGrapheme<'a>]
         requires order { part.start ≤ part.end }
-        requires within { part.end ≤ length (glyphs_of self.now.line) }
+        requires within { part.end ≤ length (cuts_of self.now.line) }
         ensures { map glyph_of result.now ≡ part_of (glyphs_of self.now.line) part }
     {
         self.line.part(part.start, part.end)
@@ -147,13 +149,14 @@ impl<'a, I: Iterator<Item = StyledGrapheme<'a>>> TextLine<'a, I> {
     /// Begins another text line.
     pub(crate) fn start(&mut self, source: I)
         ensures source { self.new.source ≡ Some source }
-        ensures line { glyphs_of self.new.line ≡ [] }
+        ensures line { cuts_of self.new.line ≡ [] }
+        ensures start { self.new.line.hyphenation ≡ at_start self.new.wrap.hyphens }
         ensures is_new { self.new.is_new ≡ true }
         ensures width { self.new.width ≡ self.old.width }
-        ensures trim { self.new.trim ≡ self.old.trim }
+        ensures wrap { self.new.wrap ≡ self.old.wrap }
     {
         self.place = 0;
-        self.line.clear();
+        self.line.clear(self.wrap.hyphens);
         self.is_new = true;
         self.source = Some(source);
     }
@@ -163,7 +166,7 @@ impl<'a, I: Iterator<Item = StyledGrapheme<'a>>> TextLine<'a, I> {
         requires { IfSome self.old.source (Ready I.Iterator) }
         ensures ready { IfSome self.new.source (Ready I.Iterator) }
         ensures width { self.new.width ≡ self.old.width }
-        ensures trim { self.new.trim ≡ self.old.trim }
+        ensures wrap { self.new.wrap ≡ self.old.wrap }
         ensures found { IfOk result (FindsPart I.next_gives self.old self.new) }
     {
         'lines: loop {
@@ -181,7 +184,7 @@ impl<'a, I: Iterator<Item = StyledGrapheme<'a>>> TextLine<'a, I> {
     fn read_on(&mut self) -> Mem<()>
         requires { IfSome self.old.source (Ready I.Iterator) }
         ensures ready { IfSome self.new.source (Ready I.Iterator) }
-        ensures same { (self.new.width ≡ self.old.width) × (self.new.trim ≡ self.old.trim) }
+        ensures same { (self.new.width ≡ self.old.width) × (self.new.wrap ≡ self.old.wrap) }
         ensures read { OnOk result (HasRead I.next_gives self.old self.new) }
         ensures nearer { OnOk result (IsSome self.old.source → source_left I.remaining self.new.source < source_left I.remaining self.old.source) }
     {

@@ -1,11 +1,12 @@
--- How lines are broken: an object with the member `trim`.
-use Rattle.std.specs.Prelude.{Option, Some, codes}
+-- How lines are broken: an object with the member `trim`, and maybe `hyphens`.
+use Rattle.std.specs.Prelude.{Option, Some, codes, unwrap_or, false}
 use Rattle.serde_json.specs.Data.{Data}
 use Rattle.serde_json.specs.Find.{as_bool}
 use Rattle.tui_para.specs.declared.wrap.Wrap.{Wrap}
-use Rattle.tui_schema.specs.Kinds.Members.{◌>>=◌, member}
+use Rattle.tui_schema.specs.Kinds.Members.{◌>>=◌, member, optional_member}
 
 unfoldable pub wrap_of : Data → Option Wrap
 wrap_of d = do
   trim ← member as_bool (codes "trim") d
-  Some (record { trim = trim })
+  hyphens ← optional_member as_bool (codes "hyphens") d
+  Some (record { trim = trim; hyphens = unwrap_or hyphens false })

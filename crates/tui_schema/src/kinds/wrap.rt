@@ -1,9 +1,9 @@
-//! How lines are broken: an object with the member `trim`.
+//! How lines are broken: an object with the member `trim`, and maybe `hyphens`.
 
 ghost use Rattle.tui_schema.specs.Kinds.Wrap.{wrap_of};
 
 use crate::kinds::kind::{Kind, KindError};
-use crate::kinds::member::member;
+use crate::kinds::member::{member, optional_member};
 use serde_json::Value;
 use std::alloc::Global;
 use tui_para::Wrap;
@@ -20,6 +20,10 @@ impl<'v> Kind<'v> for Wrap {
     #[tactic(auto, unfolding(crate::specs::Kinds::Wrap::wrap_of))]
     fn read(alloc: Global, value: &'v Value) -> Result<Wrap, KindError> {
         let trim = member(alloc, value, "trim")?;
-        Ok(Wrap { trim })
+        let hyphens: Option<bool> = optional_member(alloc, value, "hyphens")?;
+        Ok(Wrap {
+            trim,
+            hyphens: hyphens.unwrap_or(false),
+        })
     }
 }

@@ -1,35 +1,44 @@
-use Rattle.std.proofs.Common.{◌≡◌, ◌≤◌, [], ap, sym, subst, ◌∙◌}
+use Rattle.std.proofs.Common.{◌≡◌, ◌≤◌, ◌+◌, [], ap, sym, subst, ◌∙◌, arith}
 use Rattle.std.specs.Prelude.{length}
-use Rattle.tui_text.specs.Grapheme.{glyph_of, glyph_blank, glyph_width, is_blank}
+use Rattle.tui_text.specs.Grapheme.{glyph_of, glyph_width}
 use Rattle.tui_text.specs.Graphemes.{glyphs_left, line_graphemes}
 use Rattle.tui_text.specs.Line.{line_data}
-use Rattle.tui_para.specs.Counting.{cut_count, no_lines, step, steps}
-use Rattle.tui_para.specs.Places.{wrap}
+use Rattle.tui_para.specs.Counting.{cut_count, no_lines, steps}
+use Rattle.tui_para.specs.Hyphenation.{marked_from}
+use Rattle.tui_para.specs.Hyphens.{glyph_rule, with_cuts, wrap}
 use Rattle.tui_para.specs.Wrapped.{kept}
-use Rattle.tui_para.proofs.CutCounts.{kept_read, cut_counts}
-use Rattle.tui_para.proofs.Greedy.{wrap_is}
+use Rattle.tui_para.specs.declared.counting.counter.Counter.{Counter}
+use Rattle.tui_para.proofs.CutCounts.{begun_counts, cut_counts, one_read}
 use Rattle.tui_para.proofs.LineCounts.{wrap_count}
+use Rattle.tui_para.proofs.WithCuts.{counted_lines}
 use Rattle.tui_para.proofs.counting.line_count.Goals as goal
 
-pub loop-grapheme-preserved-then-size-width : goal.loop-grapheme-preserved-then-size-width
-unfolding is_blank
-loop-grapheme-preserved-then-size-width c =
-    let w = c.args.width in
-    let x = glyph_of c.in-Some.grapheme in
-    let size : c.from-size.result ≡ glyph_width x = c.from-size.ensures ∙ c.cell_width.ensures in
-    let blank : c.is_whitespace.result ≡ glyph_blank x = c.is_whitespace.ensures in
-    let read = c.read.ensures.step ∙ (ap (λ s. cut_count (step w c.args.trim c.loop-grapheme.counter s c.is_whitespace.result)) size ∙ ap (λ b. cut_count (step w c.args.trim c.loop-grapheme.counter (glyph_width x) b)) blank) in
+pub loop-grapheme-init : goal.loop-grapheme-init
+loop-grapheme-init c =
     record {
-      numbers = kept_read glyph_blank glyph_width w c.args.trim c.loop-grapheme.counter c.read.new.self x (glyphs_left c.next.new.self) (glyphs_left c.loop-grapheme.grapheme-iterator) c.in-Some.ensures.steps (subst (λ s. s ≤ w) size c.if-size-width.true) read ∙ c.loop-grapheme.invariant.numbers;
+      numbers = begun_counts c.args.width c.args.wrap c.new-counter.result c.new-hyphenation.result (glyphs_left c.into_iter-grapheme-iterator.result) (line_graphemes c.args.base (line_data c.args.line.now))
+          c.new-counter.ensures c.new-hyphenation.ensures (ap glyphs_left c.into_iter-grapheme-iterator.ensures.into_iter_gives ∙ c.styled_graphemes-grapheme-items.ensures);
+      fits = subst (λ (k : Counter). k.line + k.blanks + k.word ≤ c.args.width) (sym c.new-counter.ensures) (omega arith);
+    }
+
+pub loop-grapheme-preserved-then-from-width : goal.loop-grapheme-preserved-then-from-width
+loop-grapheme-preserved-then-from-width c =
+    let mark = c.mark-behind.ensures in
+    let size = c.from.ensures in
+    let small = c.if-from-width.true in
+    record {
+      numbers = one_read c.args.width c.args.wrap c.loop-grapheme.hyphenation c.mark-behind.result.1 c.mark-behind.result.0 (glyph_of c.in-Some.grapheme) (glyphs_left c.next.new.self) (glyphs_left c.loop-grapheme.grapheme-iterator)
+          c.in-Some.ensures.steps mark.mark c.loop-grapheme.counter c.read.new.self mark.behind (omega arith) c.read.ensures.step ∙ c.loop-grapheme.invariant.numbers;
       fits = c.read.ensures.fits;
     }
 
 pub returns : goal.returns
 returns c =
     let w = c.args.width in
+    let way = c.args.wrap in
+    let rule = glyph_rule w way in
     let xs = line_graphemes c.args.base (line_data c.args.line.now) in
     let none : glyphs_left c.loop-grapheme.grapheme-iterator ≡ [] = c.in-None.ensures.steps.0 in
-    let same = ap (λ zs. cut_count (steps glyph_blank glyph_width w c.args.trim c.loop-grapheme.counter (kept glyph_width w zs))) (sym none) ∙ c.loop-grapheme.invariant.numbers in
-    let all = wrap_count glyph_blank glyph_width w c.args.trim xs (wrap glyph_blank glyph_width w c.args.trim xs) (wrap_is glyph_blank glyph_width w c.args.trim xs) in
-    let e = cut_counts c.loop-grapheme.counter (steps glyph_blank glyph_width w c.args.trim no_lines (kept glyph_width w xs)) c.count.result (length (wrap glyph_blank glyph_width w c.args.trim xs)) same c.count.ensures all in
+    let same = ap (λ zs. cut_count (steps rule c.loop-grapheme.counter (marked_from c.loop-grapheme.hyphenation (kept glyph_width w zs)))) (sym none) ∙ c.loop-grapheme.invariant.numbers in
+    let e = cut_counts c.loop-grapheme.counter (steps rule no_lines (with_cuts way.hyphens [] (kept glyph_width w xs))) c.count.result (length (wrap w way xs)) same c.count.ensures (counted_lines w way xs) in
     c.max.ensures ∙ e

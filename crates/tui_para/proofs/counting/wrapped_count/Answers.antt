@@ -8,8 +8,8 @@ use Rattle.tui_para.proofs.counting.wrapped_count.Goals as goal
 
 pub returns : goal.returns
 returns c =
-    let count = wrapped_len c.args.width c.args.trim c.text_style-base.result in
+    let count = wrapped_len c.args.width c.args.wrap c.text_style-base.result in
     let read = take_all c.loop-line.line-index c.lines-line-items.result.now c.loop-line-test.false in
     let all = ap (map line_data) read ∙ c.lines-line-items.ensures in
     c.loop-line.invariant ∙ (ap (λ (lines : List LineData). saturated (sum_by count lines)) all
-    ∙ ap (λ base. saturated (sum_by (wrapped_len c.args.width c.args.trim base) (text_data c.args.text.now).lines)) c.text_style-base.ensures)
+    ∙ ap (λ base. saturated (sum_by (wrapped_len c.args.width c.args.wrap base) (text_data c.args.text.now).lines)) c.text_style-base.ensures)

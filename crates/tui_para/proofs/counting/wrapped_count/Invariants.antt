@@ -5,4 +5,4 @@ use Rattle.tui_text.specs.Width.{saturated}
 use Rattle.tui_para.proofs.counting.wrapped_count.Given as goal
 
 abbrev pub invariant-loop-line : goal.invariant-loop-line
-invariant-loop-line l = l.count ≡ saturated (sum_by (wrapped_len l.width l.trim l.base) (map line_data (take l.line-index l.line-items)))
+invariant-loop-line l = l.count ≡ saturated (sum_by (wrapped_len l.width l.wrap l.base) (map line_data (take l.line-index l.line-items)))

@@ -2,4 +2,4 @@ use Rattle.tui_para.proofs.TextCut.{text_wraps_once}
 use Rattle.tui_para.proofs.laws.text_wraps_exactly_once.Goals as goal
 
 pub returns : goal.returns
-returns c = λ w trim alignment text some. text_wraps_once w trim alignment text
+returns c = λ w way alignment text some. text_wraps_once w way alignment text

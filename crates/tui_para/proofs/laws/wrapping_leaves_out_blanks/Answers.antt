@@ -1,7 +1,5 @@
-use Rattle.tui_text.specs.Grapheme.{glyph_blank, glyph_width}
-use Rattle.tui_para.specs.Wrapped.{kept}
-use Rattle.tui_para.proofs.LeftOut.{leaves_out_blanks}
+use Rattle.tui_para.proofs.WithCuts.{wrapping_leaves}
 use Rattle.tui_para.proofs.laws.wrapping_leaves_out_blanks.Goals as goal
 
 pub returns : goal.returns
-returns c = λ w trim graphemes lines h. leaves_out_blanks glyph_blank glyph_width w trim (kept glyph_width w graphemes) lines h
+returns c = λ w way graphemes lines h. wrapping_leaves w way graphemes lines h

@@ -21,13 +21,13 @@ pub returns-in-Some-clause-ok : goal.returns-in-Some-clause-ok
 returns-in-Some-clause-ok c =
     let p = paragraph_data c.args.self.now in
     let w = c.args.clip.width in
-    let trim = c.in-Some.wrap.trim in
-    let awaits = (c.new-wrapper.ensures.will (wrap_text w trim p.alignment p.text)).1
-    (inr (c.requires, (text_glyph_lines p.text p.alignment, c.new-lines.ensures.gives, (text_wraps_once w trim p.alignment p.text).meets))) in
-    let lines : wrap_text w trim p.alignment p.text ≡ paragraph_lines p w =
-    sym (ap (λ (o : Option Wrap). option_map_or (λ (wrap : Wrap). wrap_text w wrap.trim p.alignment p.text) o (truncate_text w p.scroll_x p.alignment p.text)) c.in-Some.is) in
+    let way = c.in-Some.wrap in
+    let awaits = (c.with_wrap-wrapper.ensures.will (wrap_text w way p.alignment p.text)).1
+    (inr (c.requires, (text_glyph_lines p.text p.alignment, c.new-lines.ensures.gives, (text_wraps_once w way p.alignment p.text).meets))) in
+    let lines : wrap_text w way p.alignment p.text ≡ paragraph_lines p w =
+    sym (ap (λ (o : Option Wrap). option_map_or (λ (wrap : Wrap). wrap_text w wrap p.alignment p.text) o (truncate_text w p.scroll_x p.alignment p.text)) c.in-Some.is) in
     on_ok c.paint_lines.result
-    (λ paints. subst (λ (ls : List GlyphLine). Painted (glyph_lines_layers c.args.clip c.args.clip.y (drop p.scroll_y ls)) c.args.buf.now c.paint_lines.new.buf) lines (paints (wrap_text w trim p.alignment p.text) awaits))
+    (λ paints. subst (λ (ls : List GlyphLine). Painted (glyph_lines_layers c.args.clip c.args.clip.y (drop p.scroll_y ls)) c.args.buf.now c.paint_lines.new.buf) lines (paints (wrap_text w way p.alignment p.text) awaits))
     c.paint_lines.ensures.ok
 
 pub returns-in-None-clause-ok : goal.returns-in-None-clause-ok
@@ -42,7 +42,7 @@ returns-in-None-clause-ok c =
     (inr (c.requires, (left, c.after-lines.ensures.gives, cut_is (TruncatesLine w p.scroll_x) (λ t. cut t ∷ []) (truncates_to w p.scroll_x) left))) in
     let lines : shown ≡ drop y (paragraph_lines p w) =
     one_each-drop cut y (text_glyph_lines p.text p.alignment)
-    ∙ sym (ap (λ (o : Option Wrap). drop y (option_map_or (λ (wrap : Wrap). wrap_text w wrap.trim p.alignment p.text) o (truncate_text w p.scroll_x p.alignment p.text))) c.in-None.is) in
+    ∙ sym (ap (λ (o : Option Wrap). drop y (option_map_or (λ (wrap : Wrap). wrap_text w wrap p.alignment p.text) o (truncate_text w p.scroll_x p.alignment p.text))) c.in-None.is) in
     on_ok c.paint_lines-in-None.result
     (λ paints. subst (λ (ls : List GlyphLine). Painted (glyph_lines_layers c.args.clip c.args.clip.y ls) c.args.buf.now c.paint_lines-in-None.new.buf) lines
     (paints shown (subst (λ (s : LineTruncator TextLines Graphemes). TruncatorWillLend gives_lines gives_graphemes s shown) (sym c.set_horizontal_offset.ensures) awaits)))

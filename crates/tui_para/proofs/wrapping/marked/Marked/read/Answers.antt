@@ -1,7 +1,6 @@
 use Rattle.std.proofs.Common.{◌++◌, ◌∷◌, [], refl, arith}
-use Rattle.tui_text.specs.Grapheme.{glyph_of, glyph_width}
-use Rattle.tui_para.specs.Marked.{glyphs_of}
-use Rattle.tui_para.proofs.Sources.{Yields-append, kept-behind}
+use Rattle.tui_para.proofs.Sources.{Yields-append}
+use Rattle.tui_para.proofs.PartsRead.{HasKept-then}
 use Rattle.tui_para.proofs.wrapping.marked.Marked.read.Goals as goal
 
 pub graphemes-preserved : goal.graphemes-preserved
@@ -14,7 +13,7 @@ graphemes-preserved g c =
       taken = (
         taken ++ x ∷ [],
         Yields-append g.I.Iterator.next_gives c.args.source c.graphemes.source c.next.new.self taken (x ∷ []) yields (c.next.new.self, c.in-Some.ensures.steps, refl),
-        kept-behind glyph_of glyph_width c.args.width (glyphs_of c.args.self.now) (glyphs_of c.graphemes.self) (glyphs_of c.keep.new.self) taken (x ∷ []) kept_is c.in_ok-keep.ensures.ok,
+        HasKept-then c.args.width taken (x ∷ []) c.args.self.now c.graphemes.self c.keep.new.self kept_is c.in_ok-keep.ensures.ok,
       );
       ready = record { can_next = on.0; ends = on.1 };
       nearer = let less = on.2 in omega arith;

@@ -8,7 +8,7 @@ lines-init g c = record { ready = c.requires; read = HasRead-none g.I.Iterator.n
 pub returns-in-Some-clause-found : goal.returns-in-Some-clause-found
 returns-in-Some-clause-found g c =
     let e = c.pass.ensures in
-    found_part g.I.Iterator.next_gives c.args.self.now c.lines.self c.pass.new.self c.in-Some.line c.pass.result e.source e.line e.width e.trim e.is_new e.place e.part
+    found_part g.I.Iterator.next_gives c.args.self.now c.lines.self c.pass.new.self c.in-Some.line c.pass.result e.source e.line e.width e.wrap e.is_new e.place e.part
     c.lines.invariant.read c.in-Some.ensures.some
 
 pub returns-then-is_none-clause-found : goal.returns-then-is_none-clause-found

@@ -1,0 +1,5 @@
+use Rattle.tui_para.proofs.LinesBehind.{goes_on_after}
+use Rattle.tui_para.proofs.laws.wrapping_goes_on.Goals as goal
+
+pub returns : goal.returns
+returns c = λ w way graphemes lines k h near. goes_on_after w way graphemes lines k h near
