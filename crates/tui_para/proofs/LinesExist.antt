@@ -1,5 +1,5 @@
 -- There are lines that a composer lends, where there is something that its iterators give.
-use Rattle.std.proofs.Common.{◌≤◌, ℕ, Bool, true, false, List, [], ◌∷◌, ◌++◌, map, length, drop, refl, sym, inl, inr, ⊎_elim, arith}
+use Rattle.std.proofs.Common.{◌≤◌, ℕ, Bool, true, false, List, [], ◌∷◌, ◌++◌, map, length, drop, refl, inl, inr, ⊎_elim, arith}
 use Rattle.std.proofs.lemmas.Bool.{cases_lt}
 use Rattle.std.proofs.lemmas.List.Elements.{All-append, All-drop, All-from_recursion, recursion_from_All}
 use Rattle.tui_text.specs.Grapheme.{Glyph, glyph_width}

@@ -1,5 +1,5 @@
 -- Lines taken one after another from the graphemes of a text line.
-use Rattle.std.proofs.Common.{◌≡◌, ℕ, ◌+◌, ◌-◌, ◌<◌, ◌≤◌, List, [], ◌∷◌, length, take, drop, Bool, true, map, refl, sym, ap, ◌∙◌, subst, arith, All, ⊎_elim}
+use Rattle.std.proofs.Common.{◌≡◌, ℕ, ◌+◌, ◌-◌, ◌<◌, ◌≤◌, List, [], ◌∷◌, length, take, drop, true, map, refl, sym, ap, ◌∙◌, subst, arith, All, ⊎_elim}
 use Rattle.std.specs.Prelude.{◌≢◌, sum_by}
 use Rattle.std.specs.List.{between}
 use Rattle.std.proofs.lemmas.List.{drop-drop, drop-map, take-map, take_rest}

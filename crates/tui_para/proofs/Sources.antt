@@ -1,13 +1,12 @@
 -- Graphemes that an iterator gave, and those that it still gives.
-use Rattle.std.proofs.Common.{◌≡◌, ℕ, List, [], ◌∷◌, ◌++◌, Option, Some, None, map, All, drop, refl, sym, ap, ◌∙◌, subst, ◌≤◌}
-use Rattle.std.proofs.lemmas.List.{append-nil, append_assoc, map-append}
-use Rattle.std.proofs.lemmas.List.Elements.{All-append, All-drop, filter-append}
+use Rattle.std.proofs.Common.{◌≡◌, ℕ, List, [], ◌∷◌, ◌++◌, Option, Some, None, refl, sym, ap, ◌∙◌, subst}
+use Rattle.std.proofs.lemmas.List.{append-nil}
+use Rattle.std.proofs.lemmas.List.Elements.{filter-append}
 use Rattle.std.specs.Iterator.{Drains, Yields}
 use Rattle.std.specs.Prelude.{nat_le}
 use Rattle.tui_text.specs.declared.grapheme.StyledGrapheme.{StyledGrapheme}
 use Rattle.tui_para.specs.Given.{SourceReads}
 use Rattle.tui_para.specs.Wrapped.{kept}
-use Rattle.tui_para.proofs.Parts.{all_kept}
 
 pub Yields-append : {S A : Type 0} (gives : S → Option A → S → Type 0) (s t u : S) (xs ys : List A) → Yields gives s xs t → Yields gives t ys u → Yields gives s (xs ++ ys) u
 Yields-append gives s t u [] ys e h = subst (λ v. Yields gives v ys u) (sym e) h

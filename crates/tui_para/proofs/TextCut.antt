@@ -1,5 +1,5 @@
 -- A text is cut into one list of lines.
-use Rattle.std.proofs.Common.{◌≡◌, ℕ, List, [], ◌∷◌, ◌++◌, map, drop, Bool, Some, None, Option, refl, sym, ap, ◌∙◌}
+use Rattle.std.proofs.Common.{◌≡◌, ℕ, List, [], ◌∷◌, ◌++◌, map, drop, Some, None, Option, refl, sym, ap, ◌∙◌}
 use Rattle.std.proofs.lemmas.List.{drop-map}
 use Rattle.std.specs.Iterator.{YieldsFirstBy}
 use Rattle.std.specs.Option.{option_map_or}

@@ -1,5 +1,5 @@
 -- The lines of a text are as many as those of its lines together.
-use Rattle.std.proofs.Common.{◌≡◌, ℕ, List, [], ◌∷◌, length, map, Bool, false, ap, sum_by, arith}
+use Rattle.std.proofs.Common.{◌≡◌, ℕ, List, [], ◌∷◌, length, map, false, ap, sum_by, arith}
 use Rattle.std.specs.Prelude.{◌<◌, All, unwrap_or}
 use Rattle.std.proofs.lemmas.List.{length-append, length-map}
 use Rattle.std.proofs.lemmas.List.Elements.{All-weaker}
@@ -9,7 +9,6 @@ use Rattle.tui_para.specs.declared.wrap.Wrap.{Wrap}
 use Rattle.tui_para.specs.Counting.{wrapped_len}
 use Rattle.tui_para.specs.Division.{IsFewest, SpacedWithin}
 use Rattle.tui_para.specs.Lines.{GlyphLine, glyph_line, CutAll, WrapsLine}
-use Rattle.tui_para.specs.Hyphens.{wrap}
 use Rattle.tui_para.specs.WrappedText.{IsTextOf, text_glyph_line}
 use Rattle.tui_para.proofs.WithCuts.{wraps_only}
 use Rattle.tui_para.proofs.WithoutCuts.{fewest_lines}

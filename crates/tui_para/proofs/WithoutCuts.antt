@@ -1,10 +1,10 @@
 -- Without breaks after hyphens the lines are those of the graphemes alone.
-use Rattle.std.proofs.Common.{◌≡◌, ℕ, zero, suc, ◌-◌, ◌<◌, List, [], ◌∷◌, length, map, take, drop, Bool, true, false, refl, sym, ap, ◌∙◌, subst, arith}
+use Rattle.std.proofs.Common.{◌≡◌, ℕ, zero, suc, ◌-◌, ◌<◌, List, [], ◌∷◌, length, map, take, drop, Bool, false, refl, sym, ap, ◌∙◌, subst}
 use Rattle.std.specs.Prelude.{sum_by}
 use Rattle.std.proofs.lemmas.List.{drop-map, take-map, length-map}
 use Rattle.tui_text.specs.Grapheme.{Glyph, glyph_blank, glyph_width}
 use Rattle.tui_para.specs.Division.{IsFewest, SpacedWithin}
-use Rattle.tui_para.specs.Hyphens.{glyph_rule, is_cut, uncut, with_cuts, wrap}
+use Rattle.tui_para.specs.Hyphens.{glyph_rule, with_cuts, wrap}
 use Rattle.tui_para.specs.Places.{dropped_len, line_len, lines_of, start_len, wrap_kept}
 use Rattle.tui_para.specs.Rule.{Rule, ends_piece}
 use Rattle.tui_para.specs.Wrapped.{after_break, kept, line_start}

@@ -1,5 +1,5 @@
 -- How the graphemes of a text line are wrapped: where words are cut, and into which lines.
-use Rattle.std.specs.Prelude.{◌≡◌, ℕ, Bool, true, false, not, ◌&&◌, List, [], ◌∷◌, map, nat_eq}
+use Rattle.std.specs.Prelude.{◌≡◌, ℕ, Bool, false, not, ◌&&◌, List, [], ◌∷◌, map, nat_eq}
 use Rattle.std.specs.Cmp.Lexicographic.{pointwise}
 use Rattle.tui_para.specs.Places.{wrap_kept}
 use Rattle.tui_para.specs.Rule.{Rule}

@@ -157,7 +157,8 @@ impl<'a> Paragraph<'a> {
 
         // Without breaks after hyphens, where each line of the text is words with single blanks between them, no division of
         // the words has fewer lines.
-        ensures fewest { 0 < width → IsSome (paragraph_data self.now).wrap → IfSome (paragraph_data self.now).wrap (λ wrap. wrap.hyphens ≡ false) → (words : LineData → List (List Glyph))
+        ensures fewest { 0 < width → IsSome (paragraph_data self.now).wrap → IfSome (paragraph_data self.now).wrap (λ wrap. wrap.hyphens ≡ false)
+            → (words : LineData → List (List Glyph))
             → IsTextOf words width (paragraph_data self.now).text → (counts : LineData → ℕ)
             × All (λ line. IsFewest glyph_width (words line) width (counts line)) (paragraph_data self.now).text.lines
             × (result ≡ Ok (beside (saturated (sum_by counts (paragraph_data self.now).text.lines)) (block_rows (paragraph_data self.now)))) }
@@ -174,7 +175,8 @@ impl<'a> Paragraph<'a> {
         ensures unwrapped { (paragraph_data self.now).wrap ≡ None → result ≡ length (paragraph_data self.now).text.lines }
         ensures wrapped { IfSome (paragraph_data self.now).wrap (λ wrap. (lines : List GlyphLine)
             → WrappedText width wrap (paragraph_data self.now).alignment (paragraph_data self.now).text lines → result ≡ saturated (length lines)) }
-        ensures fewest { IsSome (paragraph_data self.now).wrap → IfSome (paragraph_data self.now).wrap (λ wrap. wrap.hyphens ≡ false) → (words : LineData → List (List Glyph))
+        ensures fewest { IsSome (paragraph_data self.now).wrap → IfSome (paragraph_data self.now).wrap (λ wrap. wrap.hyphens ≡ false)
+            → (words : LineData → List (List Glyph))
             → IsTextOf words width (paragraph_data self.now).text → (counts : LineData → ℕ)
             × All (λ line. IsFewest glyph_width (words line) width (counts line)) (paragraph_data self.now).text.lines
             × (result ≡ saturated (sum_by counts (paragraph_data self.now).text.lines)) }

@@ -120,7 +120,8 @@ where
     pub(crate) fn read_to_end(self)
         requires { WrapperCanLend O.Iterator I.Iterator self }
         ensures source { (glyphs : List Glyph) × SourceGives (MayGive I.next_gives IsGlyph) self.entry.current.source glyphs }
-        ensures lines { (glyph_lines : List GlyphLine) × GivenUnlessDone self.entry.done (MayGive O.next_gives (MayBe I.next_gives) self.entry.lines) glyph_lines }
+        ensures lines { (glyph_lines : List GlyphLine)
+            × GivenUnlessDone self.entry.done (MayGive O.next_gives (MayBe I.next_gives) self.entry.lines) glyph_lines }
     {
         let WordWrapper {
             lines,

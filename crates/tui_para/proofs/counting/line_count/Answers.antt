@@ -9,7 +9,6 @@ use Rattle.tui_para.specs.Hyphens.{glyph_rule, with_cuts, wrap}
 use Rattle.tui_para.specs.Wrapped.{kept}
 use Rattle.tui_para.specs.declared.counting.counter.Counter.{Counter}
 use Rattle.tui_para.proofs.CutCounts.{begun_counts, cut_counts, one_read}
-use Rattle.tui_para.proofs.LineCounts.{wrap_count}
 use Rattle.tui_para.proofs.WithCuts.{counted_lines}
 use Rattle.tui_para.proofs.counting.line_count.Goals as goal
 

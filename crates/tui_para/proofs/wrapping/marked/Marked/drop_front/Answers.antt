@@ -1,4 +1,4 @@
-use Rattle.std.proofs.Common.{◌-◌, map, drop, length, ap, ap₂, sym, ◌∙◌, arith}
+use Rattle.std.proofs.Common.{◌-◌, map, drop, length, ap, ap₂, sym, ◌∙◌}
 use Rattle.std.proofs.lemmas.List.{drop-map, length-drop}
 use Rattle.tui_para.specs.Mark.{mark_of}
 use Rattle.tui_para.specs.Marked.{cuts_of}
