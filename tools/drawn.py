@@ -2,7 +2,7 @@
 
 A row is cut into graphemes, and a cell takes as many columns as its grapheme, at least one, as in the program's own print. What a
 scene puts into cells by itself (a mark, a joiner) may be read as a part of the cell before it. So the row's width decides: a row
-that is too narrow is cut finer from its end on, and what stands past the width belongs to the last cell.
+that is too narrow is cut finer from its end on, and the last cell takes what stands past the width or what is left to it.
 """
 import collections
 import json
@@ -20,6 +20,15 @@ def step(symbol):
     return max(columns(symbol), 1)
 
 
+def finer(symbol, lacking):
+    """A symbol with as many of its last characters in cells of their own as make it wider by what is lacking, or by less."""
+    for at in range(1, len(symbol)):
+        found = [symbol[:at], *symbol[at:]]
+        if 0 < sum(map(step, found)) - step(symbol) <= lacking:
+            return found
+    return [symbol]
+
+
 def symbols(text, width):
     """The symbols of a row's cells."""
     found = graphemes(text)
@@ -27,10 +36,10 @@ def symbols(text, width):
     for at in range(len(found) - 1, -1, -1):
         if lacking <= 0:
             break
-        more = sum(map(step, found[at])) - step(found[at])
-        if 0 < more <= lacking:
-            found[at:at + 1] = found[at]
-            lacking -= more
+        if len(found[at]) > 1:
+            lacking += step(found[at])
+            found[at:at + 1] = parts = finer(found[at], lacking - step(found[at]))
+            lacking -= sum(map(step, parts))
     return found
 
 
@@ -43,6 +52,8 @@ def cells(text, width):
             continue
         found.append((column, min(step(symbol), width - column), symbol))
         column += found[-1][1]
+    if found and column < width:
+        found[-1] = (found[-1][0], width - found[-1][0], found[-1][2])
     return found
 
 

@@ -100,6 +100,50 @@ def alone(code):
     return 3 if code == 0x17D8 else 1
 
 
+# What is said of a joiner with an emoji behind it: an emoji before it takes no columns of its own.
+JOINED = ("joiner", "joined keycap")
+# Vowels of Kirat Rai that are written together: what stands behind one, and it; the columns that it adds, and what it then is.
+KIRAT = {
+    ("e", 0x16D63): (0, ""),
+    ("e", 0x16D67): (0, "ai"),
+    ("e", 0x16D68): (1, "e"),
+    ("e", 0x16D69): (0, ""),
+    ("ai", 0x16D63): (0, ""),
+}
+
+
+def followed(code, of):
+    """What a character means for the one before it."""
+    if 0x1F3FB <= code <= 0x1F3FF:
+        return "tone"
+    if code in (0x16D67, 0x16D68):
+        return "e" if code == 0x16D67 else "ai"
+    return "emoji" if "emoji" in of else "khmer" if 0x1780 <= code <= 0x17AF else ""
+
+
+def joined(code, of, after):
+    """What a character adds before what joins it, and what it then is for the one before it; None if it stands by itself."""
+    if code == ZWJ and after in ("emoji", "tone", "khmer"):
+        return 0, "khmer" if after == "khmer" else "joiner"
+    if after == "tone" and "toned" in of:
+        return 0, "emoji"
+    if after == "joiner":
+        if code == KEYCAP:
+            return 0, "joined keycap"
+        if code == 0xE007F:
+            return 0, "tags"
+        if "indicator" in of:
+            return 1, "indicator"
+        return (0, followed(code, of)) if of & {"emoji"} or 0x1F3FB <= code <= 0x1F3FF else None
+    if after == "indicator" and "indicator" in of:
+        return -1, ""
+    if after == "tags" and (0xE0030 <= code <= 0xE007A or code == 0x1F3F4):
+        return 0, "emoji" if code == 0x1F3F4 else "tags"
+    if after == "khmer" and code == 0x17D2:
+        return -1, ""
+    return KIRAT.get((after, code))
+
+
 @functools.lru_cache(maxsize=None)
 def columns(grapheme):
     """The columns of a grapheme, read from its end: what follows a character may take its columns, or give it others."""
@@ -107,31 +151,19 @@ def columns(grapheme):
     for code in reversed([ord(character) for character in grapheme]):
         of = names(code)
         if style == EMOJI_STYLE and "bases" in of:
-            total, after, style = total + (0 if after in ("joiner", "joined keycap") else 2), "emoji", 0
-        elif code in (EMOJI_STYLE, TEXT_STYLE, WIDE_QUOTE):
-            style = code
-            after = after if code == EMOJI_STYLE and "join" in after or after == "khmer" else ""
-        elif style == TEXT_STYLE and {"bases", "emoji"} <= of and not 0x1F200 <= code <= 0x1F2FF:
-            total, after, style = total + 1, "", 0
+            total, after, style = total + (0 if after in JOINED else 2), "emoji", 0
+            continue
+        if style == EMOJI_STYLE and after != "khmer":
+            after = ""
+        if code in (EMOJI_STYLE, TEXT_STYLE, WIDE_QUOTE):
+            kept = after == "khmer" or code == EMOJI_STYLE and after in JOINED
+            after, style = after if kept else "", code
+            continue
+        if style == TEXT_STYLE and {"bases", "emoji"} <= of and not 0x1F200 <= code <= 0x1F2FF:
+            more, after = 1, ""
         elif style == WIDE_QUOTE and chr(code) in "‘’“”":
-            total, after, style = total + 2, "", 0
-        elif code == ZWJ:
-            after, style = "joiner" if after in ("emoji", "tone") else after if after == "khmer" else "", 0
-        elif after == "joiner" and code == KEYCAP:
-            after, style = "joined keycap", 0
-        elif after == "joiner" and 0xE0020 <= code <= 0xE007F:
-            style = 0
-        elif after == "tone" and "toned" in of or after == "joiner" and of & {"emoji", "tone"}:
-            after, style = "tone" if 0x1F3FB <= code <= 0x1F3FF else "emoji", 0
-        elif after == "khmer" and code == 0x17D2:
-            total, after, style = max(total - 1, 0), "", 0
+            more, after = 2, ""
         else:
-            total, after, style = total + alone(code), followed(code, of), 0
+            more, after = joined(code, of, after) or (alone(code), followed(code, of))
+        total, style = max(total + more, 0), 0
     return total
-
-
-def followed(code, of):
-    """What a character means for the one before it."""
-    if 0x1F3FB <= code <= 0x1F3FF:
-        return "tone"
-    return "emoji" if "emoji" in of else "khmer" if 0x1780 <= code <= 0x17AF else ""
