@@ -1,9 +1,11 @@
 #!/usr/bin/env python3
-"""Shows the print of a scene, which it reads from standard input, in the terminal's own colours."""
+"""Shows the print of a scene (docs/SCENE.md), which it reads from standard input, in the terminal's own colours:
+tools/colour.py [SCENE.json] < PRINT. The scene tells the width of the rows."""
+import os
 import sys
 
 sys.dont_write_bytecode = True
-from drawn import BRIGHT, MODIFIERS, NAMES, columns, read
+from drawn import BRIGHT, MODIFIERS, NAMES, read, scene_width, styled
 
 
 def colour_code(name, base):
@@ -26,26 +28,34 @@ def sequence(fg, bg, bits):
     return "\x1b[0;" + ";".join(map(str, codes)) + "m"
 
 
-def painted(text, runs):
-    """A row with the escape sequences of its runs."""
-    out, column, current = [], 0, ""
-    for character in text:
-        width = columns(character)
-        if width:
-            style = next((sequence(*look) for start, length, *look in runs if start <= column < start + length), "")
-            if style != current:
-                out.append(style or "\x1b[0m")
-                current = style
-        out.append(character)
-        column += width
+def painted(row, runs, placed):
+    """A row with the escape sequences of its runs. If it is to be `placed`, the cell behind a symbol on whose width terminals differ,
+    such as an emoji, is told its column."""
+    out, current = [], ""
+    for column, width, symbol, look in styled(row, runs):
+        style = sequence(*look) if look else ""
+        if style != current:
+            out.append(style or "\x1b[0m")
+            current = style
+        out.append(symbol)
+        if placed and (width > 1 or len(symbol) > 1):
+            out.append(f"\x1b[{column + width + 1}G")
     return "".join(out) + ("\x1b[0m" if current else "")
 
 
 def main():
     for stream in (sys.stdin, sys.stdout):
         stream.reconfigure(encoding="utf-8")
-    for text, runs in read(sys.stdin.read().split("\n")):
-        print(painted(text, runs))
+    width = scene_width(sys.argv[1]) if sys.argv[1:] else None
+    for row, runs in read(sys.stdin.read().split("\n"), width):
+        print(painted(row, runs, sys.stdout.isatty()))
+    sys.stdout.flush()
 
 
-main()
+try:
+    main()
+except OSError as error:
+    print(f"colour.py: {error.strerror}", file=sys.stderr)
+    # What could not be written is not tried again at the end.
+    os.dup2(os.open(os.devnull, os.O_WRONLY), 1)
+    sys.exit(7)

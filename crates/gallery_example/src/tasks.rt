@@ -2,8 +2,8 @@
 #![tactic(auto)]
 
 use std::alloc::Global;
-use tui::buffer::{Buffer, Mem, visible_cells};
-use tui::layout::{Alignment, Constraint, Fraction, Rect};
+use tui::buffer::{Attributes, Buffer, Mem, visible_cells};
+use tui::layout::{Alignment, Constraint, Flex, Fraction, Rect, Segment, split};
 use tui::style::{Color, Modifier, Style};
 use tui::symbols::MergeStrategy;
 use tui::text::{Line, Text};
@@ -170,4 +170,102 @@ fn draw_with_bar(
         .viewport_content_length(rows);
     let bar = Scrollbar::default().begin_symbol(None).end_symbol(None);
     bar.render(alloc, area, buffer, &mut seen)
+}
+
+fn colour_code(base: u8, color: Color) -> u8 {
+    let code = match color {
+        Color::Black => 0,
+        Color::Red => 1,
+        Color::Green => 2,
+        Color::Yellow => 3,
+        Color::Blue => 4,
+        Color::Magenta => 5,
+        Color::Cyan => 6,
+        Color::Gray => 7,
+        Color::Rgb(_, _, _) | Color::Indexed(_) => 8,
+        Color::Reset => 9,
+        Color::DarkGray => 60,
+        Color::LightRed => 61,
+        Color::LightGreen => 62,
+        Color::LightYellow => 63,
+        Color::LightBlue => 64,
+        Color::LightMagenta => 65,
+        Color::LightCyan => 66,
+        Color::White => 67,
+    };
+    base.saturating_add(code)
+}
+
+fn push_colour(alloc: Global, out: &mut String, base: u8, color: Color) -> anyhow::Result<()> {
+    let code = colour_code(base, color);
+    let codes = match color {
+        Color::Rgb(red, green, blue) => format!(in alloc; ";{code};2;{red};{green};{blue}")?,
+        Color::Indexed(place) => format!(in alloc; ";{code};5;{place}")?,
+        _ => format!(in alloc; ";{code}")?,
+    };
+    Ok(out.push_str(codes.as_str())?)
+}
+
+fn push_style(alloc: Global, out: &mut String, look: Attributes) -> anyhow::Result<()> {
+    out.push_str("\x1b[0")?;
+    for bit in 0..9u8 {
+        if look.modifier.bits() >> bit & 1 == 1 {
+            let code = format!(in alloc; ";{}", bit + 1)?;
+            out.push_str(code.as_str())?;
+        }
+    }
+    push_colour(alloc, out, 30, look.fg)?;
+    push_colour(alloc, out, 40, look.bg)?;
+    Ok(out.push('m')?)
+}
+
+fn in_colours(alloc: Global, buffer: &Buffer) -> anyhow::Result<String> {
+    let mut out = String::new(alloc);
+    for row in 0..buffer.height() {
+        let mut last = None;
+        for (_, cell) in visible_cells(buffer.row_at(row)) {
+            if last != Some(cell.attributes()) {
+                push_style(alloc, &mut out, cell.attributes())?;
+                last = Some(cell.attributes());
+            }
+            out.push_str(cell.symbol())?;
+        }
+        out.push_str("\x1b[0m\r\n")?;
+    }
+    Ok(out)
+}
+
+fn rows_of(screen: Rect, part: Option<&Segment>) -> Rect {
+    match part {
+        Some(part) => screen.rows_from(part.start, part.width),
+        None => Rect::ZERO,
+    }
+}
+
+fn draw_frame(alloc: Global, screen: Rect, buffer: &mut Buffer) -> Mem<()> {
+    let heights = [
+        Constraint::Length(1),
+        Constraint::Fill(1),
+        Constraint::Length(1),
+    ];
+    let parts = split(alloc, screen.height, 0, &heights, Flex::Legacy)?;
+    let header = Paragraph::new(Text::raw(alloc, "Mail")?).centered();
+    header.render(alloc, rows_of(screen, parts.get(0)), buffer)?;
+    let body = Block::bordered(alloc);
+    body.render(alloc, rows_of(screen, parts.get(1)), buffer)?;
+    let footer = Paragraph::new(Text::raw(alloc, "q quits")?);
+    footer.render(alloc, rows_of(screen, parts.get(2)), buffer)
+}
+
+fn draw_names(alloc: Global, count: usize, area: Rect, buffer: &mut Buffer) -> anyhow::Result<()> {
+    let mut names: Vec<String> = Vec::new(alloc);
+    for number in 0..count {
+        names.push(format!(in alloc; "page {number}")?)?;
+    }
+    let mut items = Vec::new(alloc);
+    for name in names.iter() {
+        items.push(ListItem::new(Text::raw(alloc, name.as_str())?))?;
+    }
+    let list = List::new(alloc, items)?;
+    Ok(Widget::render(&list, alloc, area, buffer)?)
 }
