@@ -1,0 +1,81 @@
+//! The fields of an input, each tested in its turn: the first whose test fails refuses it.
+
+ghost use Rattle.std.specs.Prelude.{◌≡◌, ℕ, List, Option, option_map};
+ghost use Rattle.serde_json.specs.View.{view};
+ghost use Rattle.tui_json.specs.Refusals.{Gives, given, optional, required, unless_memory};
+
+use crate::kind::{Kind, KindError};
+use crate::members::{given_member, member, optional_member};
+use serde_json::Value;
+use std::alloc::Global;
+
+/// The fields of a program's input: mostly an enum of their names.
+pub trait Fields: Copy {
+    /// Why a value is no input: one of these fields refuses it, or memory was wanting.
+    type Error;
+
+    // What refuses an input, as plain data.
+    ghost Refusal: { Type 0 };
+
+    // The key of a field in JSON.
+    ghost key: { Self → List ℕ };
+
+    // The refusal at a place and a field.
+    ghost refusal: { Option ℕ → Self → Refusal };
+
+    // The refusal that an error is: none where it is want of memory.
+    ghost refused: { Self.Error → Option Refusal };
+
+    /// Its key in JSON.
+    fn key(&self) -> &'static str
+        ensures { result.now ≡ key self.now };
+
+    /// What is answered where the value of this field, at this place, was not read as its kind.
+    fn error(self, at: Option<usize>, why: KindError) -> Self::Error
+        ensures { refused result ≡ unless_memory why (refusal at self) };
+}
+
+/// A field that has to be there. It is refused where it is absent or not of its kind; what is no object has no fields.
+pub fn required<'v, T: Kind<'v, F>, F: Fields>(
+    alloc: Global,
+    at: Option<usize>,
+    field: F,
+    value: &'v Value,
+) -> Result<T, F::Error>
+    ensures { Gives T.seen F.refused result (required T.kind (F.key field) (F.refusal at field) (view value.now)) }
+{
+    match member::<T, F>(alloc, value, field.key()) {
+        Ok(found) => Ok(found),
+        Err(error) => Err(field.error(at, error)),
+    }
+}
+
+/// A field that may be absent or null. It is refused where it is there and not of its kind.
+pub fn optional<'v, T: Kind<'v, F>, F: Fields>(
+    alloc: Global,
+    at: Option<usize>,
+    field: F,
+    value: &'v Value,
+) -> Result<Option<T>, F::Error>
+    ensures { Gives (option_map T.seen) F.refused result (optional T.kind (F.key field) (F.refusal at field) (view value.now)) }
+{
+    match optional_member::<T, F>(alloc, value, field.key()) {
+        Ok(found) => Ok(found),
+        Err(error) => Err(field.error(at, error)),
+    }
+}
+
+/// A field that may be absent, and for which null is a value. It is refused where it is there and not of its kind.
+pub fn given<'v, T: Kind<'v, F>, F: Fields>(
+    alloc: Global,
+    at: Option<usize>,
+    field: F,
+    value: &'v Value,
+) -> Result<Option<T>, F::Error>
+    ensures { Gives (option_map T.seen) F.refused result (given T.kind (F.key field) (F.refusal at field) (view value.now)) }
+{
+    match given_member::<T, F>(alloc, value, field.key()) {
+        Ok(found) => Ok(found),
+        Err(error) => Err(field.error(at, error)),
+    }
+}

@@ -1,0 +1,154 @@
+//! Whole numbers and truth values.
+
+ghost use Rattle.std.specs.Prelude.{◌≡◌};
+ghost use Rattle.serde_json.specs.View.{view};
+ghost use Rattle.tui_json.specs.Number.{u16_of, u32_of, within};
+
+use crate::kind::{Kind, KindError};
+use serde_json::Value;
+use std::alloc::Global;
+
+impl<'v, F> Kind<'v, F> for u64 {
+    ghost use Rattle.std.specs.Prelude.{ℕ};
+    ghost use Rattle.tui_json.specs.Number.{u64_of};
+
+    ghost Seen = { ℕ };
+
+    ghost seen = { λ n. n };
+
+    ghost kind = { u64_of };
+
+    fn read(_alloc: Global, value: &'v Value) -> Result<u64, KindError> {
+        value.as_u64().ok_or(KindError::WrongKind)
+    }
+}
+
+/// The number, where it is a whole one below 2^16.
+#[tactic(auto, unfolding(crate::specs::Number::u16_of))]
+pub(crate) fn u16_of(value: &Value) -> Option<u16>
+    ensures { result ≡ u16_of (view value.now) }
+{
+    match value.as_u64() {
+        Some(number) if number < 65536 => Some(number as u16),
+        _ => None,
+    }
+}
+
+/// The number, where it is a whole one below 2^32.
+#[tactic(auto, unfolding(crate::specs::Number::u32_of))]
+pub(crate) fn u32_of(value: &Value) -> Option<u32>
+    ensures { result ≡ u32_of (view value.now) }
+{
+    match value.as_u64() {
+        Some(number) if number < 4294967296 => Some(number as u32),
+        _ => None,
+    }
+}
+
+impl<'v, F> Kind<'v, F> for u16 {
+    ghost use Rattle.std.specs.Prelude.{ℕ};
+
+    ghost Seen = { ℕ };
+
+    ghost seen = { λ n. n };
+
+    ghost kind = { u16_of };
+
+    fn read(_alloc: Global, value: &'v Value) -> Result<u16, KindError> {
+        u16_of(value).ok_or(KindError::WrongKind)
+    }
+}
+
+/// A whole number from `LOW` to `HIGH`. Takes no memory.
+#[derive(Drop)]
+pub struct Within<const LOW: u16, const HIGH: u16>(pub u16);
+
+impl<'v, F, const LOW: u16, const HIGH: u16> Kind<'v, F> for Within<LOW, HIGH> {
+    ghost use Rattle.std.specs.Prelude.{ℕ};
+
+    ghost Seen = { ℕ };
+
+    ghost seen = { λ n. n.0 };
+
+    ghost kind = { within LOW HIGH };
+
+    #[tactic(auto, unfolding(crate::specs::Number::within))]
+    fn read(_alloc: Global, value: &'v Value) -> Result<Within<LOW, HIGH>, KindError> {
+        match u16_of(value) {
+            Some(number) if LOW <= number && number <= HIGH => Ok(Within(number)),
+            _ => Err(KindError::WrongKind),
+        }
+    }
+}
+
+impl<'v, F> Kind<'v, F> for i8 {
+    ghost use Rattle.std.specs.Prelude.{ℤ};
+    ghost use Rattle.tui_json.specs.Number.{i8_of};
+
+    ghost Seen = { ℤ };
+
+    ghost seen = { λ n. n };
+
+    ghost kind = { i8_of };
+
+    #[tactic(auto, unfolding(crate::specs::Number::i8_of))]
+    fn read(_alloc: Global, value: &'v Value) -> Result<i8, KindError> {
+        match value.as_i64() {
+            Some(number) => i8::try_from(number).map_err(|_| KindError::WrongKind),
+            None => Err(KindError::WrongKind),
+        }
+    }
+}
+
+impl<'v, F> Kind<'v, F> for i16 {
+    ghost use Rattle.std.specs.Prelude.{ℤ};
+    ghost use Rattle.tui_json.specs.Number.{i16_of};
+
+    ghost Seen = { ℤ };
+
+    ghost seen = { λ n. n };
+
+    ghost kind = { i16_of };
+
+    #[tactic(auto, unfolding(crate::specs::Number::i16_of))]
+    fn read(_alloc: Global, value: &'v Value) -> Result<i16, KindError> {
+        match value.as_i64() {
+            Some(number) => i16::try_from(number).map_err(|_| KindError::WrongKind),
+            None => Err(KindError::WrongKind),
+        }
+    }
+}
+
+impl<'v, F> Kind<'v, F> for i32 {
+    ghost use Rattle.std.specs.Prelude.{ℤ};
+    ghost use Rattle.tui_json.specs.Number.{i32_of};
+
+    ghost Seen = { ℤ };
+
+    ghost seen = { λ n. n };
+
+    ghost kind = { i32_of };
+
+    #[tactic(auto, unfolding(crate::specs::Number::i32_of))]
+    fn read(_alloc: Global, value: &'v Value) -> Result<i32, KindError> {
+        match value.as_i64() {
+            Some(number) => i32::try_from(number).map_err(|_| KindError::WrongKind),
+            None => Err(KindError::WrongKind),
+        }
+    }
+}
+
+impl<'v, F> Kind<'v, F> for bool {
+    ghost use Rattle.std.specs.Prelude.{Bool};
+    ghost use Rattle.serde_json.specs.Find.{as_bool};
+
+    ghost Seen = { Bool };
+
+    ghost seen = { λ b. b };
+
+    ghost kind = { as_bool };
+
+    fn read(_alloc: Global, value: &'v Value) -> Result<bool, KindError> {
+        value.as_bool().ok_or(KindError::WrongKind)
+    }
+}
