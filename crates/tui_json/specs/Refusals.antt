@@ -1,6 +1,6 @@
 -- The first field whose test fails. R is what may refuse, which is the program's own: mostly a place and a field.
-use Rattle.std.specs.Prelude.{◌≡◌, ℕ, List, Option, Some, None, Result, Ok, Err}
-use Rattle.serde_json.specs.Data.{Data}
+use Rattle.std.specs.Prelude.{◌≡◌, ℕ, ◌+◌, List, [], ◌∷◌, Option, Some, None, Result, Ok, Err}
+use Rattle.serde_json.specs.Data.{Data, Items, no_items, item}
 use Rattle.tui_json.specs.Members.{given_member, member, optional_member}
 use Rattle.tui_json.specs.declared.kind.KindError.{KindError}
 use Rattle.tui_json.specs.declared.kind.KindError.TheVariants as kinds
@@ -40,3 +40,11 @@ optional kind key refusal d = or_refuse refusal (optional_member kind key d)
 -- a field that may be absent, and for which null is a value
 abbrev pub given : {A R : Type 0} → (Data → Option A) → List ℕ → R → Data → Result (Option A) R
 given kind key refusal d = or_refuse refusal (given_member kind key d)
+
+-- the values of an array from number i on, each tested with its number
+unfoldable pub numbered : {A R : Type 0} → (ℕ → Data → Result A R) → ℕ → Items → Result (List A) R
+numbered tests i no_items = Ok []
+numbered tests i (item d ds) = do
+  first ← tests i d
+  rest ← numbered tests (i + 1) ds
+  Ok (first ∷ rest)

@@ -3,6 +3,9 @@ use Rattle.std.specs.Prelude.{ℕ, List, length, nat_le, if◌then◌else◌, Op
 use Rattle.serde_json.specs.Data.{Data}
 use Rattle.serde_json.specs.Find.{as_str}
 
+abbrev pub if_short : ℕ → List ℕ → Option (List ℕ)
+if_short most s = if nat_le (length s) most then Some s else None
+
 -- a text of at most so many bytes
 unfoldable pub short : ℕ → Data → Option (List ℕ)
-short most d = option_and_then (λ s. if nat_le (length s) most then Some s else None) (as_str d)
+short most d = option_and_then (if_short most) (as_str d)

@@ -1,6 +1,6 @@
 //! The fields of an input, each tested in its turn: the first whose test fails refuses it.
 
-ghost use Rattle.std.specs.Prelude.{◌≡◌, ℕ, List, Option, option_map};
+ghost use Rattle.std.specs.Prelude.{◌≡◌, ℕ, List, Option, Some, None, option_map};
 ghost use Rattle.serde_json.specs.View.{view};
 ghost use Rattle.tui_json.specs.Refusals.{Gives, given, optional, required, unless_memory};
 
@@ -30,9 +30,22 @@ pub trait Fields: Copy {
     fn key(&self) -> &'static str
         ensures { result.now ≡ key self.now };
 
-    /// What is answered where the value of this field, at this place, was not read as its kind.
-    fn error(self, at: Option<usize>, why: KindError) -> Self::Error
-        ensures { refused result ≡ unless_memory why (refusal at self) };
+    /// What is answered where this field, at this place, is missing though required or not of its kind.
+    fn error(self, at: Option<usize>) -> Self::Error
+        ensures { refused result ≡ Some (refusal at self) };
+
+    /// What is answered where the memory was not there.
+    fn no_memory() -> Self::Error
+        ensures { refused result ≡ None };
+}
+
+fn error_at<F: Fields>(field: F, at: Option<usize>, why: KindError) -> F::Error
+    ensures { F.refused result ≡ unless_memory why (F.refusal at field) }
+{
+    match why {
+        KindError::WrongKind => field.error(at),
+        KindError::NoMemory => F::no_memory(),
+    }
 }
 
 /// A field that has to be there. It is refused where it is absent or not of its kind; what is no object has no fields.
@@ -46,7 +59,7 @@ pub fn required<'v, T: Kind<'v, F>, F: Fields>(
 {
     match member::<T, F>(alloc, value, field.key()) {
         Ok(found) => Ok(found),
-        Err(error) => Err(field.error(at, error)),
+        Err(error) => Err(error_at(field, at, error)),
     }
 }
 
@@ -61,7 +74,7 @@ pub fn optional<'v, T: Kind<'v, F>, F: Fields>(
 {
     match optional_member::<T, F>(alloc, value, field.key()) {
         Ok(found) => Ok(found),
-        Err(error) => Err(field.error(at, error)),
+        Err(error) => Err(error_at(field, at, error)),
     }
 }
 
@@ -76,6 +89,6 @@ pub fn given<'v, T: Kind<'v, F>, F: Fields>(
 {
     match given_member::<T, F>(alloc, value, field.key()) {
         Ok(found) => Ok(found),
-        Err(error) => Err(field.error(at, error)),
+        Err(error) => Err(error_at(field, at, error)),
     }
 }

@@ -8,6 +8,7 @@ mod kind;
 mod members;
 mod named;
 mod number;
+mod numbered;
 mod text;
 
 pub use array::{Counted, each, elements};
@@ -17,4 +18,5 @@ pub use kind::{Kind, KindError};
 pub use members::{given_member, member, optional_member};
 pub use named::{Named, by_name};
 pub use number::Within;
+pub use numbered::{Numbered, each_numbered};
 pub use text::Short;
