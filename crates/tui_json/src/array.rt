@@ -10,7 +10,7 @@ use crate::kind::{Kind, KindError};
 use serde_json::Value;
 use std::alloc::Global;
 
-/// The values of an array. Takes no memory.
+/// The values of an array; `WrongKind` where the value is none. Takes no memory.
 pub fn elements<'v>(value: &'v Value) -> Result<&'v [Value], KindError>
     ensures { Reads (λ v. items_view v.now) result (as_array (view value.now)) }
 {
@@ -44,7 +44,7 @@ impl<'v, F, const LEAST: usize, const MOST: usize> Kind<'v, F> for Counted<'v, L
     }
 }
 
-/// Each of these values, read as one kind, in order. It is refused where one of them is not of it.
+/// Each of these values as one kind, in order; `WrongKind` where one of them is not of it.
 pub fn each<'v, T: Kind<'v, F> + Drop, F>(
     alloc: Global,
     values: &'v [Value],

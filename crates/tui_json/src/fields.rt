@@ -9,7 +9,7 @@ use crate::members::{given_member, member, optional_member};
 use serde_json::Value;
 use std::alloc::Global;
 
-/// The fields of a program's input: mostly an enum of their names.
+/// The fields of an input, mostly an enum of their names, and what an input is refused with.
 pub trait Fields: Copy {
     /// Why a value is no input: one of these fields refuses it, or memory was wanting.
     type Error;
@@ -48,7 +48,8 @@ fn error_at<F: Fields>(field: F, at: Option<usize>, why: KindError) -> F::Error
     }
 }
 
-/// A field that has to be there. It is refused where it is absent or not of its kind; what is no object has no fields.
+/// A field that has to be there, of the input or of the item `at`. It is refused where it is absent or not of its kind; what is
+/// no object has no fields.
 pub fn required<'v, T: Kind<'v, F>, F: Fields>(
     alloc: Global,
     at: Option<usize>,
@@ -63,7 +64,7 @@ pub fn required<'v, T: Kind<'v, F>, F: Fields>(
     }
 }
 
-/// A field that may be absent or null. It is refused where it is there and not of its kind.
+/// A field that may be absent or null; then it is None. It is refused where it is there and not of its kind.
 pub fn optional<'v, T: Kind<'v, F>, F: Fields>(
     alloc: Global,
     at: Option<usize>,
@@ -78,7 +79,7 @@ pub fn optional<'v, T: Kind<'v, F>, F: Fields>(
     }
 }
 
-/// A field that may be absent, and for which null is a value. It is refused where it is there and not of its kind.
+/// A field that may be absent, which is None, and for which null is a value. It is refused where it is there and not of its kind.
 pub fn given<'v, T: Kind<'v, F>, F: Fields>(
     alloc: Global,
     at: Option<usize>,

@@ -9,10 +9,8 @@ use serde_json::Value;
 use std::alloc::{AllocError, AllocFailed, Global};
 use tui_cells::NoMemory;
 
-/// A type that is read from JSON in one way. What it reads borrows its texts from the value.
-///
-/// `F` are the fields whose values are read so, a type of the crate that has them: so a program can say how types of other crates
-/// are read, each in its own way.
+/// A type that is read from JSON in one way, as a value of the fields `F`; texts are borrowed from the value. `F` is a type of the
+/// crate that has the fields, so that it can say how types of other crates are read.
 pub trait Kind<'v, F>: Sized {
     // What a value of this type stands for, as plain data.
     ghost Seen: { Type 0 };

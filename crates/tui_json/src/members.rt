@@ -17,7 +17,8 @@ fn present<'v>(value: &'v Value, name: &str) -> Option<&'v Value>
     value.get(name).filter(|member| !member.is_null())
 }
 
-/// The member of this name, which has to be there. What is no object has no members.
+/// The member of this name, which has to be there: `WrongKind` where it is absent or not of its kind. What is no object has no
+/// members.
 pub fn member<'v, T: Kind<'v, F>, F>(
     alloc: Global,
     value: &'v Value,
@@ -31,7 +32,7 @@ pub fn member<'v, T: Kind<'v, F>, F>(
     }
 }
 
-/// The member of this name, which may be absent or null.
+/// The member of this name, which may be absent or null; then it is None.
 pub fn optional_member<'v, T: Kind<'v, F>, F>(
     alloc: Global,
     value: &'v Value,

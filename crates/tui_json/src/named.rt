@@ -24,7 +24,7 @@ pub trait Named<F>: FromStr<Err = ParseError> {
         → result_ok answer ≡ value_named names text };
 }
 
-/// The value whose name this is. Takes no memory.
+/// The value of the enum whose name the text is; None where it is no text or no name. Takes no memory.
 pub fn by_name<T: Named<F>, F>(value: &Value) -> Option<T>
     ensures { result ≡ named_of T.names (view value.now) }
 {
