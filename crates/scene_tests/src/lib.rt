@@ -15,6 +15,8 @@ mod frames;
 #[cfg(test)]
 mod gauges;
 #[cfg(test)]
+mod inputs;
+#[cfg(test)]
 mod lines;
 #[cfg(test)]
 mod lists;

@@ -1,53 +1,12 @@
--- Reading the values of an array one after the other.
-use Rattle.std.proofs.Common.{◌≡◌, ℕ, ◌+◌, ◌<◌, ◌≤◌, List, [], ◌∷◌, ◌++◌, length, get_or, drop, Option, Some, None, Err, refl, sym, ap, ◌∙◌, append_assoc, add-one, option_map, option_and_then}
-use Rattle.std.proofs.lemmas.List.{append-nil, drop_all}
-use Rattle.std.proofs.Math.Seq.{drop-cons}
-use Rattle.serde_json.specs.Data.{Data, item}
+-- Reading the values of an array that are joined to one, and those of an array of four.
+use Rattle.std.proofs.Common.{◌≡◌, ℕ, ◌+◌, ◌<◌, ◌≤◌, List, [], ◌∷◌, length, get_or, drop, Option, Some, None, refl, option_and_then}
+use Rattle.std.proofs.lemmas.List.{drop_all}
+use Rattle.serde_json.specs.Data.{Data}
 use Rattle.serde_json.specs.View.{view, items_view}
 use Rattle.serde_json.specs.declared.value.Value.{Value}
-use Rattle.tui_schema.specs.declared.kinds.kind.KindError.{KindError}
-use Rattle.tui_schema.specs.declared.kinds.kind.KindError.TheVariants as errors
-use Rattle.tui_schema.specs.Kinds.{Reads}
-use Rattle.tui_schema.specs.Kinds.Members.{each_of, joined_of, pair_in}
-use Rattle.tui_schema.specs.Kinds.Number.{four_in}
-
-pub items_view-drop : (vs : List Value) (i : ℕ) (v : Value) → i < length vs → v ≡ get_or vs i v
-    → items_view (drop i vs) ≡ item (view v) (items_view (drop (i + 1) vs))
-items_view-drop vs i v lt e =
-    let here : drop i vs ≡ v ∷ drop (i + 1) vs = rw (add-one, drop-cons vs i v lt, ← e) refl in
-    ap items_view here
-
--- what was read before, and what is still read
-abbrev pub after : {A : Type 0} → List A → Option (List A) → Option (List A)
-after front rest = option_map (λ xs. front ++ xs) rest
-
-after-one : {A : Type 0} (front : List A) (x : A) (rest : Option (List A))
-    → after front (option_and_then (λ xs. Some (x ∷ xs)) rest) ≡ after (front ++ x ∷ []) rest
-after-one {A} front x (Some xs) = ap (λ (ys : List A). Some ys) (simp append_assoc)
-after-one front x None = refl
-
-pub each_more : {A : Type 0} (kind : Data → Option A) (front : List A) (i : ℕ) (vs : List Value) (v : Value) (x : A)
-    → i < length vs → v ≡ get_or vs i v → kind (view v) ≡ Some x
-    → after front (each_of kind (items_view (drop i vs))) ≡ after (front ++ x ∷ []) (each_of kind (items_view (drop (i + 1) vs)))
-unfolding each_of
-each_more kind front i vs v x lt e h = rw (items_view-drop vs i v lt e, h) (after-one front x (each_of kind (items_view (drop (i + 1) vs))))
-
-pub each_none : {A : Type 0} (kind : Data → Option A) (front : List A) (i : ℕ) (vs : List Value) (v : Value)
-    → i < length vs → v ≡ get_or vs i v → kind (view v) ≡ None → after front (each_of kind (items_view (drop i vs))) ≡ None
-unfolding each_of
-each_none kind front i vs v lt e h = rw (items_view-drop vs i v lt e, h) refl
-
--- what a reader of one value answers for the whole array
-pub each_err : {A X Y : Type 0} (e : KindError) (one : X → A) (all : Y → List A) (kind : Data → Option A) (front : List A) (i : ℕ) (vs : List Value) (v : Value) (total : Option (List A))
-    → i < length vs → v ≡ get_or vs i v → Reads one (Err e) (kind (view v))
-    → after front (each_of kind (items_view (drop i vs))) ≡ total → Reads all (Err e) total
-each_err errors.NoMemory one all kind front i vs v total lt is h so_far = tt
-each_err errors.WrongKind one all kind front i vs v total lt is h so_far = sym so_far ∙ each_none kind front i vs v lt is h
-
-pub each_end : {A : Type 0} (kind : Data → Option A) (front : List A) (i : ℕ) (vs : List Value)
-    → length vs ≤ i → after front (each_of kind (items_view (drop i vs))) ≡ Some front
-unfolding each_of
-each_end {A} kind front i vs le = rw (drop_all i vs le) (ap (λ (xs : List A). Some xs) (append-nil front))
+use Rattle.tui_json.proofs.Arrays.{items_view-drop}
+use Rattle.tui_schema.specs.Kinds.Four.{four_in}
+use Rattle.tui_schema.specs.Kinds.Joined.{joined_of}
 
 pub joined_more : {A : Type 0} (join : A → A → A) (kind : Data → Option A) (first : A) (i : ℕ) (vs : List Value) (v : Value) → i < length vs → v ≡ get_or vs i v
     → joined_of join kind first (items_view (drop i vs))
@@ -61,13 +20,6 @@ unfolding joined_of
 joined_end join kind first i vs le = rw (drop_all i vs le) refl
 
 -- arrays of another length
-pub pair_other : {A B : Type 0} (first : Data → Option A) (second : Data → Option B) (vs : List Value)
-    → (length vs ≡ 2 → ⊥) → pair_in first second (items_view vs) ≡ None
-pair_other first second [] h = refl
-pair_other first second (a ∷ []) h = refl
-pair_other first second (a ∷ b ∷ []) h = absurd (h refl)
-pair_other first second (a ∷ b ∷ c ∷ vs) h = refl
-
 pub four_other : {A : Type 0} (make : ℕ → ℕ → ℕ → ℕ → A) (vs : List Value) → (length vs ≡ 4 → ⊥) → four_in make (items_view vs) ≡ None
 four_other make [] h = refl
 four_other make (a ∷ []) h = refl

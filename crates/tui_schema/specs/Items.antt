@@ -11,8 +11,9 @@ pub mod TableFields
 pub mod TabsFields
 pub mod Paragraph
 pub mod Names
-use Rattle.std.specs.Prelude.{ℕ, ◌+◌, List, [], ◌∷◌, Option, Some, None, Result, Ok, Err}
-use Rattle.serde_json.specs.Data.{Data, Items, no_items, item}
+use Rattle.std.specs.Prelude.{ℕ, List, Option, Some, Result, Ok}
+use Rattle.serde_json.specs.Data.{Data, Items}
+use Rattle.tui_cells.specs.declared.rect.Rect.{Rect}
 use Rattle.tui_scene.specs.Item.{
   ItemData,
   PlacedData,
@@ -48,7 +49,8 @@ use Rattle.tui_schema.specs.Items.ScrollbarFields.{shown_scrollbar}
 use Rattle.tui_schema.specs.Items.TableFields.{shown_table}
 use Rattle.tui_schema.specs.Items.TabsFields.{shown_tabs}
 use Rattle.tui_schema.specs.Kinds.Area.{area_of}
-use Rattle.tui_schema.specs.Refusals.{Refusal, ◌>>=◌, required}
+use Rattle.tui_json.specs.Refusals.{◌>>=◌, numbered}
+use Rattle.tui_schema.specs.Refusals.{Refusal, required}
 
 -- the fields of a widget
 abbrev pub shown_of : Widget → Option ℕ → Data → Result ItemData Refusal
@@ -93,18 +95,21 @@ shown_of widgets.Logo i d = do
   size ← logo_of i d
   Ok (still (logo size))
 
--- the item of number i
-unfoldable pub item_of : ℕ → Data → Result PlacedData Refusal
-item_of i d = do
+-- the item of number i of a scene
+unfoldable pub placed_of : ℕ → Data → Result PlacedData Refusal
+placed_of i d = do
   widget ← required widget_of (Some i) fields.Widget d
   area ← required area_of (Some i) fields.Area d
   shown ← shown_of widget (Some i) d
   Ok (record { area = area; item = shown })
 
--- the items from number i on
-unfoldable pub items_of : ℕ → Items → Result (List PlacedData) Refusal
-items_of i no_items = Ok []
-items_of i (item d ds) = do
-  first ← item_of i d
-  rest ← items_of (i + 1) ds
-  Ok (first ∷ rest)
+-- the item in a given area: the same tests without that of `area`
+unfoldable pub item_of : Rect → ℕ → Data → Result PlacedData Refusal
+item_of area i d = do
+  widget ← required widget_of (Some i) fields.Widget d
+  shown ← shown_of widget (Some i) d
+  Ok (record { area = area; item = shown })
+
+-- the items of a scene from number i on
+abbrev pub items_of : ℕ → Items → Result (List PlacedData) Refusal
+items_of = numbered placed_of

@@ -1,5 +1,8 @@
 //! The fields of the schema.
 
+use crate::error::SceneError;
+use tui_json::Fields;
+
 /// A field of a scene or of an item in JSON.
 #[derive(Clone, Copy, Debug, PartialEq, Eq)]
 pub enum Field {
@@ -163,5 +166,35 @@ impl Field {
             Field::DefaultStyle => "default_style",
             Field::Size => "size",
         }
+    }
+}
+
+impl Fields for Field {
+    ghost use Rattle.tui_schema.specs.Field.{field_name};
+    ghost use Rattle.tui_schema.specs.Refusals.{Refusal, refusal, refused};
+
+    type Error = SceneError;
+
+    ghost Refusal = { Refusal };
+
+    ghost key = { field_name };
+
+    ghost refusal = { refusal };
+
+    ghost refused = { refused };
+
+    fn key(&self) -> &'static str {
+        self.name()
+    }
+
+    fn error(self, at: Option<usize>) -> SceneError {
+        SceneError::BadField {
+            item: at,
+            field: self,
+        }
+    }
+
+    fn no_memory() -> SceneError {
+        SceneError::NoMemory
     }
 }

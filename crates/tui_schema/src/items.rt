@@ -17,7 +17,7 @@ mod widget;
 
 ghost use Rattle.serde_json.specs.View.{view};
 ghost use Rattle.tui_scene.specs.Item.{item_data, placed_data};
-ghost use Rattle.tui_schema.specs.Items.{item_of, shown_of};
+ghost use Rattle.tui_schema.specs.Items.{item_of, placed_of, shown_of};
 ghost use Rattle.tui_schema.specs.Refusals.{Gives};
 
 use crate::error::SceneError;
@@ -36,10 +36,11 @@ use crate::items::sparkline::read_sparkline;
 use crate::items::table::read_table;
 use crate::items::tabs::read_tabs;
 use crate::items::widget::Widget;
-use crate::table::required;
 use serde_json::Value;
 use std::alloc::Global;
+use tui_cells::Rect;
 use tui_frames::Clear;
+use tui_json::required;
 use tui_scene::{Item, Placed};
 
 fn read_shown<'v>(
@@ -77,18 +78,36 @@ fn read_shown<'v>(
     })
 }
 
-/// The item of this number, from 0.
-#[tactic(auto, unfolding(crate::specs::Items::item_of))]
-pub(crate) fn read_item<'v>(
+/// The item of this number, from 0, of a scene.
+#[tactic(auto, unfolding(crate::specs::Items::placed_of))]
+pub(crate) fn read_placed<'v>(
     alloc: Global,
     item: usize,
     value: &'v Value,
 ) -> Result<Placed<'v>, SceneError>
-    ensures { Gives placed_data result (item_of item (view value.now)) }
+    ensures { Gives placed_data result (placed_of item (view value.now)) }
 {
     let item = Some(item);
     let widget = required(alloc, item, Field::Widget, value)?;
     let area = required(alloc, item, Field::Area, value)?;
     let item = read_shown(alloc, widget, item, value)?;
+    Ok(Placed { area, item })
+}
+
+/// The item that the value is, in this area: its `widget` and then the fields of that widget are tested, in the order of the
+/// schema's tables, and `area` is a key that is not named. It is refused at the first field that is missing though required or
+/// whose value is not of its kind; then `index` is the number of the item in the refusal.
+#[tactic(auto, unfolding(crate::specs::Items::item_of))]
+pub fn item_of<'v>(
+    alloc: Global,
+    value: &'v Value,
+    index: usize,
+    area: Rect,
+) -> Result<Placed<'v>, SceneError>
+    ensures { Gives placed_data result (item_of area index (view value.now)) }
+{
+    let index = Some(index);
+    let widget = required(alloc, index, Field::Widget, value)?;
+    let item = read_shown(alloc, widget, index, value)?;
     Ok(Placed { area, item })
 }

@@ -6,8 +6,9 @@ mod field;
 mod items;
 mod kinds;
 mod reading;
-mod table;
 
 pub use error::SceneError;
 pub use field::Field;
+pub use items::item_of;
 pub use reading::{Reading, scene_of};
+pub use tui_json::constraint_of;

@@ -4,7 +4,8 @@ use Rattle.serde_json.specs.Data.{Data}
 use Rattle.tui_frames.specs.Block.{BlockData, block_of as new_block}
 use Rattle.tui_schema.specs.declared.field.Field.TheVariants as fields
 use Rattle.tui_schema.specs.Kinds.Block.{block_of}
-use Rattle.tui_schema.specs.Refusals.{Refusal, ◌>>=◌, optional}
+use Rattle.tui_json.specs.Refusals.{◌>>=◌}
+use Rattle.tui_schema.specs.Refusals.{Refusal, optional}
 
 unfoldable pub block_in : Option ℕ → Data → Result BlockData Refusal
 block_in i d = do

@@ -9,13 +9,15 @@ use Rattle.tui_layout.specs.declared.direction.Direction.TheVariants.{Vertical}
 use Rattle.tui_schema.specs.declared.field.Field.TheVariants as fields
 use Rattle.tui_schema.specs.Kinds.Bars.{bar_set_of, group_of, sparkline_bar_of}
 use Rattle.tui_schema.specs.Kinds.Block.{block_of}
-use Rattle.tui_schema.specs.Kinds.Members.{list_of}
-use Rattle.tui_schema.specs.Kinds.Named.{named_of}
-use Rattle.tui_schema.specs.Kinds.Names.{directions, render_directions}
-use Rattle.tui_schema.specs.Kinds.Number.{u16_of, u64_of}
+use Rattle.tui_json.specs.Members.{list_of}
+use Rattle.tui_json.specs.Named.{named_of}
+use Rattle.tui_json.specs.Names.{directions}
+use Rattle.tui_schema.specs.Kinds.Names.{render_directions}
+use Rattle.tui_json.specs.Number.{u16_of, u64_of}
 use Rattle.tui_schema.specs.Kinds.Style.{style_of}
 use Rattle.tui_schema.specs.Kinds.Symbol.{symbol_of}
-use Rattle.tui_schema.specs.Refusals.{Refusal, ◌>>=◌, required, optional}
+use Rattle.tui_json.specs.Refusals.{◌>>=◌}
+use Rattle.tui_schema.specs.Refusals.{Refusal, required, optional}
 
 unfoldable pub chart_with_groups : Option ℕ → Data → Result BarChartData Refusal
 chart_with_groups i d = do

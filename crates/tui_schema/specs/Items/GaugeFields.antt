@@ -12,11 +12,12 @@ use Rattle.tui_schema.specs.declared.field.Field.TheVariants as fields
 use Rattle.tui_schema.specs.Kinds.Block.{block_of}
 use Rattle.tui_schema.specs.Kinds.Fraction.{fraction_of}
 use Rattle.tui_schema.specs.Kinds.Line.{line_of}
-use Rattle.tui_schema.specs.Kinds.Number.{u16_of}
+use Rattle.tui_json.specs.Number.{u16_of}
 use Rattle.tui_schema.specs.Kinds.Span.{span_of}
 use Rattle.tui_schema.specs.Kinds.Style.{style_of}
 use Rattle.tui_schema.specs.Kinds.Symbol.{symbol_of}
-use Rattle.tui_schema.specs.Refusals.{Refusal, ◌>>=◌, optional}
+use Rattle.tui_json.specs.Refusals.{◌>>=◌}
+use Rattle.tui_schema.specs.Refusals.{Refusal, optional}
 
 -- a share: not above 1, of something
 abbrev pub is_share : Fraction → Bool

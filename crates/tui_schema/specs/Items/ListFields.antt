@@ -12,13 +12,15 @@ use Rattle.tui_text.specs.Line.{raw_line}
 use Rattle.tui_schema.specs.declared.field.Field.TheVariants as fields
 use Rattle.tui_schema.specs.Kinds.Block.{block_of}
 use Rattle.tui_schema.specs.Kinds.ListItem.{list_item_of}
-use Rattle.tui_schema.specs.Kinds.Members.{list_of}
-use Rattle.tui_schema.specs.Kinds.Named.{named_of}
-use Rattle.tui_schema.specs.Kinds.Names.{highlight_spacings, list_directions}
-use Rattle.tui_schema.specs.Kinds.Number.{u64_of}
+use Rattle.tui_json.specs.Members.{list_of}
+use Rattle.tui_json.specs.Named.{named_of}
+use Rattle.tui_json.specs.Names.{highlight_spacings}
+use Rattle.tui_schema.specs.Kinds.Names.{list_directions}
+use Rattle.tui_json.specs.Number.{u64_of}
 use Rattle.tui_schema.specs.Kinds.Style.{style_of}
 use Rattle.tui_schema.specs.Kinds.Symbol.{symbol_of}
-use Rattle.tui_schema.specs.Refusals.{Refusal, ◌>>=◌, required, optional}
+use Rattle.tui_json.specs.Refusals.{◌>>=◌}
+use Rattle.tui_schema.specs.Refusals.{Refusal, required, optional}
 
 unfoldable pub list_with_items : Option ℕ → Data → Result ListData Refusal
 list_with_items i d = do

@@ -4,9 +4,10 @@ use Rattle.serde_json.specs.Data.{Data}
 use Rattle.tui_para.specs.declared.size.Size.{Size}
 use Rattle.tui_para.specs.declared.size.Size.TheVariants.{Tiny}
 use Rattle.tui_schema.specs.declared.field.Field.TheVariants as fields
-use Rattle.tui_schema.specs.Kinds.Named.{named_of}
+use Rattle.tui_json.specs.Named.{named_of}
 use Rattle.tui_schema.specs.Kinds.Names.{sizes}
-use Rattle.tui_schema.specs.Refusals.{Refusal, ◌>>=◌, optional}
+use Rattle.tui_json.specs.Refusals.{◌>>=◌}
+use Rattle.tui_schema.specs.Refusals.{Refusal, optional}
 
 unfoldable pub logo_of : Option ℕ → Data → Result Size Refusal
 logo_of i d = do

@@ -11,9 +11,10 @@ use Rattle.tui_schema.specs.declared.field.Field.TheVariants as fields
 use Rattle.tui_schema.specs.Kinds.Block.{block_of}
 use Rattle.tui_schema.specs.Kinds.Date.{date_of}
 use Rattle.tui_schema.specs.Kinds.Event.{event_of, with_events}
-use Rattle.tui_schema.specs.Kinds.Members.{list_of}
+use Rattle.tui_json.specs.Members.{list_of}
 use Rattle.tui_schema.specs.Kinds.Style.{style_of}
-use Rattle.tui_schema.specs.Refusals.{Refusal, ◌>>=◌, required, optional}
+use Rattle.tui_json.specs.Refusals.{◌>>=◌}
+use Rattle.tui_schema.specs.Refusals.{Refusal, required, optional}
 
 -- the dates that have a style of their own, and a month
 abbrev pub calendar_data : Monthly CalendarEventStore → DatedStyles × MonthlyData

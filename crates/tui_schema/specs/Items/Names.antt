@@ -4,7 +4,7 @@ use Rattle.serde_json.specs.Data.{Data}
 use Rattle.serde_json.specs.Find.{as_str}
 use Rattle.tui_schema.specs.declared.items.widget.Widget.{Widget}
 use Rattle.tui_schema.specs.declared.items.widget.Widget.TheVariants as widgets
-use Rattle.tui_schema.specs.Kinds.Members.{named}
+use Rattle.tui_json.specs.Members.{named}
 
 abbrev pub widget_names : List (List ℕ × Widget)
 widget_names = (codes "clear", widgets.Clear) ∷ (codes "fill", widgets.Fill) ∷ (codes "block", widgets.Block)

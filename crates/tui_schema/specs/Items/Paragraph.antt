@@ -9,14 +9,15 @@ use Rattle.tui_para.specs.declared.wrap.Wrap.{Wrap}
 use Rattle.tui_para.specs.Paragraph.{ParagraphData, paragraph_of as new_paragraph}
 use Rattle.tui_schema.specs.declared.field.Field.TheVariants as fields
 use Rattle.tui_schema.specs.Kinds.Block.{block_of}
-use Rattle.tui_schema.specs.Kinds.Named.{named_of}
+use Rattle.tui_json.specs.Named.{named_of}
 use Rattle.tui_schema.specs.Kinds.Names.{alignments}
-use Rattle.tui_schema.specs.Kinds.Members.{pair_of}
-use Rattle.tui_schema.specs.Kinds.Number.{u16_of}
+use Rattle.tui_json.specs.Members.{pair_of}
+use Rattle.tui_json.specs.Number.{u16_of}
 use Rattle.tui_schema.specs.Kinds.Style.{style_of}
 use Rattle.tui_schema.specs.Kinds.Text.{text_of}
 use Rattle.tui_schema.specs.Kinds.Wrap.{wrap_of}
-use Rattle.tui_schema.specs.Refusals.{Refusal, ◌>>=◌, required, optional}
+use Rattle.tui_json.specs.Refusals.{◌>>=◌}
+use Rattle.tui_schema.specs.Refusals.{Refusal, required, optional}
 
 -- a paragraph with these fields: what is not given is as in a new paragraph of the text; `scroll` is (y, x)
 abbrev pub paragraph_with : TextData → Option Style → Option Wrap → Option (ℕ × ℕ) → Option Alignment → ParagraphData

@@ -7,13 +7,14 @@ use Rattle.tui_lists.specs.Scrollbar.{ScrollbarData, scrollbar_of as new_scrollb
 use Rattle.tui_lists.specs.declared.scrollbar.orientation.ScrollbarOrientation.TheVariants.{VerticalRight}
 use Rattle.tui_lists.specs.declared.scrollbar.state.ScrollbarState.{ScrollbarState}
 use Rattle.tui_schema.specs.declared.field.Field.TheVariants as fields
-use Rattle.tui_schema.specs.Kinds.Members.{or_null}
-use Rattle.tui_schema.specs.Kinds.Named.{named_of}
+use Rattle.tui_json.specs.Members.{or_null}
+use Rattle.tui_json.specs.Named.{named_of}
 use Rattle.tui_schema.specs.Kinds.Names.{orientations}
-use Rattle.tui_schema.specs.Kinds.Number.{u64_of}
+use Rattle.tui_json.specs.Number.{u64_of}
 use Rattle.tui_schema.specs.Kinds.Style.{style_of}
 use Rattle.tui_schema.specs.Kinds.Symbol.{symbol_of}
-use Rattle.tui_schema.specs.Refusals.{Refusal, ◌>>=◌, given, optional}
+use Rattle.tui_json.specs.Refusals.{◌>>=◌}
+use Rattle.tui_schema.specs.Refusals.{Refusal, given, optional}
 
 -- with its symbols; null for one that may be left out leaves it out
 unfoldable pub signed_scrollbar : ScrollbarData → Option ℕ → Data → Result ScrollbarData Refusal

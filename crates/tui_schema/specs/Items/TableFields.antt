@@ -13,15 +13,16 @@ use Rattle.tui_table.specs.declared.state.TableState.{TableState}
 use Rattle.tui_text.specs.Text.{raw_text}
 use Rattle.tui_schema.specs.declared.field.Field.TheVariants as fields
 use Rattle.tui_schema.specs.Kinds.Block.{block_of}
-use Rattle.tui_schema.specs.Kinds.Constraint.{constraint_of}
-use Rattle.tui_schema.specs.Kinds.Members.{list_of}
-use Rattle.tui_schema.specs.Kinds.Named.{named_of}
-use Rattle.tui_schema.specs.Kinds.Names.{flexes, highlight_spacings}
-use Rattle.tui_schema.specs.Kinds.Number.{u16_of, u64_of}
+use Rattle.tui_json.specs.Constraint.{constraint_of}
+use Rattle.tui_json.specs.Members.{list_of}
+use Rattle.tui_json.specs.Named.{named_of}
+use Rattle.tui_json.specs.Names.{flexes, highlight_spacings}
+use Rattle.tui_json.specs.Number.{u16_of, u64_of}
 use Rattle.tui_schema.specs.Kinds.Style.{style_of}
 use Rattle.tui_schema.specs.Kinds.Symbol.{symbol_of}
 use Rattle.tui_schema.specs.Kinds.Table.{row_of}
-use Rattle.tui_schema.specs.Refusals.{Refusal, ◌>>=◌, required, optional}
+use Rattle.tui_json.specs.Refusals.{◌>>=◌}
+use Rattle.tui_schema.specs.Refusals.{Refusal, required, optional}
 
 -- a table, unless a place has a percentage above 100
 abbrev pub unless_above : Option ℕ → Option ℕ → TableData → Result TableData Refusal

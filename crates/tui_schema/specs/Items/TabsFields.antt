@@ -10,11 +10,12 @@ use Rattle.tui_text.specs.Span.{raw_span}
 use Rattle.tui_schema.specs.declared.field.Field.TheVariants as fields
 use Rattle.tui_schema.specs.Kinds.Block.{block_of}
 use Rattle.tui_schema.specs.Kinds.Line.{line_of}
-use Rattle.tui_schema.specs.Kinds.Members.{list_of, or_null}
-use Rattle.tui_schema.specs.Kinds.Number.{u64_of}
+use Rattle.tui_json.specs.Members.{list_of, or_null}
+use Rattle.tui_json.specs.Number.{u64_of}
 use Rattle.tui_schema.specs.Kinds.Style.{style_of}
 use Rattle.tui_schema.specs.Kinds.Symbol.{symbol_of}
-use Rattle.tui_schema.specs.Refusals.{Refusal, ◌>>=◌, given, required, optional}
+use Rattle.tui_json.specs.Refusals.{◌>>=◌}
+use Rattle.tui_schema.specs.Refusals.{Refusal, given, required, optional}
 
 unfoldable pub tabs_with_titles : Option ℕ → Data → Result TabsData Refusal
 tabs_with_titles i d = do

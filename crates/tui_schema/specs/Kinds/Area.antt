@@ -3,7 +3,7 @@ use Rattle.std.specs.Prelude.{ℕ, Option, option_and_then}
 use Rattle.serde_json.specs.Data.{Data}
 use Rattle.serde_json.specs.Find.{as_array}
 use Rattle.tui_cells.specs.declared.rect.Rect.{Rect}
-use Rattle.tui_schema.specs.Kinds.Number.{four_in}
+use Rattle.tui_schema.specs.Kinds.Four.{four_in}
 
 abbrev pub area : ℕ → ℕ → ℕ → ℕ → Rect
 area x y width height = record { x = x; y = y; width = width; height = height }

@@ -7,8 +7,8 @@ use Rattle.tui_cells.specs.Symbols.{BarData as BarSymbols, nine_levels, three_le
 use Rattle.tui_bars.specs.BarChart.{BarData, GroupData, bar_of as new_bar}
 use Rattle.tui_bars.specs.Sparkline.{SparklineBarData}
 use Rattle.tui_schema.specs.Kinds.Line.{line_of}
-use Rattle.tui_schema.specs.Kinds.Members.{◌>>=◌, list_of, member, named, optional_member}
-use Rattle.tui_schema.specs.Kinds.Number.{u64_of}
+use Rattle.tui_json.specs.Members.{◌>>=◌, list_of, member, named, optional_member}
+use Rattle.tui_json.specs.Number.{u64_of}
 use Rattle.tui_schema.specs.Kinds.Style.{style_of}
 
 -- a number, or an object with `value`

@@ -13,9 +13,10 @@ use Rattle.tui_frames.specs.Padding.{no_padding}
 use Rattle.tui_frames.specs.declared.border_type.BorderType.TheVariants.{Plain}
 use Rattle.tui_frames.specs.declared.title_position.TitlePosition.TheVariants.{Top}
 use Rattle.tui_schema.specs.Kinds.Borders.{sides_of}
-use Rattle.tui_schema.specs.Kinds.Members.{◌>>=◌, list_of, optional_member}
-use Rattle.tui_schema.specs.Kinds.Named.{named_of}
-use Rattle.tui_schema.specs.Kinds.Names.{alignments, border_types, merge_strategies, title_positions}
+use Rattle.tui_json.specs.Members.{◌>>=◌, list_of, optional_member}
+use Rattle.tui_json.specs.Named.{named_of}
+use Rattle.tui_json.specs.Names.{merge_strategies}
+use Rattle.tui_schema.specs.Kinds.Names.{alignments, border_types, title_positions}
 use Rattle.tui_schema.specs.Kinds.Padding.{padding_of}
 use Rattle.tui_schema.specs.Kinds.Shadow.{shadow_of}
 use Rattle.tui_schema.specs.Kinds.Style.{style_of}

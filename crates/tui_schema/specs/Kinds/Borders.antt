@@ -4,7 +4,8 @@ use Rattle.serde_json.specs.Data.{Data}
 use Rattle.serde_json.specs.Find.{as_array, as_str}
 use Rattle.tui_frames.specs.Borders.{borders_of, both_borders}
 use Rattle.tui_frames.specs.declared.borders.Borders.{Borders}
-use Rattle.tui_schema.specs.Kinds.Members.{◌>>=◌, joined_of, named}
+use Rattle.tui_json.specs.Members.{◌>>=◌, named}
+use Rattle.tui_schema.specs.Kinds.Joined.{joined_of}
 
 -- the sides with the bits that stand for them
 abbrev pub side_names : List (List ℕ × ℕ)

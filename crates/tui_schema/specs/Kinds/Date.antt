@@ -4,8 +4,8 @@ use Rattle.jiff.specs.Words.{days_in_month}
 use Rattle.serde_json.specs.Data.{Data, Items, no_items, item}
 use Rattle.serde_json.specs.Find.{as_array}
 use Rattle.tui_calendar.specs.Month.{DateData, date_of as date_with}
-use Rattle.tui_schema.specs.Kinds.Members.{◌>>=◌}
-use Rattle.tui_schema.specs.Kinds.Number.{i16_of, i8_of}
+use Rattle.tui_json.specs.Members.{◌>>=◌}
+use Rattle.tui_json.specs.Number.{i16_of, i8_of}
 
 abbrev pub is_between : ℤ → ℤ → ℤ → Bool
 is_between low high n = int_le low n && int_le n high

@@ -6,7 +6,7 @@ use Rattle.tui_calendar.specs.Month.{DateData, date_data}
 use Rattle.tui_cells.specs.declared.style.Style.{Style}
 use Rattle.tui_schema.specs.declared.kinds.event.Event.{Event}
 use Rattle.tui_schema.specs.Kinds.Date.{date_of}
-use Rattle.tui_schema.specs.Kinds.Members.{◌>>=◌, member}
+use Rattle.tui_json.specs.Members.{◌>>=◌, member}
 use Rattle.tui_schema.specs.Kinds.Style.{style_of}
 
 abbrev pub event_data : Event → DateData × Style

@@ -3,8 +3,8 @@ use Rattle.std.specs.Prelude.{Option, Some, unwrap_or, codes}
 use Rattle.serde_json.specs.Data.{Data, string, array}
 use Rattle.tui_cells.specs.Style.{no_style}
 use Rattle.tui_text.specs.Line.{LineData, empty_line, raw_line}
-use Rattle.tui_schema.specs.Kinds.Members.{◌>>=◌, list_of, member, optional_member}
-use Rattle.tui_schema.specs.Kinds.Named.{named_of}
+use Rattle.tui_json.specs.Members.{◌>>=◌, list_of, member, optional_member}
+use Rattle.tui_json.specs.Named.{named_of}
 use Rattle.tui_schema.specs.Kinds.Names.{alignments}
 use Rattle.tui_schema.specs.Kinds.Span.{span_of}
 use Rattle.tui_schema.specs.Kinds.Style.{style_of}

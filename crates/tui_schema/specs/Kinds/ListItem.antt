@@ -4,7 +4,7 @@ use Rattle.serde_json.specs.Data.{Data}
 use Rattle.serde_json.specs.Find.{get}
 use Rattle.tui_cells.specs.Style.{no_style}
 use Rattle.tui_lists.specs.ListItem.{ListItemData}
-use Rattle.tui_schema.specs.Kinds.Members.{◌>>=◌, optional_member}
+use Rattle.tui_json.specs.Members.{◌>>=◌, optional_member}
 use Rattle.tui_schema.specs.Kinds.Style.{style_of}
 use Rattle.tui_schema.specs.Kinds.Text.{text_of}
 

@@ -4,7 +4,8 @@ use Rattle.serde_json.specs.Data.{Data}
 use Rattle.serde_json.specs.Find.{as_array, as_str}
 use Rattle.tui_cells.specs.declared.modifier.Modifier.{Modifier}
 use Rattle.tui_cells.specs.Style.{both_modifiers, no_modifier}
-use Rattle.tui_schema.specs.Kinds.Members.{◌>>=◌, joined_of, named}
+use Rattle.tui_json.specs.Members.{◌>>=◌, named}
+use Rattle.tui_schema.specs.Kinds.Joined.{joined_of}
 
 -- the names with the bits that stand for them
 abbrev pub modifier_names : List (List ℕ × ℕ)

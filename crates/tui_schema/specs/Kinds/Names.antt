@@ -3,24 +3,12 @@ use Rattle.std.specs.Prelude.{[], ◌∷◌, refl}
 use Rattle.tui_bars.specs.RenderDirection as render_direction
 use Rattle.tui_bars.specs.declared.render_direction.RenderDirection.{RenderDirection}
 use Rattle.tui_bars.specs.declared.render_direction.RenderDirection.TheVariants.{LeftToRight, RightToLeft}
-use Rattle.tui_cells.specs.Strategies as strategy
-use Rattle.tui_cells.specs.declared.merge_strategy.MergeStrategy.{MergeStrategy}
-use Rattle.tui_cells.specs.declared.merge_strategy.MergeStrategy.TheVariants.{Replace, Exact, Fuzzy}
 use Rattle.tui_frames.specs.BorderType as border_type
 use Rattle.tui_frames.specs.TitlePosition as title_position
 use Rattle.tui_frames.specs.declared.border_type.BorderType.{BorderType}
 use Rattle.tui_frames.specs.declared.border_type.BorderType.TheVariants as borders
 use Rattle.tui_frames.specs.declared.title_position.TitlePosition.{TitlePosition}
 use Rattle.tui_frames.specs.declared.title_position.TitlePosition.TheVariants.{Top, Bottom}
-use Rattle.tui_layout.specs.Direction as direction
-use Rattle.tui_layout.specs.Flex as flex
-use Rattle.tui_layout.specs.HighlightSpacing as highlight_spacing
-use Rattle.tui_layout.specs.declared.direction.Direction.{Direction}
-use Rattle.tui_layout.specs.declared.direction.Direction.TheVariants.{Horizontal, Vertical}
-use Rattle.tui_layout.specs.declared.flex.Flex.{Flex}
-use Rattle.tui_layout.specs.declared.flex.Flex.TheVariants as flexing
-use Rattle.tui_layout.specs.declared.highlight_spacing.HighlightSpacing.{HighlightSpacing}
-use Rattle.tui_layout.specs.declared.highlight_spacing.HighlightSpacing.TheVariants.{Always, WhenSelected, Never}
 use Rattle.tui_lists.specs.ListDirection as list_direction
 use Rattle.tui_lists.specs.Orientation as orientation
 use Rattle.tui_lists.specs.declared.direction.ListDirection.{ListDirection}
@@ -33,7 +21,7 @@ use Rattle.tui_para.specs.declared.size.Size.TheVariants.{Tiny, Small}
 use Rattle.tui_text.specs.Alignment as alignment
 use Rattle.tui_text.specs.declared.alignment.Alignment.{Alignment}
 use Rattle.tui_text.specs.declared.alignment.Alignment.TheVariants.{Left, Center, Right}
-use Rattle.tui_schema.specs.Kinds.Named.{Names}
+use Rattle.tui_json.specs.Named.{Names}
 
 abbrev pub alignments : Names Alignment
 alignments = record {
@@ -71,47 +59,11 @@ title_positions = record {
   found = elim [ Top ↦ refl | Bottom ↦ refl ];
 }
 
-abbrev pub merge_strategies : Names MergeStrategy
-merge_strategies = record {
-  name = strategy.name_of;
-  values = Replace ∷ Exact ∷ Fuzzy ∷ [];
-  found = elim [ Replace ↦ refl | Exact ↦ refl | Fuzzy ↦ refl ];
-}
-
-abbrev pub highlight_spacings : Names HighlightSpacing
-highlight_spacings = record {
-  name = highlight_spacing.name_of;
-  values = Always ∷ WhenSelected ∷ Never ∷ [];
-  found = elim [ Always ↦ refl | WhenSelected ↦ refl | Never ↦ refl ];
-}
-
 abbrev pub list_directions : Names ListDirection
 list_directions = record {
   name = list_direction.name_of;
   values = TopToBottom ∷ BottomToTop ∷ [];
   found = elim [ TopToBottom ↦ refl | BottomToTop ↦ refl ];
-}
-
-abbrev pub flexes : Names Flex
-flexes = record {
-  name = flex.name_of;
-  values = flexing.Legacy ∷ flexing.Start ∷ flexing.End ∷ flexing.Center ∷ flexing.SpaceBetween ∷ flexing.SpaceEvenly ∷ flexing.SpaceAround ∷ [];
-  found = elim [
-    | flexing.Legacy ↦ refl
-    | flexing.Start ↦ refl
-    | flexing.End ↦ refl
-    | flexing.Center ↦ refl
-    | flexing.SpaceBetween ↦ refl
-    | flexing.SpaceEvenly ↦ refl
-    | flexing.SpaceAround ↦ refl
-  ];
-}
-
-abbrev pub directions : Names Direction
-directions = record {
-  name = direction.name_of;
-  values = Horizontal ∷ Vertical ∷ [];
-  found = elim [ Horizontal ↦ refl | Vertical ↦ refl ];
 }
 
 abbrev pub orientations : Names ScrollbarOrientation

@@ -6,8 +6,8 @@ use Rattle.serde_json.specs.Find.{as_str}
 use Rattle.tui_cells.specs.Style.{no_style}
 use Rattle.tui_cells.specs.Symbols.{utf8}
 use Rattle.tui_frames.specs.Shadow.{KindData, ShadowData, dimmed, overlay, symbol}
-use Rattle.tui_schema.specs.Kinds.Members.{◌>>=◌, member, named, optional_member, pair_of}
-use Rattle.tui_schema.specs.Kinds.Number.{i32_of}
+use Rattle.tui_json.specs.Members.{◌>>=◌, member, named, optional_member, pair_of}
+use Rattle.tui_json.specs.Number.{i32_of}
 use Rattle.tui_schema.specs.Kinds.Style.{style_of}
 use Rattle.tui_schema.specs.Kinds.Symbol.{symbol_of}
 

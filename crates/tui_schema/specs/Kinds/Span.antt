@@ -4,7 +4,7 @@ use Rattle.serde_json.specs.Data.{Data, string}
 use Rattle.serde_json.specs.Find.{as_str}
 use Rattle.tui_cells.specs.Style.{no_style}
 use Rattle.tui_text.specs.Span.{SpanData, raw_span}
-use Rattle.tui_schema.specs.Kinds.Members.{◌>>=◌, member, optional_member}
+use Rattle.tui_json.specs.Members.{◌>>=◌, member, optional_member}
 use Rattle.tui_schema.specs.Kinds.Style.{style_of}
 
 unfoldable pub span_of : Data → Option SpanData

@@ -6,7 +6,7 @@ use Rattle.tui_cells.specs.declared.color.Color.{Color}
 use Rattle.tui_cells.specs.declared.modifier.Modifier.{Modifier}
 use Rattle.tui_cells.specs.declared.style.Style.{Style}
 use Rattle.tui_cells.specs.Style.{no_modifier, other_modifiers}
-use Rattle.tui_schema.specs.Kinds.Members.{◌>>=◌, optional_member}
+use Rattle.tui_json.specs.Members.{◌>>=◌, optional_member}
 use Rattle.tui_schema.specs.Kinds.Color.{color_of}
 use Rattle.tui_schema.specs.Kinds.Modifier.{modifiers_of}
 

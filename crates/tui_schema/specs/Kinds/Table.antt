@@ -5,8 +5,8 @@ use Rattle.serde_json.specs.Find.{get}
 use Rattle.tui_cells.specs.Style.{no_style}
 use Rattle.tui_table.specs.Cell.{CellData, cell_of}
 use Rattle.tui_table.specs.Row.{RowData, row_of as new_row}
-use Rattle.tui_schema.specs.Kinds.Members.{◌>>=◌, list_of, member, optional_member}
-use Rattle.tui_schema.specs.Kinds.Number.{u16_of}
+use Rattle.tui_json.specs.Members.{◌>>=◌, list_of, member, optional_member}
+use Rattle.tui_json.specs.Number.{u16_of}
 use Rattle.tui_schema.specs.Kinds.Style.{style_of}
 use Rattle.tui_schema.specs.Kinds.Text.{text_of}
 

@@ -4,8 +4,8 @@ use Rattle.serde_json.specs.Data.{Data}
 use Rattle.serde_json.specs.Find.{get}
 use Rattle.tui_frames.specs.Block.{TitleData}
 use Rattle.tui_schema.specs.Kinds.Line.{line_of}
-use Rattle.tui_schema.specs.Kinds.Members.{◌>>=◌, optional_member}
-use Rattle.tui_schema.specs.Kinds.Named.{named_of}
+use Rattle.tui_json.specs.Members.{◌>>=◌, optional_member}
+use Rattle.tui_json.specs.Named.{named_of}
 use Rattle.tui_schema.specs.Kinds.Names.{title_positions}
 
 abbrev title_by : Option Data → Data → Option TitleData

@@ -3,7 +3,7 @@ use Rattle.std.specs.Prelude.{Option, Some, codes, unwrap_or, false}
 use Rattle.serde_json.specs.Data.{Data}
 use Rattle.serde_json.specs.Find.{as_bool}
 use Rattle.tui_para.specs.declared.wrap.Wrap.{Wrap}
-use Rattle.tui_schema.specs.Kinds.Members.{◌>>=◌, member, optional_member}
+use Rattle.tui_json.specs.Members.{◌>>=◌, member, optional_member}
 
 unfoldable pub wrap_of : Data → Option Wrap
 wrap_of d = do

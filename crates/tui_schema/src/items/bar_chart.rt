@@ -11,12 +11,12 @@ ghost use Rattle.tui_schema.specs.Refusals.{Gives};
 
 use crate::error::SceneError;
 use crate::field::Field;
-use crate::table::{optional, required};
 use serde_json::Value;
 use std::alloc::Global;
 use tui_bars::{BarChart, BarGroup};
 use tui_cells::{Style, bar};
 use tui_frames::Block;
+use tui_json::{optional, required};
 use tui_layout::Direction;
 
 /// A chart of groups in a block, with a style and a greatest value.

@@ -7,10 +7,10 @@ ghost use Rattle.tui_schema.specs.Refusals.{Gives};
 
 use crate::error::SceneError;
 use crate::field::Field;
-use crate::table::optional;
 use serde_json::Value;
 use std::alloc::Global;
 use tui_frames::Block;
+use tui_json::optional;
 
 #[tactic(auto, unfolding(crate::specs::Items::Block::block_in))]
 pub(crate) fn read_block<'v>(

@@ -8,11 +8,11 @@ ghost use Rattle.tui_schema.specs.Refusals.{Gives};
 use crate::error::SceneError;
 use crate::field::Field;
 use crate::kinds::Symbol;
-use crate::table::{optional, required};
 use serde_json::Value;
 use std::alloc::Global;
 use tui_cells::Style;
 use tui_frames::Fill;
+use tui_json::{optional, required};
 
 #[tactic(auto, unfolding(crate::specs::Items::Fill::fill_of))]
 pub(crate) fn read_fill<'v>(

@@ -18,12 +18,12 @@ ghost use Rattle.tui_text.specs.Span.{span_data};
 
 use crate::error::SceneError;
 use crate::field::Field;
-use crate::table::optional;
 use serde_json::Value;
 use std::alloc::Global;
 use tui_bars::Gauge;
 use tui_cells::Style;
 use tui_frames::Block;
+use tui_json::optional;
 use tui_layout::Fraction;
 use tui_text::Span;
 

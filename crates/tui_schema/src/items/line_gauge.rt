@@ -12,12 +12,12 @@ ghost use Rattle.tui_text.specs.Line.{line_data};
 use crate::error::SceneError;
 use crate::field::Field;
 use crate::kinds::Symbol;
-use crate::table::optional;
 use serde_json::Value;
 use std::alloc::Global;
 use tui_bars::LineGauge;
 use tui_cells::Style;
 use tui_frames::Block;
+use tui_json::optional;
 use tui_layout::Fraction;
 use tui_text::Line;
 

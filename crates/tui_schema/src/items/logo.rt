@@ -6,9 +6,9 @@ ghost use Rattle.tui_schema.specs.Refusals.{Gives};
 
 use crate::error::SceneError;
 use crate::field::Field;
-use crate::table::optional;
 use serde_json::Value;
 use std::alloc::Global;
+use tui_json::optional;
 use tui_para::{RatatuiLogo, Size};
 
 #[tactic(auto, unfolding(crate::specs::Items::Logo::logo_of))]

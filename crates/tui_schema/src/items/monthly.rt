@@ -13,13 +13,13 @@ ghost use Rattle.tui_schema.specs.Refusals.{Gives};
 use crate::error::SceneError;
 use crate::field::Field;
 use crate::kinds::Event;
-use crate::table::{optional, required};
 use jiff::civil::Date;
 use serde_json::Value;
 use std::alloc::Global;
 use tui_calendar::{CalendarEventStore, Monthly};
 use tui_cells::{Mem, Style};
 use tui_frames::Block;
+use tui_json::{optional, required};
 
 /// A month by the styles that a store keeps.
 type Calendar<'v> = Monthly<'v, CalendarEventStore>;

@@ -10,11 +10,11 @@ ghost use Rattle.tui_schema.specs.Refusals.{Gives};
 
 use crate::error::SceneError;
 use crate::field::Field;
-use crate::table::{optional, required};
 use serde_json::Value;
 use std::alloc::Global;
 use tui_cells::Style;
 use tui_frames::Block;
+use tui_json::{optional, required};
 use tui_para::{Paragraph, Wrap};
 use tui_text::{Alignment, Text};
 

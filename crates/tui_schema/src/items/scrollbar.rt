@@ -9,10 +9,10 @@ ghost use Rattle.tui_schema.specs.Refusals.{Gives};
 use crate::error::SceneError;
 use crate::field::Field;
 use crate::kinds::Symbol;
-use crate::table::{given, optional};
 use serde_json::Value;
 use std::alloc::Global;
 use tui_cells::Style;
+use tui_json::{given, optional};
 use tui_lists::{Scrollbar, ScrollbarOrientation, ScrollbarState};
 
 fn with_thumb<'v>(bar: Scrollbar<'v>, symbol: Option<Symbol<'v>>) -> Scrollbar<'v>

@@ -15,11 +15,11 @@ ghost use Rattle.tui_text.specs.Span.{raw_span, span_data};
 use crate::error::SceneError;
 use crate::field::Field;
 use crate::kinds::Symbol;
-use crate::table::{given, optional, required};
 use serde_json::Value;
 use std::alloc::Global;
 use tui_cells::{Mem, Modifier, Style, line};
 use tui_frames::Block;
+use tui_json::{given, optional, required};
 use tui_lists::Tabs;
 use tui_text::{Line, Span};
 

@@ -2,11 +2,12 @@
 
 ghost use Rattle.std.specs.Prelude.{◌≡◌};
 ghost use Rattle.tui_schema.specs.Items.Names.{widget_names};
-ghost use Rattle.tui_schema.specs.Kinds.Members.{named};
+ghost use Rattle.tui_json.specs.Members.{named};
 
-use crate::kinds::{Kind, KindError};
+use crate::field::Field;
 use serde_json::Value;
 use std::alloc::Global;
+use tui_json::{Kind, KindError};
 
 /// The widgets.
 #[derive(Clone, Copy, Debug, PartialEq, Eq)]
@@ -49,7 +50,7 @@ fn named_widget(text: &str) -> Option<Widget>
     }
 }
 
-impl<'v> Kind<'v> for Widget {
+impl<'v> Kind<'v, Field> for Widget {
     ghost use Rattle.tui_schema.specs.declared.items.widget.Widget.{Widget};
     ghost use Rattle.tui_schema.specs.Items.Names.{widget_of};
 

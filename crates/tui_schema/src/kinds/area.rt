@@ -2,13 +2,14 @@
 
 ghost use Rattle.tui_schema.specs.Kinds.Area.{area_of};
 
-use crate::kinds::array::elements;
-use crate::kinds::kind::{Kind, KindError};
+use crate::field::Field;
+use crate::kinds::member::read;
 use serde_json::Value;
 use std::alloc::Global;
 use tui_cells::Rect;
+use tui_json::{Kind, KindError, elements};
 
-impl<'v> Kind<'v> for Rect {
+impl<'v> Kind<'v, Field> for Rect {
     ghost use Rattle.tui_cells.specs.declared.rect.Rect.{Rect};
 
     ghost Seen = { Rect };
@@ -23,10 +24,10 @@ impl<'v> Kind<'v> for Rect {
             return Err(KindError::WrongKind);
         };
         Ok(Rect {
-            x: u16::read(alloc, x)?,
-            y: u16::read(alloc, y)?,
-            width: u16::read(alloc, width)?,
-            height: u16::read(alloc, height)?,
+            x: read(alloc, x)?,
+            y: read(alloc, y)?,
+            width: read(alloc, width)?,
+            height: read(alloc, height)?,
         })
     }
 }

@@ -7,12 +7,13 @@ ghost use Rattle.tui_cells.specs.Symbols.{bar_data as symbols_of, nine_levels, t
 ghost use Rattle.tui_schema.specs.Kinds.Bars.{bar_of, bar_set_of, group_of, sparkline_bar_of};
 ghost use Rattle.tui_text.specs.Line.{line_data};
 
-use crate::kinds::kind::{Kind, KindError};
-use crate::kinds::member::{member, optional_member};
+use crate::field::Field;
+use crate::kinds::member::{member, optional_member, read};
 use serde_json::Value;
 use std::alloc::Global;
 use tui_bars::{Bar, BarGroup, SparklineBar};
 use tui_cells::{Style, bar};
+use tui_json::{Kind, KindError};
 use tui_text::Line;
 
 fn with_label<'v>(bar: Bar<'v>, label: Option<Line<'v>>) -> Bar<'v>
@@ -33,7 +34,7 @@ fn with_text<'v>(bar: Bar<'v>, text: Option<&'v str>) -> Bar<'v>
     }
 }
 
-impl<'v> Kind<'v> for Bar<'v> {
+impl<'v> Kind<'v, Field> for Bar<'v> {
     ghost use Rattle.tui_bars.specs.BarChart.{BarData};
 
     ghost Seen = { BarData };
@@ -57,12 +58,12 @@ impl<'v> Kind<'v> for Bar<'v> {
                         .value_style(value_style.unwrap_or(Style::new())),
                 )
             }
-            _ => Ok(Bar::new(u64::read(alloc, value)?)),
+            _ => Ok(Bar::new(read(alloc, value)?)),
         }
     }
 }
 
-impl<'v> Kind<'v> for BarGroup<'v> {
+impl<'v> Kind<'v, Field> for BarGroup<'v> {
     ghost use Rattle.tui_bars.specs.BarChart.{GroupData, group_data};
 
     ghost Seen = { GroupData };
@@ -74,7 +75,7 @@ impl<'v> Kind<'v> for BarGroup<'v> {
     #[tactic(auto, unfolding(crate::specs::Kinds::Bars::group_of))]
     fn read(alloc: Global, value: &'v Value) -> Result<BarGroup<'v>, KindError> {
         match value {
-            Value::Array(_) => Ok(BarGroup::new(Vec::read(alloc, value)?)),
+            Value::Array(_) => Ok(BarGroup::new(read(alloc, value)?)),
             _ => {
                 let bars: Vec<Bar<'v>> = member(alloc, value, "bars")?;
                 let label: Option<Line<'v>> = optional_member(alloc, value, "label")?;
@@ -87,7 +88,7 @@ impl<'v> Kind<'v> for BarGroup<'v> {
     }
 }
 
-impl<'v> Kind<'v> for SparklineBar {
+impl<'v> Kind<'v, Field> for SparklineBar {
     ghost use Rattle.tui_bars.specs.Sparkline.{SparklineBarData, sparkline_bar_data};
 
     ghost Seen = { SparklineBarData };
@@ -105,7 +106,10 @@ impl<'v> Kind<'v> for SparklineBar {
                 let style: Option<Style> = optional_member(alloc, value, "style")?;
                 Ok(SparklineBar::from(number).style(style))
             }
-            _ => Ok(SparklineBar::from(u64::read(alloc, value)?)),
+            _ => {
+                let number: u64 = read(alloc, value)?;
+                Ok(SparklineBar::from(number))
+            }
         }
     }
 }
@@ -122,7 +126,7 @@ fn three_levels<'a>() -> bar::Set<'a>
     bar::THREE_LEVELS
 }
 
-impl<'v> Kind<'v> for bar::Set<'v> {
+impl<'v> Kind<'v, Field> for bar::Set<'v> {
     ghost use Rattle.tui_cells.specs.Symbols.{BarData as BarSymbols};
 
     ghost Seen = { BarSymbols };

@@ -5,15 +5,16 @@ ghost use Rattle.std.specs.Option.{option_or};
 ghost use Rattle.serde_json.specs.View.{view};
 ghost use Rattle.tui_frames.specs.Block.{block_data};
 ghost use Rattle.tui_frames.specs.Shadow.{shadow_data};
-ghost use Rattle.tui_schema.specs.Kinds.{Reads};
+ghost use Rattle.tui_json.specs.Kinds.{Reads};
 ghost use Rattle.tui_schema.specs.Kinds.Block.{block_of, bordered_of, spaced_of, titled_of};
 
-use crate::kinds::kind::{Kind, KindError};
+use crate::field::Field;
 use crate::kinds::member::optional_member;
 use serde_json::Value;
 use std::alloc::Global;
 use tui_cells::{MergeStrategy, Style};
 use tui_frames::{Block, BorderType, Borders, Padding, Shadow, Title, TitlePosition};
+use tui_json::{Kind, KindError};
 use tui_text::Alignment;
 
 /// The block with its borders.
@@ -86,7 +87,7 @@ fn joined<'v>(block: Block<'v>, strategy: MergeStrategy, shadow: Option<Shadow<'
     }
 }
 
-impl<'v> Kind<'v> for Block<'v> {
+impl<'v> Kind<'v, Field> for Block<'v> {
     ghost use Rattle.tui_frames.specs.Block.{BlockData};
 
     ghost Seen = { BlockData };

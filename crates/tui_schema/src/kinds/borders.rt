@@ -4,13 +4,13 @@ ghost use Rattle.std.specs.Prelude.{◌≡◌};
 ghost use Rattle.serde_json.specs.View.{view, items_view};
 ghost use Rattle.tui_frames.specs.Borders.{borders_of, both_borders};
 ghost use Rattle.tui_schema.specs.Kinds.Borders.{side_named, sides_of};
-ghost use Rattle.tui_schema.specs.Kinds.Members.{joined_of};
+ghost use Rattle.tui_schema.specs.Kinds.Joined.{joined_of};
 
-use crate::kinds::array::elements;
-use crate::kinds::kind::{Kind, KindError};
+use crate::field::Field;
 use serde_json::Value;
 use std::alloc::Global;
 use tui_frames::Borders;
+use tui_json::{Kind, KindError, elements};
 
 #[tactic(auto, unfolding(crate::specs::Kinds::Borders::side_named))]
 fn named_side(value: &Value) -> Option<Borders>
@@ -35,7 +35,7 @@ fn all_sides(names: &[Value]) -> Option<Borders>
     Some(sides)
 }
 
-impl<'v> Kind<'v> for Borders {
+impl<'v> Kind<'v, Field> for Borders {
     ghost use Rattle.tui_frames.specs.declared.borders.Borders.{Borders};
 
     ghost Seen = { Borders };

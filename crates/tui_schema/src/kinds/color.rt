@@ -3,10 +3,11 @@
 ghost use Rattle.std.specs.Prelude.{◌≡◌};
 ghost use Rattle.tui_schema.specs.Kinds.Color.{byte_of, color_named, color_of, color_of_hex, digit_of};
 
-use crate::kinds::kind::{Kind, KindError};
+use crate::field::Field;
 use serde_json::Value;
 use std::alloc::Global;
 use tui_cells::Color;
+use tui_json::{Kind, KindError};
 
 #[tactic(auto, unfolding(crate::specs::Kinds::Color::color_named, tui_scene::specs::ColorText::color_text))]
 fn named_color(text: &str) -> Option<Color>
@@ -67,7 +68,7 @@ fn hex_color(text: &str) -> Option<Color>
     }
 }
 
-impl<'v> Kind<'v> for Color {
+impl<'v> Kind<'v, Field> for Color {
     ghost use Rattle.tui_cells.specs.declared.color.Color.{Color};
 
     ghost Seen = { Color };

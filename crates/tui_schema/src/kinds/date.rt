@@ -4,11 +4,12 @@ ghost use Rattle.std.specs.Prelude.{◌≡◌, option_map};
 ghost use Rattle.tui_calendar.specs.Month.{date_data};
 ghost use Rattle.tui_schema.specs.Kinds.Date.{civil_of, date_of};
 
-use crate::kinds::array::elements;
-use crate::kinds::kind::{Kind, KindError};
+use crate::field::Field;
+use crate::kinds::member::read;
 use jiff::civil::Date;
 use serde_json::Value;
 use std::alloc::Global;
+use tui_json::{Kind, KindError, elements};
 
 /// The date with these numbers, if the calendar has it.
 fn civil_date(year: i16, month: i8, day: i8) -> Option<Date>
@@ -17,7 +18,7 @@ fn civil_date(year: i16, month: i8, day: i8) -> Option<Date>
     Date::new(year, month, day).ok()
 }
 
-impl<'v> Kind<'v> for Date {
+impl<'v> Kind<'v, Field> for Date {
     ghost use Rattle.tui_calendar.specs.Month.{DateData};
 
     ghost Seen = { DateData };
@@ -31,9 +32,9 @@ impl<'v> Kind<'v> for Date {
         let [year, month, day] = elements(value)? else {
             return Err(KindError::WrongKind);
         };
-        let year = i16::read(alloc, year)?;
-        let month = i8::read(alloc, month)?;
-        let day = i8::read(alloc, day)?;
+        let year: i16 = read(alloc, year)?;
+        let month: i8 = read(alloc, month)?;
+        let day: i8 = read(alloc, day)?;
         civil_date(year, month, day).ok_or(KindError::WrongKind)
     }
 }

@@ -2,12 +2,13 @@
 
 ghost use Rattle.tui_schema.specs.Kinds.Event.{event_of};
 
-use crate::kinds::kind::{Kind, KindError};
+use crate::field::Field;
 use crate::kinds::member::member;
 use jiff::civil::Date;
 use serde_json::Value;
 use std::alloc::Global;
 use tui_cells::Style;
+use tui_json::{Kind, KindError};
 
 /// A date with a style.
 #[derive(Drop)]
@@ -16,7 +17,7 @@ pub(crate) struct Event {
     pub(crate) style: Style,
 }
 
-impl<'v> Kind<'v> for Event {
+impl<'v> Kind<'v, Field> for Event {
     ghost use Rattle.tui_calendar.specs.Month.{DateData};
     ghost use Rattle.tui_cells.specs.declared.style.Style.{Style};
     ghost use Rattle.tui_schema.specs.Kinds.Event.{event_data};

@@ -2,14 +2,15 @@
 
 ghost use Rattle.tui_schema.specs.Kinds.Line.{line_of};
 
-use crate::kinds::kind::{Kind, KindError};
-use crate::kinds::member::{member, optional_member};
+use crate::field::Field;
+use crate::kinds::member::{member, optional_member, read};
 use serde_json::Value;
 use std::alloc::Global;
 use tui_cells::Style;
+use tui_json::{Kind, KindError};
 use tui_text::{Alignment, Line, Span};
 
-impl<'v> Kind<'v> for Line<'v> {
+impl<'v> Kind<'v, Field> for Line<'v> {
     ghost use Rattle.tui_text.specs.Line.{LineData, line_data};
 
     ghost Seen = { LineData };
@@ -23,7 +24,7 @@ impl<'v> Kind<'v> for Line<'v> {
         match value {
             Value::String(content) => Ok(Line::raw(alloc, content)?),
             Value::Array(_) => {
-                let spans: Vec<Span<'v>> = Vec::read(alloc, value)?;
+                let spans: Vec<Span<'v>> = read(alloc, value)?;
                 Ok(Line::from(spans))
             }
             _ => {

@@ -2,15 +2,16 @@
 
 ghost use Rattle.tui_schema.specs.Kinds.ListItem.{list_item_of};
 
-use crate::kinds::kind::{Kind, KindError};
-use crate::kinds::member::optional_member;
+use crate::field::Field;
+use crate::kinds::member::{optional_member, read};
 use serde_json::Value;
 use std::alloc::Global;
 use tui_cells::Style;
+use tui_json::{Kind, KindError};
 use tui_lists::ListItem;
 use tui_text::Text;
 
-impl<'v> Kind<'v> for ListItem<'v> {
+impl<'v> Kind<'v, Field> for ListItem<'v> {
     ghost use Rattle.tui_lists.specs.ListItem.{ListItemData, list_item_data};
 
     ghost Seen = { ListItemData };
@@ -22,9 +23,9 @@ impl<'v> Kind<'v> for ListItem<'v> {
     #[tactic(auto, unfolding(crate::specs::Kinds::ListItem::list_item_of))]
     fn read(alloc: Global, value: &'v Value) -> Result<ListItem<'v>, KindError> {
         match value.get("text") {
-            None => Ok(ListItem::new(Text::read(alloc, value)?)),
+            None => Ok(ListItem::new(read(alloc, value)?)),
             Some(content) => {
-                let content = Text::read(alloc, content)?;
+                let content = read(alloc, content)?;
                 let style: Option<Style> = optional_member(alloc, value, "style")?;
                 Ok(ListItem::new(content).style(style.unwrap_or(Style::new())))
             }

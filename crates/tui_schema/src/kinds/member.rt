@@ -1,79 +1,40 @@
-//! The members of an object.
+//! Values and the members of objects, as kinds of the schema.
 
-ghost use Rattle.std.specs.Prelude.{◌≡◌, option_map, option_and_then};
-ghost use Rattle.serde_json.specs.Find.{get};
+ghost use Rattle.std.specs.Prelude.{option_map};
 ghost use Rattle.serde_json.specs.View.{view};
-ghost use Rattle.tui_schema.specs.Kinds.{Reads};
-ghost use Rattle.tui_schema.specs.Kinds.Members.{given_member, member, optional_member, or_null, unless_null};
+ghost use Rattle.tui_json.specs.Kinds.{Reads};
+ghost use Rattle.tui_json.specs.Members.{member, optional_member};
 
-use crate::kinds::kind::{Kind, KindError};
+use crate::field::Field;
 use serde_json::Value;
 use std::alloc::Global;
+use tui_json::{Kind, KindError};
 
-/// The member of this name, where it is there and not null.
-fn present<'v>(value: &'v Value, name: &str) -> Option<&'v Value>
-    ensures { option_map (λ v. view v.now) result ≡ option_and_then unless_null (get name.now (view value.now)) }
+/// The value as a kind.
+pub(crate) fn read<'v, T: Kind<'v, Field>>(alloc: Global, value: &'v Value) -> Result<T, KindError>
+    ensures { Reads T.seen result (T.kind (view value.now)) }
 {
-    value.get(name).filter(|member| !member.is_null())
+    T::read(alloc, value)
 }
 
 /// The member of this name, which has to be there. What is no object has no members.
-pub(crate) fn member<'v, T: Kind<'v>>(
+pub(crate) fn member<'v, T: Kind<'v, Field>>(
     alloc: Global,
     value: &'v Value,
     name: &str,
 ) -> Result<T, KindError>
     ensures { Reads T.seen result (member T.kind name.now (view value.now)) }
 {
-    match value.get(name) {
-        Some(member) => T::read(alloc, member),
-        None => Err(KindError::WrongKind),
-    }
+    tui_json::member::<T, Field>(alloc, value, name)
 }
 
 /// The member of this name, which may be absent or null.
-pub(crate) fn optional_member<'v, T: Kind<'v>>(
+pub(crate) fn optional_member<'v, T: Kind<'v, Field>>(
     alloc: Global,
     value: &'v Value,
     name: &str,
 ) -> Result<Option<T>, KindError>
     ensures { Reads (option_map T.seen) result (optional_member T.kind name.now (view value.now)) }
 {
-    match present(value, name) {
-        Some(member) => Ok(Some(T::read(alloc, member)?)),
-        None => Ok(None),
-    }
-}
-
-/// The member of this name, which may be absent. Null is a value of its own, if it is one of the kind.
-pub(crate) fn given_member<'v, T: Kind<'v>>(
-    alloc: Global,
-    value: &'v Value,
-    name: &str,
-) -> Result<Option<T>, KindError>
-    ensures { Reads (option_map T.seen) result (given_member T.kind name.now (view value.now)) }
-{
-    match value.get(name) {
-        Some(member) => Ok(Some(T::read(alloc, member)?)),
-        None => Ok(None),
-    }
-}
-
-/// Null, which is None, or a value.
-impl<'v, T: Kind<'v>> Kind<'v> for Option<T> {
-    ghost use Rattle.std.specs.Prelude.{Option};
-
-    ghost Seen = { Option T.Seen };
-
-    ghost seen = { option_map T.seen };
-
-    ghost kind = { or_null T.kind };
-
-    fn read(alloc: Global, value: &'v Value) -> Result<Option<T>, KindError> {
-        if value.is_null() {
-            Ok(None)
-        } else {
-            Ok(Some(T::read(alloc, value)?))
-        }
-    }
+    tui_json::optional_member::<T, Field>(alloc, value, name)
 }

@@ -3,14 +3,14 @@
 ghost use Rattle.std.specs.Prelude.{◌≡◌};
 ghost use Rattle.serde_json.specs.View.{view, items_view};
 ghost use Rattle.tui_cells.specs.Style.{both_modifiers, no_modifier};
-ghost use Rattle.tui_schema.specs.Kinds.Members.{joined_of};
+ghost use Rattle.tui_schema.specs.Kinds.Joined.{joined_of};
 ghost use Rattle.tui_schema.specs.Kinds.Modifier.{modifier_named, modifiers_of};
 
-use crate::kinds::array::elements;
-use crate::kinds::kind::{Kind, KindError};
+use crate::field::Field;
 use serde_json::Value;
 use std::alloc::Global;
 use tui_cells::Modifier;
+use tui_json::{Kind, KindError, elements};
 
 #[tactic(auto, unfolding(crate::specs::Kinds::Modifier::modifier_named))]
 fn named_modifier(value: &Value) -> Option<Modifier>
@@ -40,7 +40,7 @@ fn all_modifiers(names: &[Value]) -> Option<Modifier>
     Some(modifiers)
 }
 
-impl<'v> Kind<'v> for Modifier {
+impl<'v> Kind<'v, Field> for Modifier {
     ghost use Rattle.tui_cells.specs.declared.modifier.Modifier.{Modifier};
 
     ghost Seen = { Modifier };

@@ -1,120 +1,154 @@
-//! Enums, by the name of the variant.
+//! The enums of widgets, by the name of the variant.
 
-ghost use Rattle.std.specs.Prelude.{◌≡◌, ℕ, List, Result};
-ghost use Rattle.std.specs.Result.{result_ok};
-ghost use Rattle.tui_cells.specs.declared.error.ParseError.{ParseError};
-ghost use Rattle.tui_schema.specs.Kinds.Named.{Names, named_of, reads_named, value_named};
-ghost use Rattle.tui_schema.specs.Kinds.Names.{
-  alignments,
-  border_types,
-  directions,
-  flexes,
-  highlight_spacings,
-  list_directions,
-  merge_strategies,
-  orientations,
-  render_directions,
-  sizes,
-  title_positions,
-};
+ghost use Rattle.tui_json.specs.Named.{named_of, reads_named};
+ghost use Rattle.tui_schema.specs.Kinds.Names.{alignments, border_types, list_directions, orientations, render_directions, sizes, title_positions};
 
-use crate::kinds::kind::{Kind, KindError};
+use crate::field::Field;
 use serde_json::Value;
 use std::alloc::Global;
-use std::str::FromStr;
 use tui_bars::RenderDirection;
-use tui_cells::{MergeStrategy, ParseError};
 use tui_frames::{BorderType, TitlePosition};
-use tui_layout::{Direction, Flex, HighlightSpacing};
+use tui_json::{Kind, KindError, Named, by_name};
 use tui_lists::{ListDirection, ScrollbarOrientation};
 use tui_para::Size;
 use tui_text::Alignment;
 
-/// An enum that is read by its `FromStr`, from the name of a variant.
-pub(crate) trait Named: FromStr<Err = ParseError> {
-    // The values and their names.
-    ghost names: { Names Self };
-
-    // What is read of a text is the value of this name.
-    ghost reads: { (text : List ℕ) (answer : Result Self ParseError) → Self.from_str_gives text answer
-        → result_ok answer ≡ value_named names text };
-}
-
-impl<'v, T: Named> Kind<'v> for T {
-    ghost Seen = { T };
-
-    ghost seen = { λ value. value };
-
-    ghost kind = { named_of T.names };
-
-    fn read(_alloc: Global, value: &'v Value) -> Result<T, KindError> {
-        let text = value.as_str().ok_or(KindError::WrongKind)?;
-        text.parse().map_err(|_| KindError::WrongKind)
-    }
-}
-
-impl Named for Alignment {
+impl Named<Field> for Alignment {
     ghost names = { alignments };
 
     ghost reads = { reads_named alignments };
 }
 
-impl Named for BorderType {
+impl<'v> Kind<'v, Field> for Alignment {
+    ghost use Rattle.tui_text.specs.declared.alignment.Alignment.{Alignment};
+
+    ghost Seen = { Alignment };
+
+    ghost seen = { λ value. value };
+
+    ghost kind = { named_of alignments };
+
+    fn read(_alloc: Global, value: &'v Value) -> Result<Alignment, KindError> {
+        by_name::<Alignment, Field>(value).ok_or(KindError::WrongKind)
+    }
+}
+
+impl Named<Field> for BorderType {
     ghost names = { border_types };
 
     ghost reads = { reads_named border_types };
 }
 
-impl Named for TitlePosition {
+impl<'v> Kind<'v, Field> for BorderType {
+    ghost use Rattle.tui_frames.specs.declared.border_type.BorderType.{BorderType};
+
+    ghost Seen = { BorderType };
+
+    ghost seen = { λ value. value };
+
+    ghost kind = { named_of border_types };
+
+    fn read(_alloc: Global, value: &'v Value) -> Result<BorderType, KindError> {
+        by_name::<BorderType, Field>(value).ok_or(KindError::WrongKind)
+    }
+}
+
+impl Named<Field> for TitlePosition {
     ghost names = { title_positions };
 
     ghost reads = { reads_named title_positions };
 }
 
-impl Named for MergeStrategy {
-    ghost names = { merge_strategies };
+impl<'v> Kind<'v, Field> for TitlePosition {
+    ghost use Rattle.tui_frames.specs.declared.title_position.TitlePosition.{TitlePosition};
 
-    ghost reads = { reads_named merge_strategies };
+    ghost Seen = { TitlePosition };
+
+    ghost seen = { λ value. value };
+
+    ghost kind = { named_of title_positions };
+
+    fn read(_alloc: Global, value: &'v Value) -> Result<TitlePosition, KindError> {
+        by_name::<TitlePosition, Field>(value).ok_or(KindError::WrongKind)
+    }
 }
 
-impl Named for HighlightSpacing {
-    ghost names = { highlight_spacings };
-
-    ghost reads = { reads_named highlight_spacings };
-}
-
-impl Named for ListDirection {
+impl Named<Field> for ListDirection {
     ghost names = { list_directions };
 
     ghost reads = { reads_named list_directions };
 }
 
-impl Named for Flex {
-    ghost names = { flexes };
+impl<'v> Kind<'v, Field> for ListDirection {
+    ghost use Rattle.tui_lists.specs.declared.direction.ListDirection.{ListDirection};
 
-    ghost reads = { reads_named flexes };
+    ghost Seen = { ListDirection };
+
+    ghost seen = { λ value. value };
+
+    ghost kind = { named_of list_directions };
+
+    fn read(_alloc: Global, value: &'v Value) -> Result<ListDirection, KindError> {
+        by_name::<ListDirection, Field>(value).ok_or(KindError::WrongKind)
+    }
 }
 
-impl Named for Direction {
-    ghost names = { directions };
-
-    ghost reads = { reads_named directions };
-}
-
-impl Named for ScrollbarOrientation {
+impl Named<Field> for ScrollbarOrientation {
     ghost names = { orientations };
 
     ghost reads = { reads_named orientations };
 }
 
-impl Named for RenderDirection {
+impl<'v> Kind<'v, Field> for ScrollbarOrientation {
+    ghost use Rattle.tui_lists.specs.declared.scrollbar.orientation.ScrollbarOrientation.{ScrollbarOrientation};
+
+    ghost Seen = { ScrollbarOrientation };
+
+    ghost seen = { λ value. value };
+
+    ghost kind = { named_of orientations };
+
+    fn read(_alloc: Global, value: &'v Value) -> Result<ScrollbarOrientation, KindError> {
+        by_name::<ScrollbarOrientation, Field>(value).ok_or(KindError::WrongKind)
+    }
+}
+
+impl Named<Field> for RenderDirection {
     ghost names = { render_directions };
 
     ghost reads = { reads_named render_directions };
 }
 
-impl Named for Size {
+impl<'v> Kind<'v, Field> for RenderDirection {
+    ghost use Rattle.tui_bars.specs.declared.render_direction.RenderDirection.{RenderDirection};
+
+    ghost Seen = { RenderDirection };
+
+    ghost seen = { λ value. value };
+
+    ghost kind = { named_of render_directions };
+
+    fn read(_alloc: Global, value: &'v Value) -> Result<RenderDirection, KindError> {
+        by_name::<RenderDirection, Field>(value).ok_or(KindError::WrongKind)
+    }
+}
+
+impl Named<Field> for Size {
     ghost names = { sizes };
 
     ghost reads = { reads_named sizes };
+}
+
+impl<'v> Kind<'v, Field> for Size {
+    ghost use Rattle.tui_para.specs.declared.size.Size.{Size};
+
+    ghost Seen = { Size };
+
+    ghost seen = { λ value. value };
+
+    ghost kind = { named_of sizes };
+
+    fn read(_alloc: Global, value: &'v Value) -> Result<Size, KindError> {
+        by_name::<Size, Field>(value).ok_or(KindError::WrongKind)
+    }
 }

@@ -2,13 +2,14 @@
 
 ghost use Rattle.tui_schema.specs.Kinds.Padding.{padding_of};
 
-use crate::kinds::array::elements;
-use crate::kinds::kind::{Kind, KindError};
+use crate::field::Field;
+use crate::kinds::member::read;
 use serde_json::Value;
 use std::alloc::Global;
 use tui_frames::Padding;
+use tui_json::{Kind, KindError, elements};
 
-impl<'v> Kind<'v> for Padding {
+impl<'v> Kind<'v, Field> for Padding {
     ghost use Rattle.tui_frames.specs.declared.padding.Padding.{Padding};
 
     ghost Seen = { Padding };
@@ -23,10 +24,10 @@ impl<'v> Kind<'v> for Padding {
             return Err(KindError::WrongKind);
         };
         Ok(Padding {
-            left: u16::read(alloc, left)?,
-            right: u16::read(alloc, right)?,
-            top: u16::read(alloc, top)?,
-            bottom: u16::read(alloc, bottom)?,
+            left: read(alloc, left)?,
+            right: read(alloc, right)?,
+            top: read(alloc, top)?,
+            bottom: read(alloc, bottom)?,
         })
     }
 }

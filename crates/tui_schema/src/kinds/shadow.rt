@@ -3,16 +3,17 @@
 ghost use Rattle.std.specs.Prelude.{option_map};
 ghost use Rattle.serde_json.specs.View.{view};
 ghost use Rattle.tui_frames.specs.Shadow.{shadow_data, shadow_of as new_shadow};
-ghost use Rattle.tui_schema.specs.Kinds.{Reads};
+ghost use Rattle.tui_json.specs.Kinds.{Reads};
 ghost use Rattle.tui_schema.specs.Kinds.Shadow.{effect_of, shadow_of};
 
-use crate::kinds::kind::{Kind, KindError};
+use crate::field::Field;
 use crate::kinds::member::{member, optional_member};
 use crate::kinds::symbol::Symbol;
 use serde_json::Value;
 use std::alloc::Global;
 use tui_cells::{Offset, Style};
 use tui_frames::Shadow;
+use tui_json::{Kind, KindError};
 
 /// A shadow with the effect of a value, and the defaults besides.
 #[tactic(auto, unfolding(crate::specs::Kinds::Shadow::effect_of))]
@@ -35,7 +36,7 @@ fn read_effect<'v>(alloc: Global, value: &'v Value) -> Result<Shadow<'v>, KindEr
     }
 }
 
-impl<'v> Kind<'v> for Shadow<'v> {
+impl<'v> Kind<'v, Field> for Shadow<'v> {
     ghost use Rattle.tui_frames.specs.Shadow.{ShadowData, shadow_data};
 
     ghost Seen = { ShadowData };

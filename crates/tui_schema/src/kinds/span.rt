@@ -2,14 +2,15 @@
 
 ghost use Rattle.tui_schema.specs.Kinds.Span.{span_of};
 
-use crate::kinds::kind::{Kind, KindError};
+use crate::field::Field;
 use crate::kinds::member::{member, optional_member};
 use serde_json::Value;
 use std::alloc::Global;
 use tui_cells::Style;
+use tui_json::{Kind, KindError};
 use tui_text::Span;
 
-impl<'v> Kind<'v> for Span<'v> {
+impl<'v> Kind<'v, Field> for Span<'v> {
     ghost use Rattle.tui_text.specs.Span.{SpanData, span_data};
 
     ghost Seen = { SpanData };

@@ -3,11 +3,12 @@
 ghost use Rattle.std.specs.Prelude.{◌≡◌};
 ghost use Rattle.tui_schema.specs.Kinds.Style.{dressed, modifiers_or_none, style_of};
 
-use crate::kinds::kind::{Kind, KindError};
+use crate::field::Field;
 use crate::kinds::member::optional_member;
 use serde_json::Value;
 use std::alloc::Global;
 use tui_cells::{Color, Modifier, Style};
+use tui_json::{Kind, KindError};
 
 /// The colours with modifiers that are added first and then removed.
 #[tactic(auto, using(crate::proofs::Dressing::both_none, crate::proofs::Dressing::none_other))]
@@ -29,7 +30,7 @@ fn dressed(
     colors.add_modifier(added).remove_modifier(removed)
 }
 
-impl<'v> Kind<'v> for Style {
+impl<'v> Kind<'v, Field> for Style {
     ghost use Rattle.tui_cells.specs.declared.style.Style.{Style};
 
     ghost Seen = { Style };

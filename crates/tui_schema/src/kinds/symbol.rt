@@ -1,11 +1,12 @@
-//! Texts and symbols.
+//! Symbols: short texts for cells.
 
 ghost use Rattle.std.specs.Prelude.{◌≡◌};
 ghost use Rattle.tui_schema.specs.Kinds.Symbol.{is_control, is_symbol, symbol_of};
 
-use crate::kinds::kind::{Kind, KindError};
+use crate::field::Field;
 use serde_json::Value;
 use std::alloc::Global;
+use tui_json::{Kind, KindError};
 
 /// A text of at most 32 bytes without control characters.
 #[derive(Drop)]
@@ -24,22 +25,7 @@ fn is_symbol(text: &str) -> bool
     text.len() <= 32 && text.chars().all(|c| !is_control(c))
 }
 
-impl<'v> Kind<'v> for &'v str {
-    ghost use Rattle.std.specs.Prelude.{ℕ, List};
-    ghost use Rattle.serde_json.specs.Find.{as_str};
-
-    ghost Seen = { List ℕ };
-
-    ghost seen = { λ text. text.now };
-
-    ghost kind = { as_str };
-
-    fn read(_alloc: Global, value: &'v Value) -> Result<&'v str, KindError> {
-        value.as_str().ok_or(KindError::WrongKind)
-    }
-}
-
-impl<'v> Kind<'v> for Symbol<'v> {
+impl<'v> Kind<'v, Field> for Symbol<'v> {
     ghost use Rattle.std.specs.Prelude.{ℕ, List};
 
     ghost Seen = { List ℕ };

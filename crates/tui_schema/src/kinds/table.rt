@@ -2,15 +2,16 @@
 
 ghost use Rattle.tui_schema.specs.Kinds.Table.{row_of, table_cell_of};
 
-use crate::kinds::kind::{Kind, KindError};
-use crate::kinds::member::{member, optional_member};
+use crate::field::Field;
+use crate::kinds::member::{member, optional_member, read};
 use serde_json::Value;
 use std::alloc::Global;
 use tui_cells::Style;
+use tui_json::{Kind, KindError};
 use tui_table::{Cell, Row};
 use tui_text::Text;
 
-impl<'v> Kind<'v> for Cell<'v> {
+impl<'v> Kind<'v, Field> for Cell<'v> {
     ghost use Rattle.tui_table.specs.Cell.{CellData, cell_data};
 
     ghost Seen = { CellData };
@@ -22,9 +23,9 @@ impl<'v> Kind<'v> for Cell<'v> {
     #[tactic(auto, unfolding(crate::specs::Kinds::Table::table_cell_of))]
     fn read(alloc: Global, value: &'v Value) -> Result<Cell<'v>, KindError> {
         match value.get("text") {
-            None => Ok(Cell::new(Text::read(alloc, value)?)),
+            None => Ok(Cell::new(read(alloc, value)?)),
             Some(content) => {
-                let content = Text::read(alloc, content)?;
+                let content = read(alloc, content)?;
                 let style: Option<Style> = optional_member(alloc, value, "style")?;
                 let span: Option<u16> = optional_member(alloc, value, "column_span")?;
                 let cell = Cell::new(content).style(style.unwrap_or(Style::new()));
@@ -34,7 +35,7 @@ impl<'v> Kind<'v> for Cell<'v> {
     }
 }
 
-impl<'v> Kind<'v> for Row<'v> {
+impl<'v> Kind<'v, Field> for Row<'v> {
     ghost use Rattle.tui_table.specs.Row.{RowData, row_data};
 
     ghost Seen = { RowData };
@@ -47,7 +48,7 @@ impl<'v> Kind<'v> for Row<'v> {
     fn read(alloc: Global, value: &'v Value) -> Result<Row<'v>, KindError> {
         match value {
             Value::Array(_) => {
-                let cells: Vec<Cell<'v>> = Vec::read(alloc, value)?;
+                let cells: Vec<Cell<'v>> = read(alloc, value)?;
                 Ok(Row::new(cells))
             }
             _ => {

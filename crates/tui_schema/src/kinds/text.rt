@@ -2,14 +2,15 @@
 
 ghost use Rattle.tui_schema.specs.Kinds.Text.{text_of};
 
-use crate::kinds::kind::{Kind, KindError};
-use crate::kinds::member::{member, optional_member};
+use crate::field::Field;
+use crate::kinds::member::{member, optional_member, read};
 use serde_json::Value;
 use std::alloc::Global;
 use tui_cells::Style;
+use tui_json::{Kind, KindError};
 use tui_text::{Alignment, Line, Text};
 
-impl<'v> Kind<'v> for Text<'v> {
+impl<'v> Kind<'v, Field> for Text<'v> {
     ghost use Rattle.tui_text.specs.Text.{TextData, text_data};
 
     ghost Seen = { TextData };
@@ -23,7 +24,7 @@ impl<'v> Kind<'v> for Text<'v> {
         match value {
             Value::String(content) => Ok(Text::raw(alloc, content)?),
             Value::Array(_) => {
-                let lines: Vec<Line<'v>> = Vec::read(alloc, value)?;
+                let lines: Vec<Line<'v>> = read(alloc, value)?;
                 Ok(Text::from(lines))
             }
             _ => {

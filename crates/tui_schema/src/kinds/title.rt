@@ -2,14 +2,15 @@
 
 ghost use Rattle.tui_schema.specs.Kinds.Title.{title_of};
 
-use crate::kinds::kind::{Kind, KindError};
-use crate::kinds::member::optional_member;
+use crate::field::Field;
+use crate::kinds::member::{optional_member, read};
 use serde_json::Value;
 use std::alloc::Global;
 use tui_frames::Title;
+use tui_json::{Kind, KindError};
 use tui_text::Line;
 
-impl<'v> Kind<'v> for Title<'v> {
+impl<'v> Kind<'v, Field> for Title<'v> {
     ghost use Rattle.tui_frames.specs.Block.{TitleData, title_data};
 
     ghost Seen = { TitleData };
@@ -22,11 +23,11 @@ impl<'v> Kind<'v> for Title<'v> {
     fn read(alloc: Global, value: &'v Value) -> Result<Title<'v>, KindError> {
         match value.get("line") {
             None => Ok(Title {
-                line: Line::read(alloc, value)?,
+                line: read(alloc, value)?,
                 position: None,
             }),
             Some(content) => Ok(Title {
-                line: Line::read(alloc, content)?,
+                line: read(alloc, content)?,
                 position: optional_member(alloc, value, "position")?,
             }),
         }

@@ -2,13 +2,14 @@
 
 ghost use Rattle.tui_schema.specs.Kinds.Wrap.{wrap_of};
 
-use crate::kinds::kind::{Kind, KindError};
+use crate::field::Field;
 use crate::kinds::member::{member, optional_member};
 use serde_json::Value;
 use std::alloc::Global;
+use tui_json::{Kind, KindError};
 use tui_para::Wrap;
 
-impl<'v> Kind<'v> for Wrap {
+impl<'v> Kind<'v, Field> for Wrap {
     ghost use Rattle.tui_para.specs.declared.wrap.Wrap.{Wrap};
 
     ghost Seen = { Wrap };

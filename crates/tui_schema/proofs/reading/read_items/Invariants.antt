@@ -1,7 +1,7 @@
 use Rattle.std.proofs.Common.{◌≡◌, drop}
 use Rattle.serde_json.specs.View.{items_view}
+use Rattle.tui_json.proofs.Numbering.{after}
 use Rattle.tui_schema.specs.Items.{items_of}
-use Rattle.tui_schema.proofs.Numbered.{after}
 use Rattle.tui_schema.proofs.reading.read_items.Given as goal
 
 abbrev pub invariant-loop-i : goal.invariant-loop-i

@@ -1,7 +1,7 @@
 use Rattle.std.proofs.Common.{◌≡◌, drop}
 use Rattle.serde_json.specs.View.{items_view}
 use Rattle.tui_frames.specs.Borders.{borders_of, both_borders}
-use Rattle.tui_schema.specs.Kinds.Members.{joined_of}
+use Rattle.tui_schema.specs.Kinds.Joined.{joined_of}
 use Rattle.tui_schema.specs.Kinds.Borders.{side_named}
 use Rattle.tui_schema.proofs.kinds.borders.all_sides.Given as goal
 

@@ -1,7 +1,7 @@
 use Rattle.std.proofs.Common.{◌≡◌, drop}
 use Rattle.serde_json.specs.View.{items_view}
 use Rattle.tui_cells.specs.Style.{both_modifiers, no_modifier}
-use Rattle.tui_schema.specs.Kinds.Members.{joined_of}
+use Rattle.tui_schema.specs.Kinds.Joined.{joined_of}
 use Rattle.tui_schema.specs.Kinds.Modifier.{modifier_named}
 use Rattle.tui_schema.proofs.kinds.modifier.all_modifiers.Given as goal
 

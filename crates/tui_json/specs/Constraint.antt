@@ -4,8 +4,8 @@ use Rattle.serde_json.specs.Data.{Data}
 use Rattle.serde_json.specs.Find.{get}
 use Rattle.tui_layout.specs.declared.constraint.Constraint.{Constraint}
 use Rattle.tui_layout.specs.declared.constraint.Constraint.TheVariants.{Length, Min, Max, Percentage, Fill, Ratio}
-use Rattle.tui_schema.specs.Kinds.Members.{pair_of}
-use Rattle.tui_schema.specs.Kinds.Number.{u16_of, u32_of}
+use Rattle.tui_json.specs.Members.{pair_of}
+use Rattle.tui_json.specs.Number.{u16_of, u32_of}
 
 -- a member as its kind where it is there, null or not, else something else
 abbrev member_or : {A : Type 0} → (Data → Option A) → List ℕ → Data → Option A → Option A
@@ -18,7 +18,7 @@ member_or {A = A} kind name d other = by_member (get name d)
 abbrev of_u16 : (ℕ → Constraint) → Data → Option Constraint
 of_u16 make d = option_map make (u16_of d)
 
-abbrev ratio_of : Data → Option Constraint
+abbrev pub ratio_of : Data → Option Constraint
 ratio_of d = option_map (λ p. Ratio p.0 p.1) (pair_of u32_of u32_of d)
 
 -- the first of these members that is there says which width it is; a number is a length

@@ -1,8 +1,8 @@
 use Rattle.std.proofs.Common.{◌≡◌, drop, map}
 use Rattle.serde_json.specs.View.{items_view}
-use Rattle.tui_schema.specs.Kinds.Members.{each_of}
-use Rattle.tui_schema.proofs.Arrays.{after}
-use Rattle.tui_schema.proofs.kinds.array.read_each.Given as goal
+use Rattle.tui_json.specs.Members.{each_of}
+use Rattle.tui_json.proofs.Arrays.{after}
+use Rattle.tui_json.proofs.array.each.Given as goal
 
 abbrev pub invariant-loop-value : goal.invariant-loop-value
 invariant-loop-value g l =

@@ -2,9 +2,9 @@ use Rattle.std.proofs.Common.{◌≡◌, ◌++◌, ◌∷◌, [], map, sym, ◌�
 use Rattle.std.proofs.lemmas.List.{map_push}
 use Rattle.std.proofs.lemmas.Result.{err_from_is_err_and}
 use Rattle.serde_json.specs.View.{items_view}
-use Rattle.tui_schema.specs.Kinds.Members.{each_of}
-use Rattle.tui_schema.proofs.Arrays.{each_more, each_err, each_end}
-use Rattle.tui_schema.proofs.kinds.array.read_each.Goals as goal
+use Rattle.tui_json.specs.Members.{each_of}
+use Rattle.tui_json.proofs.Arrays.{each_more, each_err, each_end}
+use Rattle.tui_json.proofs.array.each.Goals as goal
 
 pub returns-in_err-read-2 : goal.returns-in_err-read-2
 returns-in_err-read-2 g c =

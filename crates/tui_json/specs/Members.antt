@@ -1,7 +1,8 @@
 -- What is inside a value: the members of an object, the values of an array; and tables of names.
-use Rattle.std.specs.Prelude.{ℕ, List, [], ◌∷◌, if◌then◌else◌, Option, Some, None, option_map, option_and_then}
+use Rattle.std.specs.Prelude.{ℕ, List, [], ◌∷◌, ◌&&◌, nat_le, if◌then◌else◌, Option, Some, None, option_map, option_and_then}
 use Rattle.std.specs.Str.{bytes_eq}
 use Rattle.serde_json.specs.Data.{Data, null, boolean, number, string, array, object, Items, no_items, item}
+use Rattle.serde_json.specs.Events.{items_len}
 use Rattle.serde_json.specs.Find.{get, as_array}
 
 infixl 10 ◌>>=◌
@@ -48,12 +49,12 @@ each_of kind (item d ds) = do
 unfoldable pub list_of : {A : Type 0} → (Data → Option A) → Data → Option (List A)
 list_of kind d = option_and_then (each_of kind) (as_array d)
 
--- the values of an array joined one after another
-unfoldable pub joined_of : {A : Type 0} → (A → A → A) → (Data → Option A) → A → Items → Option A
-joined_of join kind first no_items = Some first
-joined_of join kind first (item d ds) = do
-  x ← kind d
-  joined_of join kind (join first x) ds
+abbrev pub if_counted : ℕ → ℕ → Items → Option Items
+if_counted least most ds = if nat_le least (items_len ds) && nat_le (items_len ds) most then Some ds else None
+
+-- the values of an array that has at least and at most so many
+unfoldable pub elements_within : ℕ → ℕ → Data → Option Items
+elements_within least most d = option_and_then (if_counted least most) (as_array d)
 
 abbrev pub pair_in : {A B : Type 0} → (Data → Option A) → (Data → Option B) → Items → Option (A × B)
 pair_in first second (item a (item b no_items)) = do

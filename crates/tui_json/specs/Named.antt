@@ -8,7 +8,7 @@ use Rattle.serde_json.specs.Data.{Data}
 use Rattle.serde_json.specs.Find.{as_str}
 use Rattle.tui_cells.specs.Names.{IsParsed}
 use Rattle.tui_cells.specs.declared.error.ParseError.{ParseError}
-use Rattle.tui_schema.specs.Kinds.Members.{named}
+use Rattle.tui_json.specs.Members.{named}
 
 -- the first of these values that has this name
 abbrev pub first_named : {A : Type 0} → (A → List ℕ) → List A → List ℕ → Option A

@@ -3,17 +3,15 @@
 ghost use Rattle.std.specs.Prelude.{◌≡◌, Option};
 ghost use Rattle.serde_json.specs.Data.{Data};
 ghost use Rattle.serde_json.specs.View.{view};
-ghost use Rattle.tui_schema.specs.Kinds.{Reads};
-ghost use Rattle.tui_schema.specs.Refusals.{error_at};
+ghost use Rattle.tui_json.specs.Kinds.{Reads};
 
-use crate::error::SceneError;
-use crate::field::Field;
 use serde_json::Value;
 use std::alloc::{AllocError, AllocFailed, Global};
 use tui_cells::NoMemory;
 
-/// A type that is read from JSON in one way. What it reads borrows its texts from the value.
-pub(crate) trait Kind<'v>: Sized {
+/// A type that is read from JSON in one way, as a value of the fields `F`; texts are borrowed from the value. `F` is a type of the
+/// crate that has the fields, so that it can say how types of other crates are read.
+pub trait Kind<'v, F>: Sized {
     // What a value of this type stands for, as plain data.
     ghost Seen: { Type 0 };
 
@@ -22,33 +20,22 @@ pub(crate) trait Kind<'v>: Sized {
     // What the data of a JSON value is as this kind: None where it is not of it, anywhere inside.
     ghost kind: { Data → Option Seen };
 
+    /// The value as this kind. It is refused where it, or a value inside it, is not of its kind.
     fn read(alloc: Global, value: &'v Value) -> Result<Self, KindError>
         ensures { Reads seen result (kind (view value.now)) };
 }
 
 /// Why a value is not read as a kind.
 #[derive(Clone, Copy, Debug, PartialEq, Eq)]
-pub(crate) enum KindError {
+pub enum KindError {
     /// The value, or one inside it, is not of its kind.
     WrongKind,
     /// The memory that the value takes was not there.
     NoMemory,
 }
 
-impl KindError {
-    /// The refusal of the field that has the value.
-    pub(crate) fn at(self, item: Option<usize>, field: Field) -> SceneError
-        ensures { result ≡ error_at self item field }
-    {
-        match self {
-            KindError::WrongKind => SceneError::BadField { item, field },
-            KindError::NoMemory => SceneError::NoMemory,
-        }
-    }
-}
-
 impl From<NoMemory> for KindError {
-    ghost use Rattle.tui_schema.specs.declared.kinds.kind.KindError.TheVariants as errors;
+    ghost use Rattle.tui_json.specs.declared.kind.KindError.TheVariants as errors;
 
     ghost from_gives = { λ _ e. e ≡ errors.NoMemory };
 
@@ -58,7 +45,7 @@ impl From<NoMemory> for KindError {
 }
 
 impl From<AllocError> for KindError {
-    ghost use Rattle.tui_schema.specs.declared.kinds.kind.KindError.TheVariants as errors;
+    ghost use Rattle.tui_json.specs.declared.kind.KindError.TheVariants as errors;
 
     ghost from_gives = { λ _ e. e ≡ errors.NoMemory };
 
@@ -68,7 +55,7 @@ impl From<AllocError> for KindError {
 }
 
 impl<T: Drop> From<AllocFailed<T>> for KindError {
-    ghost use Rattle.tui_schema.specs.declared.kinds.kind.KindError.TheVariants as errors;
+    ghost use Rattle.tui_json.specs.declared.kind.KindError.TheVariants as errors;
 
     ghost from_gives = { λ _ e. e ≡ errors.NoMemory };
 

@@ -1,8 +1,7 @@
 -- Whole numbers and truth values.
-use Rattle.std.specs.Prelude.{ℕ, ℤ, pos, negsuc, ◌^◌, Option, Some, None, option_and_then, nat_lt, if◌then◌else◌}
-use Rattle.serde_json.specs.Data.{Data, Items, no_items, item}
+use Rattle.std.specs.Prelude.{ℕ, ℤ, pos, negsuc, ◌^◌, ◌&&◌, Option, Some, None, option_and_then, nat_le, nat_lt, if◌then◌else◌}
+use Rattle.serde_json.specs.Data.{Data}
 use Rattle.serde_json.specs.Find.{as_i64, as_number, as_u64}
-use Rattle.tui_schema.specs.Kinds.Members.{◌>>=◌}
 
 -- a whole number below 2^64; what is written with a fraction or an exponent is none
 abbrev pub u64_of : Data → Option ℕ
@@ -19,15 +18,12 @@ u16_of d = option_and_then (below 65536) (u64_of d)
 unfoldable pub u32_of : Data → Option ℕ
 u32_of d = option_and_then (below (2 ^ 32)) (u64_of d)
 
--- four numbers below 2^16
-abbrev pub four_in : {A : Type 0} → (ℕ → ℕ → ℕ → ℕ → A) → Items → Option A
-four_in make (item a (item b (item c (item d no_items)))) = do
-  first ← u16_of a
-  second ← u16_of b
-  third ← u16_of c
-  fourth ← u16_of d
-  Some (make first second third fourth)
-four_in make _ = None
+abbrev pub between : ℕ → ℕ → ℕ → Option ℕ
+between low high n = if nat_le low n && nat_le n high then Some n else None
+
+-- a whole number in a range that ends below 2^16
+unfoldable pub within : ℕ → ℕ → Data → Option ℕ
+within low high d = option_and_then (between low high) (u16_of d)
 
 -- a number from -limit up to limit - 1
 abbrev pub in_signed : ℕ → ℤ → Option ℤ

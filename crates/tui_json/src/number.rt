@@ -1,12 +1,16 @@
 //! Whole numbers and truth values.
 
-use crate::kinds::kind::{Kind, KindError};
+ghost use Rattle.std.specs.Prelude.{◌≡◌};
+ghost use Rattle.serde_json.specs.View.{view};
+ghost use Rattle.tui_json.specs.Number.{u16_of, u32_of, within};
+
+use crate::kind::{Kind, KindError};
 use serde_json::Value;
 use std::alloc::Global;
 
-impl<'v> Kind<'v> for u64 {
+impl<'v, F> Kind<'v, F> for u64 {
     ghost use Rattle.std.specs.Prelude.{ℕ};
-    ghost use Rattle.tui_schema.specs.Kinds.Number.{u64_of};
+    ghost use Rattle.tui_json.specs.Number.{u64_of};
 
     ghost Seen = { ℕ };
 
@@ -19,9 +23,30 @@ impl<'v> Kind<'v> for u64 {
     }
 }
 
-impl<'v> Kind<'v> for u16 {
+/// The number, where it is a whole one below 2^16.
+#[tactic(auto, unfolding(crate::specs::Number::u16_of))]
+pub(crate) fn u16_of(value: &Value) -> Option<u16>
+    ensures { result ≡ u16_of (view value.now) }
+{
+    match value.as_u64() {
+        Some(number) if number < 65536 => Some(number as u16),
+        _ => None,
+    }
+}
+
+/// The number, where it is a whole one below 2^32.
+#[tactic(auto, unfolding(crate::specs::Number::u32_of))]
+pub(crate) fn u32_of(value: &Value) -> Option<u32>
+    ensures { result ≡ u32_of (view value.now) }
+{
+    match value.as_u64() {
+        Some(number) if number < 4294967296 => Some(number as u32),
+        _ => None,
+    }
+}
+
+impl<'v, F> Kind<'v, F> for u16 {
     ghost use Rattle.std.specs.Prelude.{ℕ};
-    ghost use Rattle.tui_schema.specs.Kinds.Number.{u16_of};
 
     ghost Seen = { ℕ };
 
@@ -29,37 +54,36 @@ impl<'v> Kind<'v> for u16 {
 
     ghost kind = { u16_of };
 
-    #[tactic(auto, unfolding(crate::specs::Kinds::Number::u16_of))]
     fn read(_alloc: Global, value: &'v Value) -> Result<u16, KindError> {
-        match value.as_u64() {
-            Some(number) if number < 65536 => Ok(number as u16),
-            _ => Err(KindError::WrongKind),
-        }
+        u16_of(value).ok_or(KindError::WrongKind)
     }
 }
 
-impl<'v> Kind<'v> for u32 {
+/// A whole number from `LOW` to `HIGH`. Takes no memory.
+#[derive(Drop)]
+pub struct Within<const LOW: u16, const HIGH: u16>(pub u16);
+
+impl<'v, F, const LOW: u16, const HIGH: u16> Kind<'v, F> for Within<LOW, HIGH> {
     ghost use Rattle.std.specs.Prelude.{ℕ};
-    ghost use Rattle.tui_schema.specs.Kinds.Number.{u32_of};
 
     ghost Seen = { ℕ };
 
-    ghost seen = { λ n. n };
+    ghost seen = { λ n. n.0 };
 
-    ghost kind = { u32_of };
+    ghost kind = { within LOW HIGH };
 
-    #[tactic(auto, unfolding(crate::specs::Kinds::Number::u32_of))]
-    fn read(_alloc: Global, value: &'v Value) -> Result<u32, KindError> {
-        match value.as_u64() {
-            Some(number) if number < 4294967296 => Ok(number as u32),
+    #[tactic(auto, unfolding(crate::specs::Number::within))]
+    fn read(_alloc: Global, value: &'v Value) -> Result<Within<LOW, HIGH>, KindError> {
+        match u16_of(value) {
+            Some(number) if LOW <= number && number <= HIGH => Ok(Within(number)),
             _ => Err(KindError::WrongKind),
         }
     }
 }
 
-impl<'v> Kind<'v> for i8 {
+impl<'v, F> Kind<'v, F> for i8 {
     ghost use Rattle.std.specs.Prelude.{ℤ};
-    ghost use Rattle.tui_schema.specs.Kinds.Number.{i8_of};
+    ghost use Rattle.tui_json.specs.Number.{i8_of};
 
     ghost Seen = { ℤ };
 
@@ -67,7 +91,7 @@ impl<'v> Kind<'v> for i8 {
 
     ghost kind = { i8_of };
 
-    #[tactic(auto, unfolding(crate::specs::Kinds::Number::i8_of))]
+    #[tactic(auto, unfolding(crate::specs::Number::i8_of))]
     fn read(_alloc: Global, value: &'v Value) -> Result<i8, KindError> {
         match value.as_i64() {
             Some(number) => i8::try_from(number).map_err(|_| KindError::WrongKind),
@@ -76,9 +100,9 @@ impl<'v> Kind<'v> for i8 {
     }
 }
 
-impl<'v> Kind<'v> for i16 {
+impl<'v, F> Kind<'v, F> for i16 {
     ghost use Rattle.std.specs.Prelude.{ℤ};
-    ghost use Rattle.tui_schema.specs.Kinds.Number.{i16_of};
+    ghost use Rattle.tui_json.specs.Number.{i16_of};
 
     ghost Seen = { ℤ };
 
@@ -86,7 +110,7 @@ impl<'v> Kind<'v> for i16 {
 
     ghost kind = { i16_of };
 
-    #[tactic(auto, unfolding(crate::specs::Kinds::Number::i16_of))]
+    #[tactic(auto, unfolding(crate::specs::Number::i16_of))]
     fn read(_alloc: Global, value: &'v Value) -> Result<i16, KindError> {
         match value.as_i64() {
             Some(number) => i16::try_from(number).map_err(|_| KindError::WrongKind),
@@ -95,9 +119,9 @@ impl<'v> Kind<'v> for i16 {
     }
 }
 
-impl<'v> Kind<'v> for i32 {
+impl<'v, F> Kind<'v, F> for i32 {
     ghost use Rattle.std.specs.Prelude.{ℤ};
-    ghost use Rattle.tui_schema.specs.Kinds.Number.{i32_of};
+    ghost use Rattle.tui_json.specs.Number.{i32_of};
 
     ghost Seen = { ℤ };
 
@@ -105,7 +129,7 @@ impl<'v> Kind<'v> for i32 {
 
     ghost kind = { i32_of };
 
-    #[tactic(auto, unfolding(crate::specs::Kinds::Number::i32_of))]
+    #[tactic(auto, unfolding(crate::specs::Number::i32_of))]
     fn read(_alloc: Global, value: &'v Value) -> Result<i32, KindError> {
         match value.as_i64() {
             Some(number) => i32::try_from(number).map_err(|_| KindError::WrongKind),
@@ -114,7 +138,7 @@ impl<'v> Kind<'v> for i32 {
     }
 }
 
-impl<'v> Kind<'v> for bool {
+impl<'v, F> Kind<'v, F> for bool {
     ghost use Rattle.std.specs.Prelude.{Bool};
     ghost use Rattle.serde_json.specs.Find.{as_bool};
 

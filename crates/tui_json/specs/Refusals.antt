@@ -1,0 +1,50 @@
+-- The first field whose test fails. R is what may refuse, which is the program's own: mostly a place and a field.
+use Rattle.std.specs.Prelude.{◌≡◌, ℕ, ◌+◌, List, [], ◌∷◌, Option, Some, None, Result, Ok, Err}
+use Rattle.serde_json.specs.Data.{Data, Items, no_items, item}
+use Rattle.tui_json.specs.Members.{given_member, member, optional_member}
+use Rattle.tui_json.specs.declared.kind.KindError.{KindError}
+use Rattle.tui_json.specs.declared.kind.KindError.TheVariants as kinds
+
+-- one test after the other
+infixl 10 ◌>>=◌
+abbrev pub ◌>>=◌ : {A B R : Type 0} → Result A R → (A → Result B R) → Result B R
+(Ok x) >>= f = f x
+(Err e) >>= f = Err e
+
+abbrev pub Refuses : {Y R : Type 0} → Option R → Result Y R → Type 0
+Refuses None tests = Unit {0}
+Refuses (Some refusal) tests = tests ≡ Err refusal
+
+-- what a reader answers, seen by view, is what the tests give; an error that refuses nothing is want of memory
+abbrev pub Gives : {X Y E R : Type 0} → (X → Y) → (E → Option R) → Result X E → Result Y R → Type 0
+Gives view refused (Ok x) tests = tests ≡ Ok (view x)
+Gives view refused (Err e) tests = Refuses (refused e) tests
+
+-- a refusal, where a value is not of its kind
+abbrev pub unless_memory : {R : Type 0} → KindError → R → Option R
+unless_memory kinds.WrongKind refusal = Some refusal
+unless_memory kinds.NoMemory refusal = None
+
+abbrev pub or_refuse : {A R : Type 0} → R → Option A → Result A R
+or_refuse refusal None = Err refusal
+or_refuse refusal (Some x) = Ok x
+
+-- a field that has to be there
+abbrev pub required : {A R : Type 0} → (Data → Option A) → List ℕ → R → Data → Result A R
+required kind key refusal d = or_refuse refusal (member kind key d)
+
+-- a field that may be absent or null
+abbrev pub optional : {A R : Type 0} → (Data → Option A) → List ℕ → R → Data → Result (Option A) R
+optional kind key refusal d = or_refuse refusal (optional_member kind key d)
+
+-- a field that may be absent, and for which null is a value
+abbrev pub given : {A R : Type 0} → (Data → Option A) → List ℕ → R → Data → Result (Option A) R
+given kind key refusal d = or_refuse refusal (given_member kind key d)
+
+-- the values of an array from number i on, each tested with its number
+unfoldable pub numbered : {A R : Type 0} → (ℕ → Data → Result A R) → ℕ → Items → Result (List A) R
+numbered tests i no_items = Ok []
+numbered tests i (item d ds) = do
+  first ← tests i d
+  rest ← numbered tests (i + 1) ds
+  Ok (first ∷ rest)

@@ -1,0 +1,22 @@
+//! The inputs of programs in JSON: kinds of value, the members of an object, and the first field whose test fails.
+#![tactic(auto)]
+
+mod array;
+mod constraint;
+mod fields;
+mod kind;
+mod members;
+mod named;
+mod number;
+mod numbered;
+mod text;
+
+pub use array::{Counted, each, elements};
+pub use constraint::constraint_of;
+pub use fields::{Fields, given, optional, required};
+pub use kind::{Kind, KindError};
+pub use members::{given_member, member, optional_member};
+pub use named::{Named, by_name};
+pub use number::Within;
+pub use numbered::{Numbered, each_numbered};
+pub use text::Short;

@@ -1,0 +1,43 @@
+//! Texts.
+
+use crate::kind::{Kind, KindError};
+use serde_json::Value;
+use std::alloc::Global;
+
+impl<'v, F> Kind<'v, F> for &'v str {
+    ghost use Rattle.std.specs.Prelude.{ℕ, List};
+    ghost use Rattle.serde_json.specs.Find.{as_str};
+
+    ghost Seen = { List ℕ };
+
+    ghost seen = { λ text. text.now };
+
+    ghost kind = { as_str };
+
+    fn read(_alloc: Global, value: &'v Value) -> Result<&'v str, KindError> {
+        value.as_str().ok_or(KindError::WrongKind)
+    }
+}
+
+/// A text of at most `MOST` bytes. Takes no memory.
+#[derive(Drop)]
+pub struct Short<'v, const MOST: usize>(pub &'v str);
+
+impl<'v, F, const MOST: usize> Kind<'v, F> for Short<'v, MOST> {
+    ghost use Rattle.std.specs.Prelude.{ℕ, List};
+    ghost use Rattle.tui_json.specs.Text.{short};
+
+    ghost Seen = { List ℕ };
+
+    ghost seen = { λ text. text.0.now };
+
+    ghost kind = { short MOST };
+
+    #[tactic(auto, unfolding(crate::specs::Text::short))]
+    fn read(_alloc: Global, value: &'v Value) -> Result<Short<'v, MOST>, KindError> {
+        match value.as_str() {
+            Some(text) if text.len() <= MOST => Ok(Short(text)),
+            _ => Err(KindError::WrongKind),
+        }
+    }
+}
