@@ -11,7 +11,7 @@ use Rattle.tui_port.specs.Print.{IsPrint}
 use Rattle.tui_schema.specs.Scene.{SceneData, scene_of}
 use Rattle.tui_shell.specs.Commands.{AreDemo, AreScene, AreWrong}
 use Rattle.tui_shell.specs.Demo.{IsDemo}
-use Rattle.tui_shell.specs.Drawn.{IsDrawn}
+use Rattle.tui_scene.specs.Drawn.{IsDrawn}
 use Rattle.tui_shell.specs.Refusal.{field_line}
 use Rattle.tui_shell.specs.declared.ended.Ended.{Ended}
 use Rattle.tui_shell.specs.declared.ended.Ended.TheVariants as ended

@@ -1,6 +1,5 @@
 pub mod Refusal
 pub mod Commands
-pub mod Drawn
 pub mod Demo
 pub mod Endings
 pub mod Complete

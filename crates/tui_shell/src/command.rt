@@ -8,7 +8,6 @@ ghost use Rattle.tui_shell.specs.Complete.{IsComplete, IsCompleteDemo};
 ghost use Rattle.tui_shell.specs.Endings.{Ends, EndsWith, IsDueFor, IsDueOf, call_of};
 
 use crate::demo::show_demo;
-use crate::drawing::drawn;
 use crate::ended::Ended;
 use crate::json::{JsonError, json_of};
 use crate::leftovers::Leftovers;
@@ -18,6 +17,7 @@ use serde_json::Value;
 use std::alloc::Global;
 use tui_cells::NoMemory;
 use tui_port::{ReadEnd, Sink, Source, put_if, read_all, write_screen};
+use tui_scene::draw_new;
 use tui_schema::{Reading, SceneError, scene_of};
 
 /// Runs the command that the words name: `scene` alone reads a scene in JSON (docs/SCENE.md) from the source, draws it and
@@ -119,7 +119,7 @@ fn show_scene<K: Sink>(
 ) -> Ended
     ensures { EndsWith (IsDueOf (reading_data reading.old)) (K.told sink.old) (K.told sink.new) result }
 {
-    match drawn(alloc, reading.width, reading.height, &mut reading.scene) {
+    match draw_new(alloc, reading.width, reading.height, &mut reading.scene) {
         Ok(buffer) => {
             let all = write_screen(&buffer, &reading.scene, sink).is_ok();
             leftovers.done_with(buffer);

@@ -1,6 +1,7 @@
 //! What holds of all drawn scenes.
 
-ghost use Rattle.tui_shell.specs.Laws.{DemoIsUnique, DrawingIsUnique, OutputIsUnique};
+ghost use Rattle.tui_scene.specs.Laws.{DrawingIsUnique};
+ghost use Rattle.tui_shell.specs.Laws.{DemoIsUnique, OutputIsUnique};
 
 use tui_para::text_wraps_exactly_once;
 use tui_port::print_laws;

@@ -3,7 +3,6 @@
 
 pub mod command;
 mod demo;
-mod drawing;
 pub mod ended;
 mod json;
 mod laws;

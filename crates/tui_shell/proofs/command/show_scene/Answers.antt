@@ -11,4 +11,4 @@ returns-in-Ok g c =
     let w = c.write_screen.ensures in
     let puts = puts_of _ _ c.write_screen.result w.0 w.2 in
     rw (c.if_put.ensures, c.is_ok-all.ensures.value) (written (IsDueOf (reading_data c.args.reading.now)) (is_ok c.write_screen.result) ended.Ok w.0 _ _ refl
-    (c.drawn.new.scene, c.in-Ok.buffer, c.in-Ok.ensures, w.1) puts)
+    (c.draw_new.new.scene, c.in-Ok.buffer, c.in-Ok.ensures.drawn, w.1) puts)
