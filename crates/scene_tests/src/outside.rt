@@ -4,7 +4,7 @@ use std::alloc::Global;
 use std::io;
 use std::io::{Cursor, ErrorKind, Read};
 use tui_cells::{Buffer, Mem, Rect};
-use tui_port::{MemSink, ReadEnd, StdSink, StdSource, WriteFault, put_all, read_all, write_screen};
+use tui_port::{MemSink, Print, ReadEnd, StdSink, StdSource, WriteFault, put_all, read_all, write_screen};
 use tui_scene::Scene;
 
 /// Gives one byte at the first read, and fails from then on.
@@ -79,5 +79,26 @@ fn a_print_is_put_in_long_pieces(rt: HostRuntime) -> Mem<()> {
         let found = blank_print(rt.alloc(), Rect::new(0, 0, width, height), room, failing)?;
         assert!(&rt; found == (held == whole, held), "of {held}");
     }
+    Ok(())
+}
+
+/// What two prints of a text, a number, a place and a row leave in a sink, of which the first is put before the second begins.
+fn printed_twice(alloc: Global, sink: &mut MemSink) -> Mem<bool> {
+    let buf = Buffer::empty(alloc, Rect::new(0, 0, 2, 1))?;
+    let mut print = Print::new();
+    print.text(sink, "page ");
+    print.number(sink, 1);
+    print.rows(sink, &buf);
+    let first = print.end(sink);
+    print.place(sink, None);
+    print.place(sink, Some(23));
+    Ok(first && print.end(sink))
+}
+
+#[test]
+fn a_print_goes_on(rt: HostRuntime) -> Mem<()> {
+    let mut sink = MemSink::new(rt.alloc(), 64, Vec::new(rt.alloc()))?;
+    assert!(&rt; printed_twice(rt.alloc(), &mut sink)?);
+    assert!(&rt; sink.bytes() == b"page 1r   \n-23".as_slice());
     Ok(())
 }

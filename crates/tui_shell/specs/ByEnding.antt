@@ -8,7 +8,7 @@ use Rattle.tui_run.specs.Call.{Call, ReadJson, ReadPast, ReadWhole, ReadWithin, 
 use Rattle.tui_schema.specs.Scene.{SceneData, scene_of}
 use Rattle.tui_shell.specs.Commands.{AreDemo, AreScene, AreWrong}
 use Rattle.tui_shell.specs.Demo.{IsDemo}
-use Rattle.tui_shell.specs.Drawn.{IsShown}
+use Rattle.tui_shell.specs.Shown.{IsShown}
 use Rattle.tui_shell.specs.Endings.{Ends}
 use Rattle.tui_shell.specs.Refusal.{field_line}
 use Rattle.tui_shell.specs.declared.ended.Ended.{Ended}

@@ -9,7 +9,7 @@ use Rattle.tui_schema.specs.Refusals.{Refusal}
 use Rattle.tui_schema.specs.Scene.{SceneData, scene_of}
 use Rattle.tui_shell.specs.Commands.{AreDemo, AreScene, Names}
 use Rattle.tui_shell.specs.Demo.{IsDemo}
-use Rattle.tui_shell.specs.Drawn.{IsShown}
+use Rattle.tui_shell.specs.Shown.{IsShown}
 use Rattle.tui_shell.specs.Ended.{ending_of}
 use Rattle.tui_shell.specs.Refusal.{field_line}
 use Rattle.tui_shell.specs.declared.bad_field.BadField.{BadField}

@@ -1,6 +1,6 @@
 pub mod Refusal
 pub mod Commands
-pub mod Drawn
+pub mod Shown
 pub mod Demo
 pub mod Ended
 pub mod Endings

@@ -2,11 +2,10 @@
 
 ghost use Rattle.tui_run.specs.Endings.{AnswersWith, no_refusal, nothing};
 ghost use Rattle.tui_schema.specs.Scene.{reading_data};
-ghost use Rattle.tui_shell.specs.Drawn.{IsShown};
+ghost use Rattle.tui_shell.specs.Shown.{IsShown};
 
 use crate::bad_field::BadField;
 use crate::demo::show_demo;
-use crate::drawing::drawn;
 use crate::refusal::put_field;
 use serde_json::Value;
 use std::alloc::Global;
@@ -14,6 +13,7 @@ use tui_port::{Sink, Source, write_screen};
 use tui_run::{
     Command, Ending, Job, Leftovers, Numerals, Stop, is_word, number_after, run_json, told,
 };
+use tui_scene::draw_new;
 use tui_schema::{Reading, SceneError, scene_of};
 
 /// A command of the program.
@@ -102,7 +102,7 @@ fn show_scene<K: Sink>(
 ) -> Result<(), Stop<BadField>>
     ensures { AnswersWith (IsShown (reading_data reading.old)) nothing no_refusal (K.told sink.old) (K.told sink.new) result }
 {
-    let buffer = drawn(alloc, reading.width, reading.height, &mut reading.scene)?;
+    let buffer = draw_new(alloc, reading.width, reading.height, &mut reading.scene)?;
     write_screen(&buffer, &reading.scene, sink)?;
     leftovers.done_with(buffer);
     Ok(())

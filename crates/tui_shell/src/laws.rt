@@ -1,7 +1,8 @@
 //! What holds of all drawn scenes, and of all endings.
 
+ghost use Rattle.tui_scene.specs.Laws.{DrawingIsUnique};
 ghost use Rattle.tui_shell.specs.ByEnding.{SaysTheSame};
-ghost use Rattle.tui_shell.specs.Laws.{DemoIsUnique, DrawingIsUnique, OutputIsUnique};
+ghost use Rattle.tui_shell.specs.Laws.{DemoIsUnique, OutputIsUnique};
 
 use tui_para::text_wraps_exactly_once;
 use tui_port::print_laws;

@@ -4,7 +4,6 @@
 mod bad_field;
 mod command;
 mod demo;
-mod drawing;
 mod ended;
 mod laws;
 mod program;
