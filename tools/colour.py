@@ -55,7 +55,8 @@ def main():
 try:
     main()
 except OSError as error:
-    print(f"colour.py: {error.strerror}", file=sys.stderr)
+    if not isinstance(error, BrokenPipeError):
+        print("show: cannot write to standard output", file=sys.stderr)
     # What could not be written is not tried again at the end.
     os.dup2(os.open(os.devnull, os.O_WRONLY), 1)
     sys.exit(7)
