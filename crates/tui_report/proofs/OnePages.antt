@@ -38,15 +38,15 @@ all_adjacent_of R (x ∷ y ∷ xs) a (suc k) d h =
 
 -- parts of what holds of all pieces
 
-all_front : {A : Type 0} (P : A → Type 0) (xs ys : List A) → AllByRecursion P (xs ++ ys) → AllByRecursion P xs
+pub all_front : {A : Type 0} (P : A → Type 0) (xs ys : List A) → AllByRecursion P (xs ++ ys) → AllByRecursion P xs
 all_front P [] ys a = tt
 all_front P (x ∷ xs) ys a = (a.0, all_front P xs ys a.1)
 
-all_back : {A : Type 0} (P : A → Type 0) (xs ys : List A) → AllByRecursion P (xs ++ ys) → AllByRecursion P ys
+pub all_back : {A : Type 0} (P : A → Type 0) (xs ys : List A) → AllByRecursion P (xs ++ ys) → AllByRecursion P ys
 all_back P [] ys a = a
 all_back P (x ∷ xs) ys a = all_back P xs ys a.1
 
-all_weaker : {A : Type 0} (P Q : A → Type 0) (xs : List A) → ((x : A) → P x → Q x) → AllByRecursion P xs → AllByRecursion Q xs
+pub all_weaker : {A : Type 0} (P Q : A → Type 0) (xs : List A) → ((x : A) → P x → Q x) → AllByRecursion P xs → AllByRecursion Q xs
 all_weaker P Q [] f a = tt
 all_weaker P Q (x ∷ xs) f a = (f x a.0, all_weaker P Q xs f a.1)
 
@@ -120,11 +120,11 @@ filled_of all room before ((p ∷ page) ∷ next ∷ pages) f fit some within en
     )
 
 -- what the definition says of pages, as recursions
-record Known (heights : List ℕ) (room : ℕ) (pages : List (List Piece)) : Type 0 where
-  cuts : Cuts room 0 0 heights (joined pages)
-  filled : Filled size_of room pages
+pub record Known (heights : List ℕ) (room : ℕ) (pages : List (List Piece)) : Type 0 where
+  pub cuts : Cuts room 0 0 heights (joined pages)
+  pub filled : Filled size_of room pages
 
-known_of : (heights : List ℕ) (room : ℕ) (pages : List (List Piece)) → Heights heights → 0 < length heights
+pub known_of : (heights : List ℕ) (room : ℕ) (pages : List (List Piece)) → Heights heights → 0 < length heights
     → ArePages heights room pages → Known heights room pages
 known_of heights room pages high some are =
     let within = all_weaker (IsPage heights room) (λ page. lines_on page ≤ room) pages (λ page k. k.within) (recursion_from_All (IsPage heights room) pages are.each_page) in
