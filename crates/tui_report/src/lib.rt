@@ -1,0 +1,21 @@
+//! Reports: records of texts in columns, cut into pages.
+#![tactic(auto)]
+
+pub mod column;
+mod drawing;
+mod filling;
+mod laws;
+mod measuring;
+pub mod pages;
+pub mod piece;
+pub mod records;
+pub mod report;
+pub mod report_error;
+
+pub use column::Column;
+pub use laws::page_laws;
+pub use pages::Pages;
+pub use piece::Piece;
+pub use records::Record;
+pub use report::Report;
+pub use report_error::ReportError;
