@@ -1,5 +1,5 @@
 -- The items, the paragraph and the scene of a demonstration.
-use Rattle.std.specs.Prelude.{◌≡◌, ℕ, ◌+◌, ◌/◌, ◌%◌, List, [], ◌∷◌, length, map, Some, true}
+use Rattle.std.specs.Prelude.{◌≡◌, ℕ, ◌+◌, ◌/◌, ◌%◌, List, [], ◌∷◌, length, map, Some, false, true}
 use Rattle.std.specs.List.{range_with_len, repeat}
 use Rattle.tui_cells.specs.Rect.{area_of}
 use Rattle.tui_cells.specs.Style.{no_style}

@@ -13,7 +13,7 @@ use Rattle.tui_para.specs.Lines.{GlyphLine}
 use Rattle.tui_para.specs.Paragraph.{ParagraphData, block_rows}
 use Rattle.tui_para.specs.Wrapped.{IsTheOne}
 use Rattle.tui_para.specs.WrappedText.{WrappedText, wrap_text}
-use Rattle.tui_report.specs.Heights.{IsFirstTooTall, heights_of, line_count, most_lines, record_height}
+use Rattle.tui_report.specs.Heights.{IsFirstTooTall, heights_of, line_count, most_lines, record_height, trimmed}
 use Rattle.tui_report.specs.Strokes.{cell_from}
 use Rattle.tui_text.specs.Text.{raw_text}
 use Rattle.tui_text.specs.Width.{saturated}
@@ -29,13 +29,13 @@ some_test w h = grind (arith, nat_tests)
 abbrev CountsWrapped : {E : Type 0} → ℕ → Result ℕ E → ParagraphData → Type 0
 CountsWrapped w count p =
     IfSome p.wrap (λ wrap. (lines : List GlyphLine) →
-    WrappedText w wrap.trim p.alignment p.text lines → count ≡ Ok (beside (saturated (length lines)) (block_rows p)))
+    WrappedText w wrap p.alignment p.text lines → count ≡ Ok (beside (saturated (length lines)) (block_rows p)))
 
 pub counted : {E : Type 0} (w : ℕ) (count : Result ℕ E) (p : ParagraphData) (cell : List ℕ) → p ≡ cell_from 0 cell →
-    (0 < w → IsTheOne (WrappedText w true Left (raw_text cell)) (wrap_text w true Left (raw_text cell))) →
+    (0 < w → IsTheOne (WrappedText w trimmed Left (raw_text cell)) (wrap_text w trimmed Left (raw_text cell))) →
     (w ≡ 0 → count ≡ Ok 0) → (0 < w → CountsWrapped w count p) → IfOk count (λ n. n ≡ saturated (line_count w cell))
 counted w count p cell is once none wrapped =
-    let lines = wrap_text w true Left (raw_text cell) in
+    let lines = wrap_text w trimmed Left (raw_text cell) in
     elim (cases_lt 0 w) [
       | inl some ↦
           rw (subst (CountsWrapped w count) is (wrapped some) lines (once some).meets)

@@ -1,22 +1,17 @@
 -- The strokes of a page.
-use Rattle.std.specs.Prelude.{ℕ, ◌+◌, ◌-◌, ◌<◌, ◌≤◌, true, List, [], ◌∷◌, ◌++◌, length, Some, flat_map, zip, slice_index_or, codes, decimal}
+use Rattle.std.specs.Prelude.{ℕ, ◌+◌, ◌-◌, ◌<◌, ◌≤◌, List, [], ◌∷◌, ◌++◌, length, Some, flat_map, zip, slice_index_or, codes, decimal}
 use Rattle.tui_cells.specs.Layers.{Layer}
 use Rattle.tui_cells.specs.Rect.{area_of, columns_from, intersection_of, rows_from}
 use Rattle.tui_cells.specs.declared.rect.Rect.{Rect}
 use Rattle.tui_layout.specs.declared.segment.Segment.{Segment}
 use Rattle.tui_para.specs.Paragraph.{ParagraphData, paragraph_of}
 use Rattle.tui_para.specs.Rendering.{paragraph_layers}
-use Rattle.tui_para.specs.declared.wrap.Wrap.{Wrap}
-use Rattle.tui_report.specs.Heights.{most_lines}
+use Rattle.tui_report.specs.Heights.{most_lines, trimmed}
 use Rattle.tui_report.specs.Pages.{size_of}
 use Rattle.tui_report.specs.Report.{ColumnData, ReportData, places_of}
 use Rattle.tui_report.specs.declared.piece.Piece.{Piece}
 use Rattle.tui_text.specs.Text.{raw_text}
 use Rattle.tui_text.specs.declared.alignment.Alignment.TheVariants.{Right}
-
--- lines without the blanks at which they break
-abbrev pub trimmed : Wrap
-trimmed = record { trim = true }
 
 -- a text, not wrapped
 abbrev pub plain : List ℕ → ParagraphData

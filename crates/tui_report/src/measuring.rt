@@ -24,7 +24,10 @@ pub(crate) fn cell_paragraph<'a>(alloc: Global, cell: &'a str, line: u16) -> Mem
     let text = Text::raw(alloc, cell)?;
     Ok(
         Paragraph::new(text)
-            .wrap(Wrap { trim: true })
+            .wrap(Wrap {
+                trim: true,
+                hyphens: false,
+            })
             .scroll((line, 0)),
     )
 }
