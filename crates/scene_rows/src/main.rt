@@ -2,10 +2,12 @@
 //! with its name and its status, and what the run has written. A line that is no row ends it with status 1.
 #![tactic(auto)]
 
+mod each;
 mod report;
 mod row;
 mod run;
 
+use crate::each::run_each;
 use crate::report::report;
 use crate::row::Row;
 use crate::run::run;
@@ -30,8 +32,14 @@ fn main(rt: HostRuntime) -> Result<()> {
 
 fn run_line<W: Write>(alloc: Global, line: &str, out: &mut W) -> Result<()> {
     let row: Row = serde_json::from_str(alloc, line)?;
-    let input = row.input(alloc)?;
-    let (ended, sink) = run(alloc, &row, input)?;
+    match row.each {
+        Some(each) => run_each(alloc, &row, each, out),
+        None => run_once(alloc, &row, out),
+    }
+}
+
+fn run_once<W: Write>(alloc: Global, row: &Row, out: &mut W) -> Result<()> {
+    let (ended, sink) = run(alloc, &row.words, row.given(alloc)?)?;
     report(out, &row.name, ended, sink.bytes())?;
     Ok(())
 }

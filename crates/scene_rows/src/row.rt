@@ -20,12 +20,35 @@ pub(crate) struct Row {
     input_parts: Option<Vec<(String, u64)>>,
     /// The numbers of the reads that fail, from 1.
     #[serde(default)]
-    pub(crate) reads: Vec<u64>,
+    reads: Vec<u64>,
     /// The numbers of the puts that fail, from 1.
     #[serde(default)]
-    pub(crate) puts: Vec<u64>,
+    puts: Vec<u64>,
     /// How many bytes the sink has room for.
     #[serde(default = "ample_room")]
+    room: usize,
+    /// What changes from run to run, where the row is run again and again.
+    pub(crate) each: Option<Each>,
+}
+
+/// What changes from run to run.
+#[derive(Clone, Copy, Deserialize)]
+#[serde(rename_all = "lowercase")]
+pub(crate) enum Each {
+    /// The input is cut: to no byte, to the first one, and so on to all but the last.
+    Cut,
+    /// A put fails: the first one alone, the second one alone, and so on until none does.
+    Put,
+    /// The sink has room for no byte, for one, and so on to all but the last of the output.
+    Room,
+}
+
+/// What a run reads, and what fails in it.
+#[derive(Drop)]
+pub(crate) struct Given {
+    pub(crate) input: Vec<u8>,
+    pub(crate) reads: Vec<u64>,
+    pub(crate) puts: Vec<u64>,
     pub(crate) room: usize,
 }
 
@@ -34,8 +57,18 @@ fn ample_room() -> usize {
 }
 
 impl Row {
+    /// What the row's run reads, and what fails in it.
+    pub(crate) fn given(&self, alloc: Global) -> Result<Given> {
+        Ok(Given {
+            input: self.input(alloc)?,
+            reads: self.reads.clone()?,
+            puts: self.puts.clone()?,
+            room: self.room,
+        })
+    }
+
     /// The bytes of the input, which stands in one form at most; none without it.
-    pub(crate) fn input(&self, alloc: Global) -> Result<Vec<u8>> {
+    fn input(&self, alloc: Global) -> Result<Vec<u8>> {
         match (&self.input, &self.input_hex, &self.input_parts) {
             (None, None, None) => Ok(Vec::new(alloc)),
             (Some(text), None, None) => Ok(Vec::from_slice(alloc, text.as_bytes())?),
