@@ -1,0 +1,13 @@
+//! The program `tui_pages`: it reads a report in JSON from standard input and writes its pages to standard output.
+#![tactic(auto)]
+
+use std::process::ExitCode;
+use std::{env, io};
+use tui_port::{StdSink, StdSource};
+use tui_sheets::run_program;
+
+fn main(rt: HostRuntime) -> ExitCode {
+    let mut source = StdSource::new(rt.reader());
+    let mut sink = StdSink::new(io::writer(&rt));
+    run_program(rt.alloc(), env::args(&rt), &mut source, &mut sink).exit_code()
+}

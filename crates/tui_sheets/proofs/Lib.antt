@@ -1,0 +1,4 @@
+pub mod Commands
+pub mod PageRows
+pub mod Pages
+pub mod TooTall

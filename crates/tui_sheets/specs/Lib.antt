@@ -1,0 +1,5 @@
+pub mod Refusals
+pub mod Input
+pub mod Printed
+pub mod Ended
+pub mod Rules

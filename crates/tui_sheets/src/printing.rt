@@ -1,0 +1,116 @@
+//! The pages as they are written.
+
+ghost use Rattle.std.specs.Prelude.{◌≡◌, ◌<◌, Bool, Err, OnOk, if◌then◌else◌, length, true};
+ghost use Rattle.tui_port.specs.Causes.{Puts};
+ghost use Rattle.tui_port.specs.Gathers.{Gathers};
+ghost use Rattle.tui_report.specs.Strokes.{page_area};
+ghost use Rattle.tui_run.specs.Endings.{AnswersWith, no_refusal, nothing};
+ghost use Rattle.tui_run.specs.declared.stop.Stop.TheVariants as stop;
+ghost use Rattle.tui_sheets.specs.Printed.{AreAllPages, AreFewerPages, count_line, page_rows, page_text};
+
+use crate::refusal::PagesRefusal;
+use std::alloc::Global;
+use tui_cells::{Buffer, Mem, NoMemory, Rect};
+use tui_port::{Print, Sink};
+use tui_report::Report;
+use tui_run::Stop;
+
+/// Writes the pages, which are drawn one at a time into one buffer and gathered over them. Where memory ends, the pages before are
+/// put.
+pub(crate) fn print_pages<K: Sink>(
+    alloc: Global,
+    area: Rect,
+    report: &Report<'_>,
+    sink: &mut K,
+) -> Result<(), Stop<PagesRefusal>>
+    requires { area ≡ page_area report.now }
+    ensures { AnswersWith (AreAllPages report.now) (AreFewerPages report.now) no_refusal (K.told sink.old) (K.told sink.new) result }
+{
+    let mut page = Buffer::empty(alloc, area)?;
+    let mut print = Print::new();
+    'pages: for at in 0..report.page_count() {
+        match draw_blank(alloc, area, report, at, &mut page) {
+            Ok(()) => put_page(&mut print, sink, report, at, &page),
+            Err(NoMemory) => return ended(&mut print, sink, Err(Stop::NoMemory)),
+        }
+    }
+    ended(&mut print, sink, Ok(()))
+}
+
+/// Puts what is gathered: a fault is the answer, and else the answer that is given.
+fn ended<K: Sink>(
+    print: &mut Print,
+    sink: &mut K,
+    answer: Result<(), Stop<PagesRefusal>>,
+) -> Result<(), Stop<PagesRefusal>>
+    ensures { (goes : Bool) × Puts (K.told sink.old) (K.told sink.new) print.old.going goes print.old.bytes
+        × (result ≡ (if goes then answer else Err stop.WriteFault)) }
+{
+    if print.end(sink) {
+        answer
+    } else {
+        Err(Stop::WriteFault)
+    }
+}
+
+/// Draws a page on the buffer, all of whose cells are made blank before.
+fn draw_blank(
+    alloc: Global,
+    area: Rect,
+    report: &Report<'_>,
+    at: usize,
+    page: &mut Buffer,
+) -> Mem<()>
+    requires sheet { area ≡ page_area report.now }
+    requires same { page.old.area ≡ page_area report.now }
+    requires within { at < length report.now.pages }
+    ensures area { page.new.area ≡ page_area report.now }
+    ensures rows { OnOk result (page.new.rows ≡ page_rows report.now at) }
+{
+    page.reset(area);
+    report.draw_page(alloc, at, page)?;
+    // The shape of the rows is told by their count.
+    let _height = page.height();
+    Ok(())
+}
+
+/// Adds a page to the print.
+fn put_page<K: Sink>(
+    print: &mut Print,
+    sink: &mut K,
+    report: &Report<'_>,
+    at: usize,
+    page: &Buffer,
+)
+    requires within { at < length report.now.pages }
+    requires drawn { page.now.rows ≡ page_rows report.now at }
+    ensures { Gathers (K.told sink.old) (K.told sink.new) print.old print.new (page_text report.now at) }
+{
+    print.text(sink, "p ");
+    print.number(sink, at + 1);
+    print.text(sink, " ");
+    print.number(sink, report.page_count());
+    print.text(sink, "\n");
+    print.rows(sink, page);
+}
+
+/// Writes how many pages there are.
+pub(crate) fn print_count<K: Sink>(report: &Report<'_>, sink: &mut K) -> Result<(), Stop<PagesRefusal>>
+    ensures { AnswersWith (λ text. text ≡ count_line report.now) nothing no_refusal (K.told sink.old) (K.told sink.new) result }
+{
+    if put_count(report, sink) {
+        Ok(())
+    } else {
+        Err(Stop::WriteFault)
+    }
+}
+
+fn put_count<K: Sink>(report: &Report<'_>, sink: &mut K) -> bool
+    ensures { Puts (K.told sink.old) (K.told sink.new) true result (count_line report.now) }
+{
+    let mut print = Print::new();
+    print.text(sink, "pages ");
+    print.number(sink, report.page_count());
+    print.text(sink, "\n");
+    print.end(sink)
+}
