@@ -39,6 +39,7 @@ required_least low high key refusal d n is = by_member (get key d) is
     by_found : (o : Option ℕ) → ((m : ℕ) → o ≡ Some m → low ≤ m) → or_refuse refusal o ≡ Ok n → low ≤ n
     by_found (Some m) least found = let same : m ≡ n = cc in subst (λ (k : ℕ). low ≤ k) same (least m refl)
     by_found None least found = absurd cc
+
     by_member : (o : Option Data) → or_refuse refusal (option_and_then (within low high) o) ≡ Ok n → low ≤ n
     by_member (Some found) h = by_found (within low high found) (λ m e. within_least low high found m e) h
     by_member None h = absurd cc

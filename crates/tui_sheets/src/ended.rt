@@ -24,7 +24,9 @@ pub enum PagesEnded {
         field: ReportField,
     },
     /// A record has more than 4096 lines; `place` is that of the first such record, from 0.
-    TooTall { place: usize },
+    TooTall {
+        place: usize,
+    },
     /// A read failed; nothing is written.
     ReadFault,
     /// A put failed; the sink holds the first bytes of the output.

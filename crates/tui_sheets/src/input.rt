@@ -41,8 +41,12 @@ pub(crate) fn read_input<'v>(alloc: Global, value: &'v Value) -> Result<Input<'v
     let sheet = read_sheet(alloc, value)?;
     let Counted(values): Counted<'v, 1, 32> = required(alloc, None, ReportField::Columns, value)?;
     let columns = read_columns(alloc, values)?;
-    let Counted(values): Counted<'v, 0, 10000> =
-        required(alloc, None, ReportField::Records, value)?;
+    let Counted(values): Counted<'v, 0, 10000> = required(
+        alloc,
+        None,
+        ReportField::Records,
+        value,
+    )?;
     let records = read_records(alloc, values)?;
     Ok(Input {
         sheet,

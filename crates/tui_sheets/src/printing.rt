@@ -75,13 +75,7 @@ fn draw_blank(
 }
 
 /// Adds a page to the print.
-fn put_page<K: Sink>(
-    print: &mut Print,
-    sink: &mut K,
-    report: &Report<'_>,
-    at: usize,
-    page: &Buffer,
-)
+fn put_page<K: Sink>(print: &mut Print, sink: &mut K, report: &Report<'_>, at: usize, page: &Buffer)
     requires within { at < length report.now.pages }
     requires drawn { page.now.rows ≡ page_rows report.now at }
     ensures { Gathers (K.told sink.old) (K.told sink.new) print.old print.new (page_text report.now at) }
@@ -95,7 +89,10 @@ fn put_page<K: Sink>(
 }
 
 /// Writes how many pages there are.
-pub(crate) fn print_count<K: Sink>(report: &Report<'_>, sink: &mut K) -> Result<(), Stop<PagesRefusal>>
+pub(crate) fn print_count<K: Sink>(
+    report: &Report<'_>,
+    sink: &mut K,
+) -> Result<(), Stop<PagesRefusal>>
     ensures { AnswersWith (λ text. text ≡ count_line report.now) nothing no_refusal (K.told sink.old) (K.told sink.new) result }
 {
     if put_count(report, sink) {

@@ -17,7 +17,9 @@ pub enum PagesRefusal {
         field: ReportField,
     },
     /// A record has more than 4096 lines; `place` is that of the first such record, from 0.
-    TooTall { place: usize },
+    TooTall {
+        place: usize,
+    },
 }
 
 /// Writes the line of a refusal, and answers whether all of it was put. Takes no memory.
@@ -26,10 +28,7 @@ pub(crate) fn put_refusal<K: Sink>(refusal: PagesRefusal, sink: &mut K) -> bool
 {
     match refusal {
         PagesRefusal::BadInput { at: None, field } => put_field(field, sink),
-        PagesRefusal::BadInput {
-            at: Some(i),
-            field,
-        } => put_field_at(i, field, sink),
+        PagesRefusal::BadInput { at: Some(i), field } => put_field_at(i, field, sink),
         PagesRefusal::TooTall { place } => put_too_tall(place, sink),
     }
 }
