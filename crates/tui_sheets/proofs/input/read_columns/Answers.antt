@@ -11,7 +11,7 @@ use Rattle.tui_sheets.proofs.input.read_columns.Goals as goal
 
 pub returns-in_err-read_column : goal.returns-in_err-read_column
 returns-in_err-read_column c =
-    let p = err_from_is_err_and c.from_residual.result c.from_residual.ensures.1 in
+    let p = err_from_is_err_and c.from_residual-in_err-read_column.result c.from_residual-in_err-read_column.ensures.1 in
     rw (p.1, p.2) (numbered_err column_of (refused c.in_err-read_column.field-0.0) (map column_data c.loop-i.columns.items) c.loop-i.i c.args.values.now c.index-values-i.result
     (numbered column_of 0 (items_view c.args.values.now)) c.loop-i-test.true c.index-values-i.is c.in_err-read_column.ensures c.loop-i.invariant)
 

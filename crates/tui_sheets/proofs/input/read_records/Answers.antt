@@ -11,7 +11,7 @@ use Rattle.tui_sheets.proofs.input.read_records.Goals as goal
 
 pub returns-in_err-read_record : goal.returns-in_err-read_record
 returns-in_err-read_record c =
-    let p = err_from_is_err_and c.from_residual.result c.from_residual.ensures.1 in
+    let p = err_from_is_err_and c.from_residual-in_err-read_record.result c.from_residual-in_err-read_record.ensures.1 in
     rw (p.1, p.2) (numbered_err record_of (refused c.in_err-read_record.field-0.0) (map cells_of c.loop-i.records.items) c.loop-i.i c.args.values.now c.index-values-i.result
     (numbered record_of 0 (items_view c.args.values.now)) c.loop-i-test.true c.index-values-i.is c.in_err-read_record.ensures c.loop-i.invariant)
 
