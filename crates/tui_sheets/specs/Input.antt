@@ -1,0 +1,74 @@
+-- The input: its fields in order, then column by column and record by record, the first whose test fails being the refusal.
+use Rattle.std.specs.Prelude.{ℕ, List, map, Option, Some, None, option_and_then, Result, Ok}
+use Rattle.serde_json.specs.Data.{Data, Items}
+use Rattle.serde_json.specs.Find.{as_str}
+use Rattle.tui_json.specs.Constraint.{constraint_of}
+use Rattle.tui_json.specs.Members.{each_of, elements_within}
+use Rattle.tui_json.specs.Number.{within}
+use Rattle.tui_json.specs.Refusals.{◌>>=◌, numbered, or_refuse}
+use Rattle.tui_json.specs.Refusals as tests
+use Rattle.tui_report.specs.Report.{ColumnData, cells_of, column_data}
+use Rattle.tui_sheets.specs.Refusals.{bad_input, field_name}
+use Rattle.tui_sheets.specs.declared.field.ReportField.{ReportField}
+use Rattle.tui_sheets.specs.declared.field.ReportField.TheVariants as fields
+use Rattle.tui_sheets.specs.declared.input.Input.{Input}
+use Rattle.tui_sheets.specs.declared.input.Sheet.{Sheet}
+use Rattle.tui_sheets.specs.declared.refusal.PagesRefusal.{PagesRefusal}
+
+-- a field that has to be there
+abbrev pub required : {A : Type 0} → (Data → Option A) → Option ℕ → ReportField → Data → Result A PagesRefusal
+required kind at field d = tests.required kind (field_name field) (bad_input at field) d
+
+-- the size of the pages, and the title
+pub record SheetData : Type 0 where
+  pub width : ℕ
+  pub height : ℕ
+  pub title : List ℕ
+
+abbrev pub sheet_data : Sheet → SheetData
+sheet_data s = record { width = s.width; height = s.height; title = s.title.now }
+
+-- What is no object has no fields, so it is refused at `width`.
+unfoldable pub sheet_of : Data → Result SheetData PagesRefusal
+sheet_of d = do
+  width ← required (within 1 200) None fields.Width d
+  height ← required (within 4 200) None fields.Height d
+  title ← required as_str None fields.Title d
+  Ok (record { width = width; height = height; title = title })
+
+-- a column by its number; what is no object is refused at `name`
+unfoldable pub column_of : ℕ → Data → Result ColumnData PagesRefusal
+column_of i d = do
+  name ← required as_str (Some i) fields.Name d
+  size ← required constraint_of (Some i) fields.Size d
+  Ok (record { name = name; size = size })
+
+-- the texts of a record
+unfoldable pub texts_of : Data → Option (List (List ℕ))
+texts_of d = option_and_then (each_of as_str) (elements_within 0 32 d)
+
+-- a record by its number
+abbrev pub record_of : ℕ → Data → Result (List (List ℕ)) PagesRefusal
+record_of i d = or_refuse (bad_input (Some i) fields.Records) (texts_of d)
+
+-- the pages' size and title, the columns, and the records
+pub record InputData : Type 0 where
+  pub sheet : SheetData
+  pub columns : List ColumnData
+  pub records : List (List (List ℕ))
+
+abbrev pub input_data : Input → InputData
+input_data input = record {
+  sheet = sheet_data input.sheet;
+  columns = map column_data input.columns.items;
+  records = map cells_of input.records.items;
+}
+
+unfoldable pub input_of : Data → Result InputData PagesRefusal
+input_of d = do
+  sheet ← sheet_of d
+  column_values ← required (elements_within 1 32) None fields.Columns d
+  columns ← numbered column_of 0 column_values
+  record_values ← required (elements_within 0 10000) None fields.Records d
+  records ← numbered record_of 0 record_values
+  Ok (record { sheet = sheet; columns = columns; records = records })
