@@ -57,13 +57,13 @@ sheet_least d s is =
     required as_str None fields.Title d >>= λ title. Ok (record { width = w.0; height = height; title = title })) s w.2 in
     let t = bind_ok (required as_str None fields.Title d) (λ title. Ok (record { width = w.0; height = h.0; title = title })) s h.2 in
     let made : SheetData = record { width = w.0; height = h.0; title = t.0 } in
-    let same : made ≡ s = one_ok made s t.2 in
+    let same : made ≡ s = one_ok made s (Ok made) refl t.2 in
     let wide = required_least 1 200 (field_name fields.Width) (bad_input None fields.Width) d w.0 w.1 in
     let high = required_least 4 200 (field_name fields.Height) (bad_input None fields.Height) d h.0 h.1 in
     subst (λ (x : SheetData). (1 ≤ x.width) × (4 ≤ x.height)) same (wide, high)
   where
-    one_ok : (a b : SheetData) → Ok {R = PagesRefusal} a ≡ Ok b → a ≡ b
-    one_ok a b e = cc
+    one_ok : (a b : SheetData) (r : Result SheetData PagesRefusal) → r ≡ Ok a → r ≡ Ok b → a ≡ b
+    one_ok a b r e f = cc
 
 -- an input that is accepted has pages that are large enough
 pub input_least : (d : Data) (input : InputData) → input_of d ≡ Ok input → (1 ≤ input.sheet.width) × (4 ≤ input.sheet.height)
@@ -81,7 +81,7 @@ input_least d input is =
     numbered record_of 0 others >>= λ records. Ok (record { sheet = s.0; columns = c.0; records = records })) input c.2 in
     let r = bind_ok (numbered record_of 0 o.0) (λ records. Ok (record { sheet = s.0; columns = c.0; records = records })) input o.2 in
     let made : InputData = record { sheet = s.0; columns = c.0; records = r.0 } in
-    subst (λ (x : InputData). (1 ≤ x.sheet.width) × (4 ≤ x.sheet.height)) (one_ok made input r.2) (sheet_least d s.0 s.1)
+    subst (λ (x : InputData). (1 ≤ x.sheet.width) × (4 ≤ x.sheet.height)) (one_ok made input (Ok made) refl r.2) (sheet_least d s.0 s.1)
   where
-    one_ok : (a b : InputData) → Ok {R = PagesRefusal} a ≡ Ok b → a ≡ b
-    one_ok a b e = cc
+    one_ok : (a b : InputData) (r : Result InputData PagesRefusal) → r ≡ Ok a → r ≡ Ok b → a ≡ b
+    one_ok a b r e f = cc

@@ -37,7 +37,7 @@ fault_in r a b k n lt fault =
     let all : first_pages r n ≡ first_pages r k ++ rest.0 = ap (first_pages r) (sym e) ∙ rest.1 in
     subst (λ (text : List ℕ). Puts a b true false text) (sym all) (Puts-then fault still)
 
-rect_at : ℕ → ℕ → Rect
+abbrev rect_at : ℕ → ℕ → Rect
 rect_at w h = record { x = 0; y = 0; width = w; height = h }
 
 -- the area of a page as a buffer has it
@@ -59,7 +59,7 @@ ended_early {T} {R} r a b c print k goes answer lt gathered put is =
     subst (λ (x : Result T (Stop R)). AnswersWith (AreAllPages r) (AreFewerPages r) no_refusal a c x) (sym is) (by_case goes put)
   where
     by_case : (goes : Bool) → Puts b c print.going goes print.bytes →
-        AnswersWith {T} {R} (AreAllPages r) (AreFewerPages r) no_refusal a c (cond goes (Err stop.NoMemory) (Err stop.WriteFault))
+        AnswersWith {T = T} {R = R} (AreAllPages r) (AreFewerPages r) no_refusal a c (cond goes (Err stop.NoMemory) (Err stop.WriteFault))
     by_case true put = inr (first_pages r k, (k, lt, refl), Gathers-end gathered put)
     by_case false put = (first_pages r (length r.pages), refl, fault_in r a c k (length r.pages) lt (Gathers-end gathered put))
 
@@ -71,6 +71,6 @@ ended_whole {T} {R} r a b c print k goes u answer all gathered put is =
     subst (λ (x : Result T (Stop R)). AnswersWith (AreAllPages r) (AreFewerPages r) no_refusal a c x) (sym is) (by_case goes put)
   where
     by_case : (goes : Bool) → Puts b c print.going goes print.bytes →
-        AnswersWith {T} {R} (AreAllPages r) (AreFewerPages r) no_refusal a c (cond goes (Ok u) (Err stop.WriteFault))
+        AnswersWith {T = T} {R = R} (AreAllPages r) (AreFewerPages r) no_refusal a c (cond goes (Ok u) (Err stop.WriteFault))
     by_case true put = (first_pages r k, ap (first_pages r) all, Gathers-end gathered put)
     by_case false put = (first_pages r k, ap (first_pages r) all, Gathers-end gathered put)

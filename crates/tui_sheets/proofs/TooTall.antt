@@ -31,4 +31,6 @@ first_from (h ∷ hs) i (suc place) inside taller low =
 
 pub first_is : (heights : List ℕ) (place : ℕ) → IsFirstTooTall heights place → position (nat_lt most_lines) heights ≡ Some place
 first_is heights place first =
-    position_from-zero (nat_lt most_lines) heights ∙ first_from heights 0 place first.inside first.taller first.first
+    let e : 0 + place ≡ place = omega arith in
+    position_from-zero (nat_lt most_lines) heights
+    ∙ (first_from heights 0 place first.inside first.taller first.first ∙ ap (λ (n : ℕ). Some n) e)

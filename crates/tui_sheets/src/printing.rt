@@ -80,10 +80,11 @@ fn put_page<K: Sink>(print: &mut Print, sink: &mut K, report: &Report<'_>, at: u
     requires drawn { page.now.rows ≡ page_rows report.now at }
     ensures { Gathers (K.told sink.old) (K.told sink.new) print.old print.new (page_text report.now at) }
 {
+    let count = report.page_count();
     print.text(sink, "p ");
     print.number(sink, at + 1);
     print.text(sink, " ");
-    print.number(sink, report.page_count());
+    print.number(sink, count);
     print.text(sink, "\n");
     print.rows(sink, page);
 }

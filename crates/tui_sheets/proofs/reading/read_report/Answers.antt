@@ -1,4 +1,4 @@
-use Rattle.std.proofs.Common.{arith, refl}
+use Rattle.std.proofs.Common.{arith, inl, inr, refl}
 use Rattle.serde_json.specs.View.{view}
 use Rattle.tui_sheets.specs.Input.{input_data, report_in}
 use Rattle.tui_sheets.proofs.Bounds.{input_least}
