@@ -18,10 +18,10 @@ pub returns-in-Err : goal.returns-in-Err
 returns-in-Err g c =
     let r = c.args.report.now in
     let end = c.ended.ensures in
-    ended_early r _ _ _ _ c.pages.at end.0 c.ended.result (omega (arith, c.pages-test.true, c.page_count.ensures)) c.pages.invariant.1 end.1 end.2
+    ended_early r _ _ _ _ c.pages.at end.0 c.ended.result (omega (arith, c.pages-test.true, c.page_count-at-end.ensures)) c.pages.invariant.1 end.1 end.2
 
 pub returns : goal.returns
 returns g c =
     let r = c.args.report.now in
     let end = c.ended-2.ensures in
-    ended_whole r _ _ _ _ c.pages.at end.0 _ c.ended-2.result (omega (arith, c.pages-test.false, c.page_count.ensures)) c.pages.invariant.1 end.1 end.2
+    ended_whole r _ _ _ _ c.pages.at end.0 _ c.ended-2.result (omega (arith, c.pages-test.false, c.page_count-at-end.ensures)) c.pages.invariant.1 end.1 end.2
