@@ -1,5 +1,8 @@
-use Rattle.std.proofs.Common.{Err, ap, arith, inl, inr, refl}
+use Rattle.std.proofs.Common.{◌≤◌, ◌∙◌, Err, ap, arith, inl, inr, refl, subst}
+use Rattle.std.specs.Prelude.{All}
 use Rattle.serde_json.specs.View.{view}
+use Rattle.tui_report.specs.Heights.{heights_of, most_lines}
+use Rattle.tui_report.specs.Report.{ReportData, places_of, report_heights}
 use Rattle.tui_sheets.specs.Input.{input_data, report_in}
 use Rattle.tui_sheets.proofs.Bounds.{input_least}
 use Rattle.tui_sheets.proofs.TooTall.{first_is, none_is}
@@ -8,13 +11,23 @@ use Rattle.tui_sheets.proofs.reading.read_report.Goals as goal
 pub unreachable-requires : goal.unreachable-requires
 unreachable-requires c =
     let least = input_least (view c.args.value.now) (input_data c.in_ok-input.input) c.in_ok-input.ensures in
-    elim (c.in-Err-TooSmall.ensures.small.0 (ap Err c.in-Err-TooSmall.field-0-is)) [ inl wide ↦ omega arith | inr high ↦ omega arith ]
+    let small = rw c.in-Err-TooSmall.is at c.in-Err-TooSmall.field-0-is in
+    elim (c.new-made.ensures.small.0 (c.in-Err-TooSmall.is ∙ ap (λ x. Err x) small)) [ inl wide ↦ omega arith | inr high ↦ omega arith ]
 
 pub returns-in-Ok-clause-gives : goal.returns-in-Ok-clause-gives
 unfolding report_in
-returns-in-Ok-clause-gives c = rw (c.in_ok-input.ensures, none_is _ c.in-Ok.ensures.low, c.in-Ok.ensures.ok) refl
+returns-in-Ok-clause-gives c =
+    let input = input_data c.in_ok-input.input in
+    let heights = heights_of (places_of input.sheet.width input.columns) input.records in
+    let low : All (λ lines. lines ≤ most_lines) heights =
+    subst (λ (r : ReportData). All (λ lines. lines ≤ most_lines) (report_heights r)) c.in-Ok.ensures.ok c.in-Ok.ensures.low in
+    rw (c.in_ok-input.ensures, none_is heights low, c.in-Ok.ensures.ok) refl
 
 pub returns-in-Err-TooTall-clause-gives : goal.returns-in-Err-TooTall-clause-gives
 unfolding report_in
 returns-in-Err-TooTall-clause-gives c =
-    rw (c.in_ok-input.ensures, first_is _ c.in-Err-TooTall.place (c.in-Err-TooTall.ensures.tall c.in-Err-TooTall.place (ap Err c.in-Err-TooTall.field-0-is))) refl
+    let input = input_data c.in_ok-input.input in
+    let heights = heights_of (places_of input.sheet.width input.columns) input.records in
+    let place = c.in-Err-TooTall.place in
+    let tall = rw c.in-Err-TooTall.is at c.in-Err-TooTall.field-0-is in
+    rw (c.in_ok-input.ensures, first_is heights place (c.new-made.ensures.tall place (c.in-Err-TooTall.is ∙ ap (λ x. Err x) tall))) refl
