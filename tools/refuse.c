@@ -1,6 +1,7 @@
 /* Loaded before a program (LD_PRELOAD), it refuses requests for memory: with REFUSE_AT the one of that number, from 1, and no
    other (0: none); else every one once REFUSE_COUNT pieces of REFUSE_SIZE bytes were given. At the end it tells on standard error
-   how many requests were met and how many were refused, and with REFUSE_AT whether the C library itself made the refused one. */
+   how many requests were met and how many were refused, and with REFUSE_AT who made the refused one: the C library itself, or the
+   program; or whether the program asked once more at once, for as much or for less. */
 #define _GNU_SOURCE
 #include <dlfcn.h>
 #include <errno.h>
@@ -16,6 +17,7 @@ extern void *__libc_realloc(void *, size_t);
 extern void *__libc_memalign(size_t, size_t);
 
 static size_t size, left = 1, at, met, refused;
+static size_t wanted, next_wanted;
 static int one;
 static const void *asker;
 
@@ -40,7 +42,9 @@ static const char *file_of(const void *place)
 __attribute__((destructor)) static void end(void)
 {
     char line[160];
-    const char *asks = !refused ? "nobody" : strcmp(file_of(asker), file_of((const void *)strtoul)) ? "the program" : "the C library";
+    const char *asks = !refused ? "nobody"
+        : !strcmp(file_of(asker), file_of((const void *)strtoul)) ? "the C library"
+        : next_wanted && next_wanted <= wanted ? "the program, which asked again" : "the program";
     int n = one ? snprintf(line, sizeof line, "%zu met, %zu refused to %s\n", met, refused, asks)
                 : snprintf(line, sizeof line, "%s: %zu met, %zu refused\n", left ? "never reached" : "reached", met, refused);
     if (write(2, line, (size_t)n) < 0)
@@ -58,8 +62,12 @@ static void *refuse(const void *place)
 /* Whether a request of so many bytes is met. */
 static int may(size_t bytes)
 {
-    if (one ? met + refused + 1 == at : left == 0)
+    if (one && refused && !next_wanted)
+        next_wanted = bytes;
+    if (one ? met + refused + 1 == at : left == 0) {
+        wanted = bytes;
         return 0;
+    }
     met++;
     if (!one && bytes == size)
         left--;

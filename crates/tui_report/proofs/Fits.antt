@@ -1,11 +1,11 @@
 -- The pieces of a page are those of records, and the page has room for them.
-use Rattle.std.proofs.Common.{◌≡◌, ℕ, zero, suc, ◌+◌, ◌-◌, ◌<◌, ◌≤◌, min, List, [], ◌∷◌, ◌++◌, length, map, get_or, drop, refl, sym, ap, ◌∙◌, subst, arith, inl, inr}
+use Rattle.std.proofs.Common.{◌≡◌, ℕ, zero, suc, ◌+◌, ◌-◌, ◌<◌, ◌≤◌, min, List, [], ◌∷◌, length, drop, refl, sym, ap, ◌∙◌, subst, arith, inl, inr}
 use Rattle.std.specs.Prelude.{All, Some, slice_get, slice_index}
 use Rattle.std.specs.List.{AllByRecursion}
 use Rattle.std.proofs.lemmas.List.{length-drop, length-map}
 use Rattle.std.proofs.lemmas.List.Elements.{All-from_recursion, recursion_from_All}
 use Rattle.tui_layout.specs.declared.segment.Segment.{Segment}
-use Rattle.tui_report.specs.Heights.{heights_of, most_lines, record_height}
+use Rattle.tui_report.specs.Heights.{heights_of, record_height}
 use Rattle.tui_report.specs.Pages.{ArePages, IsPage, joined, lines_on}
 use Rattle.tui_report.specs.Report.{ColumnData, IsReport}
 use Rattle.tui_report.specs.Strokes.{IsDrawable}

@@ -33,6 +33,10 @@ pub record ReportData : Type 0 where
 abbrev pub places_of : ℕ → List ColumnData → List Segment
 places_of width columns = columns_of width 1 (map (λ c. c.size) columns) Start
 
+-- how many lines each record has
+abbrev pub report_heights : ReportData → List ℕ
+report_heights r = heights_of (places_of r.width r.columns) r.records
+
 -- the pages of these records: title, names and number take three rows of each
 abbrev pub report_of : ℕ → ℕ → List ℕ → List ColumnData → List (List (List ℕ)) → ReportData
 report_of width height title columns records = record {

@@ -5,7 +5,7 @@ ghost use Rattle.tui_cells.specs.Layers.{KeptOutside, Painted};
 ghost use Rattle.tui_cells.specs.Rect.{covers};
 ghost use Rattle.tui_report.specs.Heights.{IsFirstTooTall, heights_of, most_lines};
 ghost use Rattle.tui_report.specs.Pages.{ArePages, KeepWhole};
-ghost use Rattle.tui_report.specs.Report.{cells_of, column_data, places_of, report_of};
+ghost use Rattle.tui_report.specs.Report.{cells_of, column_data, places_of, report_heights, report_of};
 ghost use Rattle.tui_report.specs.Strokes.{page_area, page_layers};
 ghost use Rattle.tui_report.specs.declared.piece.Piece.{Piece};
 
@@ -83,13 +83,14 @@ impl<'a> Report<'a> {
         ensures small { (result ≡ Err ReportError.TooSmall) ↔ (width ≡ 0) ⊎ (height < 4) }
         ensures tall { (place : ℕ) → result ≡ Err (ReportError.TooTall place)
             → IsFirstTooTall (heights_of (places_of width (map column_data columns.entry.items)) (map cells_of records.entry.items)) place }
-        ensures low { IfOk result (λ report. All (λ lines. lines ≤ most_lines) (heights_of (places_of width report.columns) report.records)) }
-        ensures ok { IfOk result (λ report. report ≡ report_of width height title.now (map column_data columns.entry.items) (map cells_of records.entry.items)) }
-        ensures pages { IfOk result (λ report. ArePages (heights_of (places_of width report.columns) report.records) (height - 3) report.pages) }
-        ensures fewest { IfOk result (λ report. 0 < length report.records
-            → All (λ lines. lines ≤ height - 3) (heights_of (places_of width report.columns) report.records)
-            → (others : List (List Piece)) → KeepWhole (heights_of (places_of width report.columns) report.records) (height - 3) others
-            → length report.pages ≤ length others) }
+        ensures low { IfOk result (λ report. All (λ lines. lines ≤ most_lines) (report_heights report)) }
+        ensures ok { IfOk result (λ report. report
+            ≡ report_of width height title.now (map column_data columns.entry.items) (map cells_of records.entry.items)) }
+        ensures pages { IfOk result (λ report. ArePages (report_heights report) (height - 3) report.pages) }
+
+        // Where there are records and all fit, no pages that keep them whole are fewer.
+        ensures fewest { IfOk result (λ report. 0 < length report.records → All (λ lines. lines ≤ height - 3) (report_heights report)
+            → (others : List (List Piece)) → KeepWhole (report_heights report) (height - 3) others → length report.pages ≤ length others) }
     {
         if width == 0 || height < 4 {
             return Err(ReportError::TooSmall);

@@ -36,6 +36,7 @@ impl Hyphenation {
     }
 
     /// The mark of the next grapheme, and what stands before the one behind it.
+    #[inline(always)]
     pub(crate) fn mark(self, grapheme: &StyledGrapheme<'_>) -> (Mark, Hyphenation)
         ensures mark { result.0 ≡ mark_of (glyph_of grapheme.now, after_hyphen self && is_letter (glyph_of grapheme.now)) }
         ensures behind { result.1 ≡ behind self (glyph_of grapheme.now) }
@@ -50,6 +51,8 @@ impl Hyphenation {
         (mark, behind)
     }
 
+    // Mostly no word is cut, and then nothing is asked of the grapheme.
+    #[inline(always)]
     fn behind(self, grapheme: &StyledGrapheme<'_>, blank: bool) -> Hyphenation
         requires { blank ≡ glyph_blank (glyph_of grapheme.now) }
         ensures { result ≡ behind self (glyph_of grapheme.now) }
@@ -60,6 +63,7 @@ impl Hyphenation {
         }
     }
 
+    #[inline(never)]
     fn behind_one(self, is_hyphen: bool, is_blank: bool) -> Hyphenation
         ensures { result ≡ cond is_hyphen (behind_hyphen self) (behind_other is_blank self) }
     {
@@ -72,6 +76,7 @@ impl Hyphenation {
     }
 
     /// Whether a word is cut before a grapheme behind which this stands.
+    #[inline(always)]
     fn cuts_before(self, behind: Hyphenation) -> bool
         ensures { result ≡ (after_hyphen self && after_letter behind) }
     {
@@ -79,6 +84,7 @@ impl Hyphenation {
     }
 }
 
+#[inline(always)]
 #[tactic(auto, unfolding(tui_text::specs::Grapheme::is_blank))]
 fn is_blank(grapheme: &StyledGrapheme<'_>) -> bool
     ensures { result ≡ glyph_blank (glyph_of grapheme.now) }

@@ -14,6 +14,7 @@ pub(crate) struct Mark {
 
 impl Mark {
     /// Whether a piece of a word ends before it, if one stands there.
+    #[inline(always)]
     pub(crate) fn ends_piece(self) -> bool
         ensures { result ≡ ends_before self }
     {

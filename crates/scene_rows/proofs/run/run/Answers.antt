@@ -4,5 +4,5 @@ pub returns : goal.returns
 returns c = (
   c.show-ended.new.source.left,
   c.show-ended.new.source.faults,
-  rw (c.new-source.ensures, c.in_ok-sink.ensures, c.deref.ensures.value) at c.show-ended.ensures.ends,
+  rw (c.new-source.ensures, c.in_ok-sink.ensures) at c.show-ended.ensures.ends,
 )

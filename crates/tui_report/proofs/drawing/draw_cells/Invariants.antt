@@ -2,7 +2,6 @@ use Rattle.std.proofs.Common.{drop, map}
 use Rattle.tui_cells.specs.Buffer.{Screen}
 use Rattle.tui_cells.specs.Layers.{KeptOutside, Painted}
 use Rattle.tui_cells.specs.Rect.{covers}
-use Rattle.tui_report.specs.Report.{cells_of}
 use Rattle.tui_report.specs.Strokes.{cells_layers}
 use Rattle.tui_report.proofs.drawing.draw_cells.Given as goal
 

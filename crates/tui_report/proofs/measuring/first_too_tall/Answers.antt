@@ -1,4 +1,3 @@
-use Rattle.std.proofs.Common.{arith}
 use Rattle.tui_report.proofs.Measured.{low_all, low_more}
 use Rattle.tui_report.proofs.measuring.first_too_tall.Goals as goal
 

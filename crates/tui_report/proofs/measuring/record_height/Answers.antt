@@ -1,4 +1,4 @@
-use Rattle.std.proofs.Common.{◌≡◌, ◌∙◌, ap, map, max}
+use Rattle.std.proofs.Common.{◌∙◌, ap, map, max}
 use Rattle.std.specs.Prelude.{fold}
 use Rattle.tui_report.specs.Report.{cells_of}
 use Rattle.tui_report.proofs.Measured.{cut_counts, height_begun, height_done, height_more}

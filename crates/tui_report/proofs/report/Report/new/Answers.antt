@@ -1,5 +1,5 @@
-use Rattle.std.proofs.Common.{◌≡◌, ◌∙◌, ap, arith, map, rules}
-use Rattle.tui_report.specs.Report.{cells_of, column_data, places_of}
+use Rattle.std.proofs.Common.{◌∙◌, ap, arith, map, rules}
+use Rattle.tui_report.specs.Report.{column_data, places_of}
 use Rattle.tui_report.proofs.Made.{counted_heights, made, made_fewest, made_is, made_kept, measured, too_tall}
 use Rattle.tui_report.proofs.report.Report.new.Goals as goal
 
