@@ -143,7 +143,7 @@ selected_seen z s place sound at fits =
 inner_height : (entries : List EntryData) (width height : ℕ) → (inner_of (titles_list entries).block (titles_area width height)).height ≡ height - 3
 inner_height entries width height = omega arith
 
-count_heights : (entries : List EntryData) → length (heights_of (map title_item entries)) ≡ length entries
+pub count_heights : (entries : List EntryData) → length (heights_of (map title_item entries)) ≡ length entries
 count_heights entries = length-map (map title_item entries) item_height ∙ length-map entries title_item
 
 pub sees_selected : (p : PagerData) → IsSoundPager p → SeesSelected p
