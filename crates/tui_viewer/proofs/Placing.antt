@@ -1,5 +1,5 @@
 -- Widgets on a page, each in its place.
-use Rattle.std.proofs.Common.{◌≡◌, ℕ, ◌+◌, ◌≤◌, List, ◌++◌, Some, option_map, refl, sym, ap, ◌∙◌, subst, arith}
+use Rattle.std.proofs.Common.{◌≡◌, ℕ, ◌+◌, ◌≤◌, List, option_map, refl, ap, ◌∙◌, subst, arith}
 use Rattle.std.specs.Prelude.{OnOk, Result}
 use Rattle.tui_cells.specs.Buffer.{IsFilled, Screen}
 use Rattle.tui_cells.specs.Cell.{blank}

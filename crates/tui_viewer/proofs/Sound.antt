@@ -1,6 +1,6 @@
 -- The state of a pager stays sound.
-use Rattle.std.proofs.Common.{◌≡◌, ℕ, zero, suc, ◌+◌, ◌-◌, ◌<◌, ◌≤◌, ◌==◌, min, Bool, true, false, List, [], ◌∷◌, length, refl, sym, ap, ◌∙◌, subst, arith, inl, inr, Option, None, Some}
-use Rattle.std.specs.Prelude.{◌⊎◌, map, slice_index, if◌then◌else◌}
+use Rattle.std.proofs.Common.{◌≡◌, ℕ, ◌-◌, ◌<◌, ◌≤◌, ◌==◌, min, true, false, List, [], ◌∷◌, length, refl, sym, ap, ◌∙◌, subst, arith, inl, inr, Option, None, Some}
+use Rattle.std.specs.Prelude.{map, slice_index, if◌then◌else◌}
 use Rattle.std.proofs.lemmas.List.{length-map}
 use Rattle.std.proofs.lemmas.Bool.{cases_eq, cond-true, cond-false}
 use Rattle.std.proofs.lemmas.Bool.Decides.{nat_tests}
@@ -8,9 +8,9 @@ use Rattle.tui_layout.specs.Found.{window_of}
 use Rattle.tui_layout.specs.Window.{IsWindow, cut_selection}
 use Rattle.tui_layout.specs.Sums.{total}
 use Rattle.tui_layout.specs.declared.window.Window.{Window}
-use Rattle.tui_layout.proofs.Found.{window_is, window_is_one}
+use Rattle.tui_layout.proofs.Found.{window_is}
 use Rattle.tui_layout.proofs.Settling.{settles, selected_is_shown}
-use Rattle.tui_viewer.specs.Steps.{Sizes, most_of, most_in, selected_by, line_by, moved_from, moved_by, settled, first_place, started, pressed, resized}
+use Rattle.tui_viewer.specs.Steps.{Sizes, most_of, most_in, selected_by, line_by, moved_from, settled, first_place, pressed, resized}
 use Rattle.tui_frames.specs.InBlock.{inner_of}
 use Rattle.tui_lists.specs.List.{list_window}
 use Rattle.tui_lists.specs.ListItem.{heights_of, item_height}

@@ -1,18 +1,17 @@
 -- What is shown next.
-use Rattle.std.proofs.Common.{◌≡◌, ℕ, ◌+◌, ◌-◌, ◌≤◌, ◌==◌, min, List, length, refl, sym, ap, ◌∙◌, subst, arith, Option, None, Some, Result, IfOk}
+use Rattle.std.proofs.Common.{◌≡◌, ℕ, ◌-◌, ◌≤◌, ◌==◌, min, List, length, sym, ap, ◌∙◌, subst, arith, Option, None, Some, Result, IfOk}
 use Rattle.std.specs.Prelude.{map, if◌then◌else◌}
 use Rattle.tui_lists.specs.ListItem.{heights_of}
 use Rattle.tui_text.specs.Width.{saturated}
 use Rattle.tui_viewer.specs.Entry.{EntryData}
-use Rattle.tui_viewer.specs.Laws.{IsPlace, IsSound, IsSoundPager, after_call, pager_of, press, resize}
-use Rattle.tui_viewer.specs.Pager.{PagerData}
+use Rattle.tui_viewer.specs.Laws.{IsPlace, IsSound}
 use Rattle.tui_viewer.specs.Screen.{body_lines, sizes_of, title_item}
-use Rattle.tui_viewer.specs.Shown.{IsUpToDate, pager_data}
+use Rattle.tui_viewer.specs.Shown.{pager_data}
 use Rattle.tui_viewer.specs.Steps.{lines_at, most_in, most_of, moved_by, pressed, resized, settled, started}
 use Rattle.tui_viewer.specs.declared.key.Key.{Key}
 use Rattle.tui_viewer.specs.declared.shown.Shown.{Shown}
 use Rattle.tui_viewer.specs.declared.state.PagerState.{PagerState}
-use Rattle.tui_viewer.proofs.Sound.{call_sound, count_heights, start_sound}
+use Rattle.tui_viewer.proofs.Sound.{count_heights}
 
 most_cut : (rows lines : ℕ) → rows ≤ 65535 → most_in rows (saturated lines) ≡ most_in rows lines
 most_cut rows lines r = omega arith

@@ -1,5 +1,5 @@
 -- What a pager shows, as it is kept.
-use Rattle.std.specs.Prelude.{◌≡◌, ◌≤◌, ℕ, List}
+use Rattle.std.specs.Prelude.{◌≡◌, ◌≤◌, List}
 use Rattle.tui_text.specs.Width.{saturated}
 use Rattle.tui_viewer.specs.Entry.{EntryData}
 use Rattle.tui_viewer.specs.Laws.{IsSoundPager}

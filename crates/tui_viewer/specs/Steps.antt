@@ -1,5 +1,5 @@
 -- The steps of a pager.
-use Rattle.std.specs.Prelude.{ℕ, ◌+◌, ◌-◌, ◌==◌, min, List, [], length, slice_index, Option, None, Some, if◌then◌else◌}
+use Rattle.std.specs.Prelude.{ℕ, ◌+◌, ◌-◌, ◌==◌, min, List, length, slice_index, Option, None, Some, if◌then◌else◌}
 use Rattle.tui_layout.specs.Found.{window_of}
 use Rattle.tui_viewer.specs.declared.key.Key.{Key}
 use Rattle.tui_viewer.specs.declared.key.Key.TheVariants.{Up, Down, PageUp, PageDown, First, Last, LineUp, LineDown, BodyTop, BodyEnd}
