@@ -19,12 +19,7 @@ struct Stretch {
 
 /// Runs a row again and again, and writes a heading with its name, and for each stretch of runs that ended alike how many they
 /// are, their status, and what each of them has written.
-pub(crate) fn run_each<W: Write>(
-    alloc: Global,
-    row: &Row,
-    each: Each,
-    out: &mut W,
-) -> Result<()> {
+pub(crate) fn run_each<W: Write>(alloc: Global, row: &Row, each: Each, out: &mut W) -> Result<()> {
     let (_ended, sink) = run(alloc, &row.words, row.given(alloc)?)?;
     let name = &row.name;
     writeln!(out, "== {name} (each)")?;

@@ -4,7 +4,9 @@ use std::alloc::Global;
 use std::io;
 use std::io::{Cursor, ErrorKind, Read};
 use tui_cells::{Buffer, Mem, Rect};
-use tui_port::{MemSink, Print, ReadEnd, StdSink, StdSource, WriteFault, put_all, read_all, write_screen};
+use tui_port::{
+    MemSink, Print, ReadEnd, StdSink, StdSource, WriteFault, put_all, read_all, write_screen,
+};
 use tui_scene::Scene;
 
 /// Gives one byte at the first read, and fails from then on.

@@ -1,0 +1,4 @@
+pub mod Laws
+pub mod Levels
+pub mod Pane
+pub mod Place

@@ -1,0 +1,72 @@
+-- What is shown next.
+use Rattle.std.proofs.Common.{◌≡◌, ℕ, ◌-◌, ◌≤◌, ◌==◌, min, List, length, sym, ap, ◌∙◌, subst, arith, Option, None, Some, Result, IfOk}
+use Rattle.std.specs.Prelude.{map, if◌then◌else◌}
+use Rattle.tui_lists.specs.ListItem.{heights_of}
+use Rattle.tui_text.specs.Width.{saturated}
+use Rattle.tui_viewer.specs.Entry.{EntryData}
+use Rattle.tui_viewer.specs.Laws.{IsPlace, IsSound}
+use Rattle.tui_viewer.specs.Screen.{body_lines, sizes_of, title_item}
+use Rattle.tui_viewer.specs.Shown.{pager_data}
+use Rattle.tui_viewer.specs.Steps.{lines_at, most_in, most_of, moved_by, pressed, resized, settled, started}
+use Rattle.tui_viewer.specs.declared.key.Key.{Key}
+use Rattle.tui_viewer.specs.declared.shown.Shown.{Shown}
+use Rattle.tui_viewer.specs.declared.state.PagerState.{PagerState}
+use Rattle.tui_viewer.proofs.Sound.{count_heights}
+
+most_cut : (rows lines : ℕ) → rows ≤ 65535 → most_in rows (saturated lines) ≡ most_in rows lines
+most_cut rows lines r = omega arith
+
+-- the greatest line, by a number of lines that is cut
+pub most_is : (entries : List EntryData) (width height : ℕ) (selected : Option ℕ) (lines most : ℕ) → height - 3 ≤ 65535 →
+    most ≡ most_in (height - 3) lines → lines ≡ saturated (lines_at (body_lines entries width) selected) →
+    most ≡ most_of (sizes_of entries width height) selected
+most_is entries width height selected lines most h m n =
+    m ∙ (ap (most_in (height - 3)) n ∙ most_cut (height - 3) (lines_at (body_lines entries width) selected) h)
+
+pub place_of : (entries : List EntryData) (width height : ℕ) (s : PagerState) → IsSound (sizes_of entries width height) s → IsPlace (length entries) s.selected
+place_of entries width height s sound = subst (λ n. IsPlace n s.selected) (count_heights entries) sound.place
+
+pub start_is : (entries : List EntryData) (width height count : ℕ) (place : Option ℕ) (s : PagerState) → count ≡ length entries →
+    place ≡ (if count == 0 then None else Some 0) →
+    s ≡ settled (heights_of (map title_item entries)) (height - 3) (record { selected = place; offset = 0; line = 0 }) →
+    s ≡ started (sizes_of entries width height)
+start_is entries width height count place s c p e =
+    let there : place ≡ (if length (heights_of (map title_item entries)) == 0 then None else Some 0) =
+    p ∙ ap (λ n. if n == 0 then None else Some 0) (c ∙ sym (count_heights entries)) in
+    e ∙ ap (λ o. settled (heights_of (map title_item entries)) (height - 3) (record { selected = o; offset = 0; line = 0 })) there
+
+pub pressed_is : (entries : List EntryData) (width height count most : ℕ) (key : Key) (s m t : PagerState) → count ≡ length entries →
+    most ≡ most_of (sizes_of entries width height) s.selected →
+    m ≡ moved_by (height - 3) count most key s →
+    t ≡ settled (heights_of (map title_item entries)) (height - 3) m →
+    t ≡ pressed (sizes_of entries width height) key s
+pressed_is entries width height count most key s m t c k a b =
+    let heights = heights_of (map title_item entries) in
+    b ∙ ap (settled heights (height - 3)) (a
+    ∙ (ap (λ n. moved_by (height - 3) n most key s) (c ∙ sym (count_heights entries))
+    ∙ ap (λ n. moved_by (height - 3) (length heights) n key s) k))
+
+pub resized_is : (entries : List EntryData) (width height most line : ℕ) (s t : PagerState) →
+    most ≡ most_of (sizes_of entries width height) s.selected → line ≡ min s.line most →
+    t ≡ settled (heights_of (map title_item entries)) (height - 3) (record { selected = s.selected; offset = s.offset; line = line }) →
+    t ≡ resized (sizes_of entries width height) s
+resized_is entries width height most line s t k l b =
+    b ∙ ap (λ n. settled (heights_of (map title_item entries)) (height - 3) (record { selected = s.selected; offset = s.offset; line = n }))
+    (l ∙ ap (min s.line) k)
+
+-- a state that is the one of a sound pager is sound
+pub sound_as : (entries : List EntryData) (width height : ℕ) (s t : PagerState) → s ≡ t → IsSound (sizes_of entries width height) t →
+    IsSound (sizes_of entries width height) s
+sound_as entries width height s t e sound = subst (IsSound (sizes_of entries width height)) (sym e) sound
+
+pub data_as : {E : Type 0} (result : Result Shown E) (entries : List EntryData) (width height : ℕ) (s t : PagerState) → s ≡ t →
+    IfOk result (λ r. pager_data entries r ≡ record { width = width; height = height; entries = entries; state = s }) →
+    IfOk result (λ r. pager_data entries r ≡ record { width = width; height = height; entries = entries; state = t })
+data_as result entries width height s t e ok =
+    subst (λ (u : PagerState). IfOk result (λ r. pager_data entries r ≡ record { width = width; height = height; entries = entries; state = u })) e ok
+
+-- lines that are counted already
+pub lines_as : (entries : List EntryData) (width kept lines : ℕ) (selected old : Option ℕ) → width ≡ kept → selected ≡ old →
+    lines ≡ saturated (lines_at (body_lines entries kept) old) → lines ≡ saturated (lines_at (body_lines entries width) selected)
+lines_as entries width kept lines selected old w o e =
+    e ∙ sym (ap (λ n. saturated (lines_at (body_lines entries n) selected)) w ∙ ap (λ x. saturated (lines_at (body_lines entries kept) x)) o)

@@ -1,0 +1,31 @@
+use Rattle.std.proofs.Common.{◌≡◌, ◌∙◌, ap, length, map, subst, sym, List}
+use Rattle.std.specs.Prelude.{IfOk}
+use Rattle.std.proofs.lemmas.List.{length-map}
+use Rattle.tui_viewer.specs.Entry.{EntryData, entry_data}
+use Rattle.tui_viewer.specs.Laws.{IsPlace}
+use Rattle.tui_viewer.specs.Screen.{IsDrawn, page_area, pager_layers, sizes_of, titles_list}
+use Rattle.tui_viewer.specs.Steps.{most_of}
+use Rattle.tui_viewer.proofs.contents.Contents.draw.Goals as goal
+
+pub draw_screen-requires-clause-titles : goal.draw_screen-requires-clause-titles
+draw_screen-requires-clause-titles c = c.self.invariant.list_is ∙ ap (λ es. titles_list (map entry_data es)) (sym c.deref.ensures.value)
+
+pub draw_screen-requires-clause-place : goal.draw_screen-requires-clause-place
+draw_screen-requires-clause-place c =
+    let here = ap (map entry_data) c.deref.ensures.value ∙ c.self.view_is in
+    subst (λ n. IsPlace n c.args.state.selected) (ap length (sym here) ∙ length-map c.deref.result.now entry_data) c.requires.place
+
+pub draw_screen-requires-clause-most : goal.draw_screen-requires-clause-most
+draw_screen-requires-clause-most c =
+    let here = ap (map entry_data) c.deref.ensures.value ∙ c.self.view_is in
+    subst (λ (es : List EntryData). c.args.most ≡ most_of (sizes_of es c.args.width c.args.height) c.args.state.selected) (sym here) c.requires.most
+
+pub returns : goal.returns
+returns c =
+    let here = ap (map entry_data) c.deref.ensures.value ∙ c.self.view_is in
+    subst (λ (es : List EntryData). IfOk c.draw_screen.result (IsDrawn (pager_layers (record {
+      width = c.args.width;
+      height = c.args.height;
+      entries = es;
+      state = c.args.state;
+    })) (page_area c.args.width c.args.height))) here c.draw_screen.ensures

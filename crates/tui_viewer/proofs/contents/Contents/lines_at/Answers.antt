@@ -1,0 +1,20 @@
+use Rattle.std.proofs.Common.{◌≡◌, ◌∙◌, ap, length, map, subst, sym, List}
+use Rattle.std.specs.Prelude.{IfOk}
+use Rattle.std.proofs.lemmas.List.{length-map}
+use Rattle.tui_text.specs.Width.{saturated}
+use Rattle.tui_viewer.specs.Entry.{EntryData, entry_data}
+use Rattle.tui_viewer.specs.Laws.{IsPlace}
+use Rattle.tui_viewer.specs.Screen.{body_lines}
+use Rattle.tui_viewer.specs.Steps.{lines_at}
+use Rattle.tui_viewer.proofs.contents.Contents.lines_at.Goals as goal
+
+pub selected_lines-requires-clause-place : goal.selected_lines-requires-clause-place
+selected_lines-requires-clause-place c =
+    let here = ap (map entry_data) c.deref.ensures.value ∙ c.self.view_is in
+    subst (λ n. IsPlace n c.args.selected) (ap length (sym here) ∙ length-map c.deref.result.now entry_data) c.requires.place
+
+pub returns : goal.returns
+returns c =
+    let here = ap (map entry_data) c.deref.ensures.value ∙ c.self.view_is in
+    subst (λ (es : List EntryData). IfOk c.selected_lines.result (λ count. count ≡ saturated (lines_at (body_lines es c.args.width) c.args.selected)))
+    here c.selected_lines.ensures

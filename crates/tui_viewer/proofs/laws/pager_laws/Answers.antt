@@ -1,0 +1,5 @@
+use Rattle.tui_viewer.proofs.Sound.{stays_sound, selected_is_seen}
+use Rattle.tui_viewer.proofs.laws.pager_laws.Goals as goal
+
+pub returns : goal.returns
+returns c = record { sound = stays_sound; seen = selected_is_seen }

@@ -1,0 +1,10 @@
+-- An entry as plain data.
+use Rattle.std.specs.Prelude.{ℕ, List}
+use Rattle.tui_viewer.specs.declared.entry.Entry.{Entry}
+
+pub record EntryData : Type 0 where
+  pub title : List ℕ
+  pub body : List ℕ
+
+abbrev pub entry_data : Entry → EntryData
+entry_data e = record { title = e.title.now; body = e.body.now }

@@ -1,0 +1,10 @@
+-- A pager as plain data.
+use Rattle.std.specs.Prelude.{ℕ, List}
+use Rattle.tui_viewer.specs.Entry.{EntryData}
+use Rattle.tui_viewer.specs.declared.state.PagerState.{PagerState}
+
+pub record PagerData : Type 0 where
+  pub width : ℕ
+  pub height : ℕ
+  pub entries : List EntryData
+  pub state : PagerState

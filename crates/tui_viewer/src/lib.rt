@@ -1,0 +1,22 @@
+//! Pagers: a list of entries, and the body of the selected one beside it, moved by keys.
+#![tactic(auto)]
+
+mod body;
+mod contents;
+mod drawing;
+pub mod entry;
+pub mod key;
+mod laws;
+mod making;
+pub mod pager;
+pub mod pager_error;
+mod shown;
+pub mod state;
+mod steps;
+
+pub use entry::Entry;
+pub use key::Key;
+pub use laws::pager_laws;
+pub use pager::Pager;
+pub use pager_error::PagerError;
+pub use state::PagerState;
