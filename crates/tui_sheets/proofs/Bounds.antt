@@ -1,5 +1,5 @@
 -- The size of the pages of an input.
-use Rattle.std.proofs.Common.{◌≡◌, ℕ, ◌<◌, ◌≤◌, Bool, true, false, ◌&&◌, leb, cond, List, Option, Some, None, Result, Ok, Err, codes, refl, sym, ap, subst, ◌∙◌, arith}
+use Rattle.std.proofs.Common.{◌≡◌, ℕ, ◌≤◌, Bool, true, false, ◌&&◌, cond, List, Option, Some, None, Result, Ok, Err, refl, subst, arith}
 use Rattle.std.specs.Prelude.{nat_le, option_and_then}
 use Rattle.std.proofs.lemmas.Bool.Decides.{nat_tests}
 use Rattle.serde_json.specs.Data.{Data}
@@ -7,10 +7,8 @@ use Rattle.serde_json.specs.Find.{as_str, get}
 use Rattle.tui_json.specs.Members.{member}
 use Rattle.tui_json.specs.Number.{between, u16_of, within}
 use Rattle.tui_json.specs.Refusals.{◌>>=◌, or_refuse}
-use Rattle.serde_json.specs.Data.{Items}
 use Rattle.tui_json.specs.Members.{elements_within}
 use Rattle.tui_json.specs.Refusals.{numbered}
-use Rattle.tui_report.specs.Report.{ColumnData}
 use Rattle.tui_sheets.specs.Input.{InputData, SheetData, column_of, input_of, record_of, required, sheet_of}
 use Rattle.tui_sheets.specs.Refusals.{bad_input, field_name}
 use Rattle.tui_sheets.specs.declared.field.ReportField.TheVariants as fields

@@ -1,5 +1,5 @@
 -- The command that words name.
-use Rattle.std.proofs.Common.{◌≡◌, ℕ, Bool, true, false, List, [], ◌∷◌, Some, None, codes, String, Global, refl, sym, ◌∙◌, true≢false}
+use Rattle.std.proofs.Common.{◌≡◌, ℕ, List, [], ◌∷◌, Some, None, codes, String, Global, refl, sym, ◌∙◌}
 use Rattle.tui_run.specs.Words.{AreTexts, IsOnly}
 use Rattle.tui_sheets.specs.Rules.{Names}
 use Rattle.tui_sheets.specs.declared.command.PagesCommand.{PagesCommand}

@@ -1,7 +1,7 @@
 -- The input: its fields in order, then column by column and record by record, the first whose test fails being the refusal.
 use Rattle.std.specs.Prelude.{ℕ, nat_lt, List, map, Option, Some, None, option_and_then, Result, Ok, Err}
 use Rattle.std.specs.List.{position}
-use Rattle.serde_json.specs.Data.{Data, Items}
+use Rattle.serde_json.specs.Data.{Data}
 use Rattle.serde_json.specs.Find.{as_str}
 use Rattle.tui_json.specs.Constraint.{constraint_of}
 use Rattle.tui_json.specs.Members.{each_of, elements_within}

@@ -1,5 +1,4 @@
-use Rattle.std.proofs.Common.{sym, ap, ◌∙◌, arith}
-use Rattle.std.specs.Prelude.{length}
+use Rattle.std.proofs.Common.{◌∙◌, arith}
 use Rattle.tui_port.proofs.Gathering.{Gathers-none, Gathers-then}
 use Rattle.tui_sheets.specs.Printed.{first_pages}
 use Rattle.tui_sheets.proofs.Pages.{area_again, ended_early, ended_whole, one_more}

@@ -1,4 +1,4 @@
-use Rattle.std.proofs.Common.{◌≡◌, ◌≤◌, [], true, length}
+use Rattle.std.proofs.Common.{◌≡◌, [], true}
 use Rattle.tui_port.specs.Gathers.{Gathers}
 use Rattle.tui_report.specs.Strokes.{page_area}
 use Rattle.tui_sheets.specs.Printed.{first_pages}
