@@ -23,7 +23,7 @@ fn is_drawn_alone(alloc: Global) -> Mem<bool> {
     let mut buffer = draw_new(alloc, 4, 1, &mut scene)?;
     let old = scene.replace(1, filled(2, "c"));
     draw_at(alloc, &mut scene, 1, &mut buffer)?;
-    Ok(old.area == Rect::new(2, 0, 2, 1) && shows(alloc, &buffer, "aacc")?)
+    Ok(old.area == Rect::new(2, 0, 2, 1) && shows(alloc, &buffer, "aacc\n")?)
 }
 
 fn filled(x: u16, symbol: &'static str) -> Placed<'static> {
