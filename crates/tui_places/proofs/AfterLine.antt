@@ -17,7 +17,7 @@ use Rattle.std.proofs.lemmas.List.{append_assoc, length-drop, length-map}
 use Rattle.tui_text.specs.Text.{text_lines}
 use Rattle.tui_text.specs.Graphemes.{glyph_in, is_shown}
 use Rattle.unicode_segmentation.specs.Grapheme.{graphemes}
-use Rattle.tui_places.specs.AfterLine.{IsAfterLine, IsOneLine, wrapped_lines}
+use Rattle.tui_places.specs.FromLine.{HasLineCount, IsFromLine, wrapped_lines}
 use Rattle.tui_places.specs.Next.{IsOver}
 use Rattle.tui_places.specs.Places.{GoesOn, behind_line, line_part, shown_in}
 use Rattle.tui_places.specs.Rests.{cluster_rule, first_rest, line_rest}
@@ -72,7 +72,7 @@ module _ (w : ℕ) (trim : Bool) (text : List ℕ) (u : IsUtf8 text) (rest : Lis
   others_after : (clusters : List (List ℕ)) (c : List ℕ) (cs : List (List ℕ)) → clusters ≡ c ∷ cs → lines_behind (cluster_rule w trim) clusters ≡ wrap_kept (cluster_rule w trim) clusters
   others_after clusters c cs e = ap (lines_behind (cluster_rule w trim)) e ∙ sym (ap (wrap_kept (cluster_rule w trim)) e)
 
-  pub within : GoesOn text rest → (c : List ℕ) (cs : List (List ℕ)) → shown_in w rest ≡ c ∷ cs → IsAfterLine w trim text rest
+  pub within : GoesOn text rest → (c : List ℕ) (cs : List (List ℕ)) → shown_in w rest ≡ c ∷ cs → IsFromLine w trim 1 text rest
   within g c cs e = record {
     front = g.front;
     whole = g.whole;
@@ -93,10 +93,10 @@ module _ (w : ℕ) (trim : Bool) (text : List ℕ) (u : IsUtf8 text) (rest : Lis
         ∙ ap (λ t. first ∷ (map (glyph_line alignment) (styled style w trim (lines_behind (cluster_rule w trim) t)) ++ others style alignment)) over.shown
         ∙ ap (λ b. first ∷ all_lines style w trim alignment (lines b)) (sym g.same ∙ over.behind)
 
-    pub one_line : o ≡ [] → IsOneLine w trim text
+    pub one_line : o ≡ [] → HasLineCount w trim text 1
     one_line none = λ style alignment. ap length (last_is style alignment ∙ ap (λ b. glyph_line alignment (map (glyph_in (shown_style style w trim)) the_first.first) ∷ all_lines style w trim alignment (lines b)) none)
 
-    pub behind : 0 < length o → IsAfterLine w trim text o
+    pub behind : 0 < length o → IsFromLine w trim 1 text o
     behind some = record {
       front = g.front ++ over.front;
       whole = g.whole ∙ ap (λ t. g.front ++ t) over.whole ∙ sym (append_assoc g.front over.front o);
@@ -107,27 +107,28 @@ module _ (w : ℕ) (trim : Bool) (text : List ℕ) (u : IsUtf8 text) (rest : Lis
         some_lines [] h = absurd (omega arith)
         some_lines (x ∷ b) h = refl
 
--- a text that has such a rest has two lines, and is longer
-module _ (w : ℕ) (trim : Bool) (text : List ℕ) (u : IsUtf8 text) (rest : List ℕ) (v : IsUtf8 rest) (after : IsAfterLine w trim text rest) where
-  some_lines_of : (bytes : List ℕ) → IsUtf8 bytes → 0 < length (wrapped_lines no_style Left w trim bytes)
-  some_lines_of bytes h =
-      let R = cluster_rule w trim in
-      let some = wrap_some R (shown_in w bytes) (all_fit-kept width_of w (filter is_shown (line_part (graphemes true bytes)))) in
-      let first = by_first no_style w trim Left bytes h in
-      let size = length-append (map (glyph_line Left) (styled no_style w trim (wrap_kept R (shown_in w bytes)))) (all_lines no_style w trim Left (lines (behind_line bytes))) in
-      let a = length-map (styled no_style w trim (wrap_kept R (shown_in w bytes))) (glyph_line Left) in
-      let b = length-map (wrap_kept R (shown_in w bytes)) (map (glyph_in (shown_style no_style w trim))) in
-      let c = ap length first in
-      omega arith
+-- a text has a line
+pub has_line : (style : Style) (alignment : Alignment) (w : ℕ) (trim : Bool) (text : List ℕ) → IsUtf8 text → 0 < length (wrapped_lines style alignment w trim text)
+has_line style alignment w trim text u =
+    let R = cluster_rule w trim in
+    let some = wrap_some R (shown_in w text) (all_fit-kept width_of w (filter is_shown (line_part (graphemes true text)))) in
+    let first = by_first style w trim alignment text u in
+    let size = length-append (map (glyph_line alignment) (styled style w trim (wrap_kept R (shown_in w text)))) (all_lines style w trim alignment (lines (behind_line text))) in
+    let a = length-map (styled style w trim (wrap_kept R (shown_in w text))) (glyph_line alignment) in
+    let b = length-map (wrap_kept R (shown_in w text)) (map (glyph_in (shown_style style w trim))) in
+    let c = ap length first in
+    omega arith
 
+-- a text that goes on behind its first line has two, and is longer
+module _ (w : ℕ) (trim : Bool) (text : List ℕ) (u : IsUtf8 text) (rest : List ℕ) (v : IsUtf8 rest) (after : IsFromLine w trim 1 text rest) where
   two_lines : length (wrapped_lines no_style Left w trim text) ≡ length (wrapped_lines no_style Left w trim rest) + 1
   two_lines =
-      let a = some_lines_of text u in
+      let a = has_line no_style Left w trim text u in
       let b = ap length (after.lines no_style Left) ∙ length-drop 1 (wrapped_lines no_style Left w trim text) in
       omega arith
 
-  pub not_one : IsOneLine w trim text → ⊥
-  not_one one = let a = some_lines_of rest v in let b = one no_style Left in let c = two_lines in omega arith
+  pub not_one : HasLineCount w trim text 1 → ⊥
+  not_one one = let a = has_line no_style Left w trim rest v in let b = one no_style Left in let c = two_lines in omega arith
 
   pub shorter : length rest < length text
   shorter = by_front after.front after.whole
@@ -138,14 +139,14 @@ module _ (w : ℕ) (trim : Bool) (text : List ℕ) (u : IsUtf8 text) (rest : Lis
 
 -- what is said of an answer, as the clauses say it
 abbrev pub Answers : ℕ → Bool → List ℕ → Option (Bor (List ℕ)) → Type 0
-Answers w trim text found = MatchOption found (IsOneLine w trim text) (λ rest. IsUtf8 rest.now × IsAfterLine w trim text rest.now)
+Answers w trim text found = MatchOption found (HasLineCount w trim text 1) (λ rest. IsUtf8 rest.now × IsFromLine w trim 1 text rest.now)
 
 module _ (w : ℕ) (trim : Bool) (text : List ℕ) (u : IsUtf8 text) where
-  pub says_one : (found : Option (Bor (List ℕ))) → Answers w trim text found → (found ≡ None) ↔ IsOneLine w trim text
+  pub says_one : (found : Option (Bor (List ℕ))) → Answers w trim text found → (found ≡ None) ↔ HasLineCount w trim text 1
   says_one None h = (λ _. h, λ _. refl)
   says_one (Some rest) h = (λ e. cc, λ one. absurd (not_one w trim text u rest.now h.0 h.1 one))
 
-  pub says_rest : (found : Option (Bor (List ℕ))) → Answers w trim text found → IfSome found (λ rest. IsAfterLine w trim text rest.now)
+  pub says_rest : (found : Option (Bor (List ℕ))) → Answers w trim text found → IfSome found (λ rest. IsFromLine w trim 1 text rest.now)
   says_rest None h = tt
   says_rest (Some rest) h = h.1
 
@@ -157,4 +158,4 @@ module _ (w : ℕ) (trim : Bool) (text : List ℕ) (u : IsUtf8 text) where
   pub answered : (rest : List ℕ) → shown_in w rest ≡ first_rest (cluster_rule w trim) (shown_in w text) → GoesOn text rest → (o : List ℕ) → IsOver w rest o → (found : Option (Bor (List ℕ)))
       → MatchOption found (o ≡ []) (λ some. (some.now ≡ o) × (0 < length o)) → Answers w trim text found
   answered rest shown g o over None none = one_line w trim text u rest shown g o over none
-  answered rest shown g o over (Some some) (same, more) = (subst IsUtf8 (sym same) over.utf8, subst (IsAfterLine w trim text) (sym same) (behind w trim text u rest shown g o over more))
+  answered rest shown g o over (Some some) (same, more) = (subst IsUtf8 (sym same) over.utf8, subst (IsFromLine w trim 1 text) (sym same) (behind w trim text u rest shown g o over more))

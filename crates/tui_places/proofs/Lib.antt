@@ -9,3 +9,4 @@ mod FirstCluster
 mod Walked
 mod WrappedLines
 mod AfterLine
+mod FromLine

@@ -2,4 +2,5 @@ pub mod Places
 pub mod Rests
 pub mod Next
 pub mod Walks
-pub mod AfterLine
+pub mod FromLine
+pub mod Reading

@@ -4,7 +4,9 @@
 mod clusters;
 mod graphemes;
 mod line;
+mod places;
 mod rest;
 
 pub use clusters::clusters_go_on;
+pub use places::{from_line, line_places};
 pub use rest::after_line;
