@@ -4,6 +4,8 @@ mod Rows
 mod Mapped
 mod WithCuts
 mod Zipped
+mod BrokenLines
+mod MarkedCuts
 mod WithoutCuts
 mod LinesBehind
 mod Filled
