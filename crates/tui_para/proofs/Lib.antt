@@ -1,12 +1,12 @@
-mod Unique
-mod Greedy
+pub mod Unique
+pub mod Greedy
 mod Rows
-mod Mapped
+pub mod Mapped
 mod WithCuts
 mod Zipped
 mod BrokenLines
 mod MarkedCuts
-mod WithoutCuts
+pub mod WithoutCuts
 mod LinesBehind
 mod Filled
 mod Parts

@@ -1,0 +1,5 @@
+pub mod Places
+pub mod Rests
+pub mod Next
+pub mod Walks
+pub mod AfterLine

@@ -1,0 +1,27 @@
+//! The clusters of a text, one by one.
+
+ghost use Rattle.std.specs.List.{concat};
+ghost use Rattle.std.specs.Prelude.{◌≡◌, ◌<◌, ◌++◌, ◌∷◌, [], ℕ, List, drop, length, true, IfSome, None};
+ghost use Rattle.std.specs.Str.{IsUtf8};
+ghost use Rattle.unicode_segmentation.specs.Grapheme.{graphemes};
+
+use unicode_segmentation::UnicodeSegmentation;
+
+/// The clusters of a text from any of them on are the clusters of the rest alone.
+pub fn clusters_go_on()
+    ensures { (text : List ℕ) (k : ℕ) → IsUtf8 text
+        → graphemes true (concat (drop k (graphemes true text))) ≡ drop k (graphemes true text) }
+{}
+
+/// The first cluster of a text and the text behind it, None where there is none.
+pub(crate) fn first_cluster(text: &str) -> Option<(&str, &str)>
+    ensures none { result ≡ None → (graphemes true text.now ≡ []) × (text.now ≡ []) }
+    ensures clusters { IfSome result (λ (first, rest). graphemes true text.now ≡ first.now ∷ graphemes true rest.now) }
+    ensures whole { IfSome result (λ (first, rest). text.now ≡ first.now ++ rest.now) }
+    ensures utf8 { IfSome result (λ (first, rest). IsUtf8 rest.now) }
+    ensures shorter { IfSome result (λ (first, rest). length rest.now < length text.now) }
+{
+    let mut clusters = text.graphemes(true);
+    let first = clusters.next()?;
+    Some((first, clusters.as_str()))
+}
