@@ -4,6 +4,8 @@ mod Rows
 pub mod Mapped
 mod WithCuts
 mod Zipped
+mod BrokenLines
+mod MarkedCuts
 pub mod WithoutCuts
 mod LinesBehind
 mod Filled
