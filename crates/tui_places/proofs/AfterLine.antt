@@ -17,7 +17,7 @@ use Rattle.std.proofs.lemmas.List.{append_assoc, length-drop, length-map}
 use Rattle.tui_text.specs.Text.{text_lines}
 use Rattle.tui_text.specs.Graphemes.{glyph_in, is_shown}
 use Rattle.unicode_segmentation.specs.Grapheme.{graphemes}
-use Rattle.tui_places.specs.FromLine.{HasLineCount, IsFromLine, wrapped_lines}
+use Rattle.tui_places.specs.AfterLine.{HasLineCount, IsFromLine, wrapped_lines}
 use Rattle.tui_places.specs.Next.{IsOver}
 use Rattle.tui_places.specs.Places.{GoesOn, behind_line, line_part, shown_in}
 use Rattle.tui_places.specs.Rests.{cluster_rule, first_rest, line_rest}

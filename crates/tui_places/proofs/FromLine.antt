@@ -8,7 +8,7 @@ use Rattle.std.proofs.lemmas.Str.{IsCharBoundary-at_seam, IsCharBoundary-start}
 use Rattle.std.proofs.Math.Seq.{drop-append_seam}
 use Rattle.tui_cells.specs.Style.{no_style}
 use Rattle.tui_text.specs.declared.alignment.Alignment.TheVariants.{Left}
-use Rattle.tui_places.specs.FromLine.{ArePlaces, HasAtMost, HasLineCount, IsFromLine, IsPlace, wrapped_lines}
+use Rattle.tui_places.specs.AfterLine.{ArePlaces, HasAtMost, HasLineCount, IsFromLine, IsPlace, wrapped_lines}
 use Rattle.tui_places.specs.Reading.{HasPassed, Passes}
 use Rattle.tui_places.proofs.AfterLine.{has_line, shorter}
 

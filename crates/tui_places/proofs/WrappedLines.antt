@@ -17,7 +17,7 @@ use Rattle.tui_para.specs.Places.{wrap_kept}
 use Rattle.tui_para.specs.WrappedText.{text_glyph_line}
 use Rattle.tui_para.specs.Wrapped.{kept}
 use Rattle.tui_para.proofs.WithoutCuts.{no_cuts, plain, wrap_map}
-use Rattle.tui_places.specs.FromLine.{wrapped_lines}
+use Rattle.tui_places.specs.AfterLine.{wrapped_lines}
 use Rattle.tui_places.specs.Places.{behind_line, line_part, shown_in}
 use Rattle.tui_places.specs.Rests.{cluster_rule}
 use Rattle.tui_places.proofs.LineClusters.{by_clusters}

@@ -2,5 +2,5 @@ pub mod Places
 pub mod Rests
 pub mod Next
 pub mod Walks
-pub mod FromLine
+pub mod AfterLine
 pub mod Reading

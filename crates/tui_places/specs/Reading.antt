@@ -1,6 +1,6 @@
 -- What is kept where lines are passed.
 use Rattle.std.specs.Prelude.{◌≡◌, ℕ, ◌+◌, ◌<◌, ◌≤◌, Bool, List, length, slice_index}
-use Rattle.tui_places.specs.FromLine.{IsFromLine, IsPlace}
+use Rattle.tui_places.specs.AfterLine.{IsFromLine, IsPlace}
 
 -- k lines are passed, each of which had a byte at least
 pub record Passes (w : ℕ) (trim : Bool) (text : List ℕ) (k : ℕ) (rest : List ℕ) : Type 0 where

@@ -2,7 +2,7 @@
 
 ghost use Rattle.std.specs.Prelude.{◌≡◌, ◌↔◌, ◌<◌, ◌≤◌, ◌+◌, length, IfOk, IfSome, MatchOption, None, Some};
 ghost use Rattle.std.specs.Str.{IsUtf8};
-ghost use Rattle.tui_places.specs.FromLine.{ArePlaces, HasAtMost, HasLineCount, IsFromLine};
+ghost use Rattle.tui_places.specs.AfterLine.{ArePlaces, HasAtMost, HasLineCount, IsFromLine};
 
 use crate::rest::second_line;
 use std::alloc::Global;

@@ -2,7 +2,7 @@
 
 ghost use Rattle.std.specs.Prelude.{◌≡◌, ◌↔◌, ◌<◌, [], length, IfSome, MatchOption, None, Some};
 ghost use Rattle.std.specs.Str.{IsUtf8};
-ghost use Rattle.tui_places.specs.FromLine.{HasLineCount, IsFromLine};
+ghost use Rattle.tui_places.specs.AfterLine.{IsAfterLine, IsOneLine};
 
 use crate::graphemes::{Next, next_grapheme};
 use crate::line::{line_end, line_start, past_blanks};
@@ -10,15 +10,15 @@ use crate::line::{line_end, line_start, past_blanks};
 /// The text from where its second line begins, where lines break at blanks alone; None where it has only one. The work is
 /// that of one line and what is read ahead for its end, and it takes no memory.
 pub fn after_line(text: &str, width: u16, trim: bool) -> Option<&str>
-    ensures one { result ≡ None ↔ HasLineCount width trim text.now 1 }
-    ensures rest { IfSome result (λ rest. IsFromLine width trim 1 text.now rest.now) }
+    ensures one { result ≡ None ↔ IsOneLine width trim text.now }
+    ensures rest { IfSome result (λ rest. IsAfterLine width trim text.now rest.now) }
     ensures shorter { IfSome result (λ rest. length rest.now < length text.now) }
 {
     second_line(text, width, trim)
 }
 
 pub(crate) fn second_line(text: &str, width: u16, trim: bool) -> Option<&str>
-    ensures { MatchOption result (HasLineCount width trim text.now 1) (λ rest. IsUtf8 rest.now × IsFromLine width trim 1 text.now rest.now) }
+    ensures { MatchOption result (IsOneLine width trim text.now) (λ rest. IsUtf8 rest.now × IsAfterLine width trim text.now rest.now) }
 {
     let start = line_start(text, width, trim);
     let end = line_end(start, width);

@@ -1,6 +1,6 @@
 use denote.Text.{Utf8}
 use denote.Shadow.{shadow}
-use Rattle.tui_places.specs.FromLine.{IsFromLine}
+use Rattle.tui_places.specs.AfterLine.{IsFromLine}
 use Rattle.tui_places.proofs.places.rest_from.Given as goal
 
 abbrev pub invariant-loop-line : goal.invariant-loop-line

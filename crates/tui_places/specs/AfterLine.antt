@@ -12,9 +12,12 @@ use Rattle.tui_para.specs.WrappedText.{wrap_text}
 abbrev pub wrapped_lines : Style → Alignment → ℕ → Bool → List ℕ → List GlyphLine
 wrapped_lines style alignment w trim text = wrap_text w (at_blanks trim) alignment (record (raw_text text) { style = style })
 
--- the text has n lines, or at most n
+-- the text has n lines; it has one; it has at most n
 abbrev pub HasLineCount : ℕ → Bool → List ℕ → ℕ → Type 0
 HasLineCount w trim text n = (style : Style) (alignment : Alignment) → length (wrapped_lines style alignment w trim text) ≡ n
+
+abbrev pub IsOneLine : ℕ → Bool → List ℕ → Type 0
+IsOneLine w trim text = HasLineCount w trim text 1
 
 abbrev pub HasAtMost : ℕ → Bool → List ℕ → ℕ → Type 0
 HasAtMost w trim text n = (style : Style) (alignment : Alignment) → length (wrapped_lines style alignment w trim text) ≤ n
@@ -24,6 +27,10 @@ pub record IsFromLine (w : ℕ) (trim : Bool) (k : ℕ) (text rest : List ℕ) :
   pub front : List ℕ
   pub whole : text ≡ front ++ rest
   pub lines : (style : Style) (alignment : Alignment) → wrapped_lines style alignment w trim rest ≡ drop k (wrapped_lines style alignment w trim text)
+
+-- behind its first line
+abbrev pub IsAfterLine : ℕ → Bool → List ℕ → List ℕ → Type 0
+IsAfterLine w trim text rest = IsFromLine w trim 1 text rest
 
 -- the lines from line k on are those of the text from this place on
 pub record IsPlace (w : ℕ) (trim : Bool) (text : List ℕ) (k place : ℕ) : Type 0 where
