@@ -1,9 +1,12 @@
 -- A text's first cluster and what stands behind it.
-use Rattle.std.proofs.Common.{◌≡◌, ℕ, ◌<◌, Bool, true, false, List, [], ◌∷◌, ◌++◌, length, map, drop, length-append, sym, ap, ◌∙◌, subst, arith}
+use Rattle.std.proofs.Common.{◌≡◌, ℕ, ◌<◌, Bool, true, false, List, [], ◌∷◌, ◌++◌, length, map, take, drop, slice_index, length-append, sym, ap, ◌∙◌, subst, arith}
 use Rattle.std.specs.List.{concat, AllByRecursion}
 use Rattle.std.specs.Prelude.{if◌then◌else◌, encode_utf8_all}
 use Rattle.std.specs.Str.{IsUtf8, chars}
 use Rattle.std.proofs.lemmas.Str.{length-le-encodes}
+use Rattle.std.proofs.lemmas.List.{take_more}
+use Rattle.tui_text.proofs.PartClusters.{graphemes-one, graphemes-part}
+use Rattle.tui_text.specs.Part.{IsSeam}
 use Rattle.unicode_segmentation.specs.Grapheme.{graphemes, is_grapheme_break}
 use Rattle.unicode_segmentation.specs.Segments.{cut, prepend, segments}
 use Rattle.tui_places.proofs.Boundaries.{graphemes-rest}
@@ -46,3 +49,10 @@ module _ (text : List ℕ) (u : IsUtf8 text) where
         let some : 0 < length first = (subst Some_in clusters (graphemes_some text)).0 in
         let size = ap length whole_text ∙ length-append first rest in
         omega arith
+
+-- a printable character of one byte before another
+pub printable_first : (text : List ℕ) → IsUtf8 text → 1 < length text → IsSeam text 1 → graphemes true text ≡ take 1 text ∷ graphemes true (drop 1 text)
+printable_first text u some s =
+    let one : take 1 text ≡ slice_index text 0 ∷ [] = take_more text 0 0 (omega arith) in
+    graphemes-part text 1 u (omega arith) (omega arith) (λ _. s)
+    ∙ ap (λ t. t ++ graphemes true (drop 1 text)) (ap (graphemes true) one ∙ graphemes-one (slice_index text 0) s.before ∙ ap (λ t. t ∷ []) (sym one))

@@ -1,16 +1,9 @@
-use Rattle.std.proofs.Common.{sym, ◌∙◌}
-use Rattle.tui_places.proofs.FirstCluster.{no_text, rest_clusters, whole_text, shorter_rest}
+use Rattle.std.proofs.Common.{◌∷◌, ap₂, refl, sym, true, ◌∙◌}
+use Rattle.unicode_segmentation.specs.Grapheme.{graphemes}
+use Rattle.tui_places.proofs.FirstCluster.{printable_first}
 use Rattle.tui_places.proofs.clusters.first_cluster.Goals as goal
 
-pub returns-clause-clusters : goal.returns-clause-clusters
-returns-clause-clusters c = rest_clusters c.args.text.now c.utf8.text _ _ _ (sym c.graphemes-clusters.ensures.left ∙ c.in_ok-first.ensures.steps) c.as_str.ensures
-
-pub returns-clause-whole : goal.returns-clause-whole
-returns-clause-whole c = whole_text c.args.text.now c.utf8.text _ _ _ (sym c.graphemes-clusters.ensures.left ∙ c.in_ok-first.ensures.steps) c.as_str.ensures
-
-pub returns-clause-shorter : goal.returns-clause-shorter
-returns-clause-shorter c = shorter_rest c.args.text.now c.utf8.text _ _ _ (sym c.graphemes-clusters.ensures.left ∙ c.in_ok-first.ensures.steps) c.as_str.ensures
-
-pub returns-in_err-first-clause-none : goal.returns-in_err-first-clause-none
-returns-in_err-first-clause-none c = λ _.
-    let none = sym c.graphemes-clusters.ensures.left ∙ c.in_err-first.ensures.steps.0 in (none, no_text c.args.text.now c.utf8.text none)
+pub returns-then-begins_printable-clause-clusters : goal.returns-then-begins_printable-clause-clusters
+returns-then-begins_printable-clause-clusters c =
+    let two = c.if-begins_printable.ensures refl in
+    printable_first c.args.text.now c.utf8.text two.0 two.1 ∙ ap₂ (λ front back. front ∷ graphemes true back) (sym c.split_at.ensures.front) (sym c.split_at.ensures.back)
