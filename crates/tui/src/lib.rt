@@ -3,6 +3,7 @@
 
 pub mod buffer;
 pub mod layout;
+pub mod pager;
 pub mod report;
 pub mod scene;
 pub mod style;
