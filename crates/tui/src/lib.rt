@@ -3,6 +3,7 @@
 
 pub mod buffer;
 pub mod layout;
+pub mod pager;
 pub mod plain;
 pub mod report;
 pub mod scene;

@@ -133,8 +133,7 @@ pager_layers p =
     ++ (scrollbar_layers bar (bar_state (p.height - 3) most p.state.line) (bar_area p.width p.height)
     ++ paragraph_layers (paragraph_of (raw_text (place_text p.state.selected (length p.entries)))) (last_row p.width p.height)))
 
--- The screen of an area, each cell of which is the blank one under the layers. There is no other: it has as many rows as the area is
--- high, each as long as the area is wide.
+-- a screen of an area and of its shape, each cell of which is the blank one under the layers
 pub record IsDrawn (layers : List Layer) (area : Rect) (screen : Screen) : Type 0 where
   pub area_is : screen.area ≡ area
   pub cells : (x y : ℕ) → covers area x y ≡ true → cell_at screen x y ≡ Some (layers_at layers x y blank)

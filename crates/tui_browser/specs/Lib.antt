@@ -1,0 +1,7 @@
+pub mod Refusals
+pub mod Keys
+pub mod Input
+pub mod States
+pub mod Printed
+pub mod Ended
+pub mod Rules
