@@ -9,6 +9,7 @@ use crate::buffer::{Attributes, NoMemory};
 use crate::layout::{
     Alignment, Constraint, Direction, Flex, Fraction, Offset, Position, Rect, Segment, Window,
 };
+use crate::pager::{Key, PagerError, PagerState};
 use crate::report::{Piece, ReportError};
 use crate::scene::DrawError;
 use crate::style::{Color, Modifier, ParseError, Style};
@@ -74,6 +75,18 @@ impl Plain for Segment {
 }
 
 impl Plain for Window {
+    ghost same = { Prim.search rules };
+}
+
+impl Plain for Key {
+    ghost same = { Prim.search rules };
+}
+
+impl Plain for PagerError {
+    ghost same = { Prim.search rules };
+}
+
+impl Plain for PagerState {
     ghost same = { Prim.search rules };
 }
 
