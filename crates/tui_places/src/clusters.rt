@@ -1,18 +1,11 @@
 //! The clusters of a text, one by one.
 
-ghost use Rattle.std.specs.List.{concat};
-ghost use Rattle.std.specs.Prelude.{◌≡◌, ◌<◌, ◌++◌, ◌∷◌, [], ℕ, List, drop, length, true, IfSome, None};
+ghost use Rattle.std.specs.Prelude.{◌≡◌, ◌<◌, ◌++◌, ◌∷◌, [], length, true, IfSome, None};
 ghost use Rattle.std.specs.Str.{IsUtf8};
 ghost use Rattle.tui_text.specs.Part.{is_printable, IsSeam};
 ghost use Rattle.unicode_segmentation.specs.Grapheme.{graphemes};
 
 use unicode_segmentation::UnicodeSegmentation;
-
-/// The clusters of a text from any of them on are the clusters of the rest alone.
-pub fn clusters_go_on()
-    ensures { (text : List ℕ) (k : ℕ) → IsUtf8 text
-        → graphemes true (concat (drop k (graphemes true text))) ≡ drop k (graphemes true text) }
-{}
 
 /// The first cluster of a text and the text behind it, None where there is none. Between two printable characters of one byte
 /// there is always a boundary, so such a character needs no tables.

@@ -3,10 +3,11 @@
 
 mod clusters;
 mod graphemes;
+pub mod laws;
 mod line;
 mod places;
 mod rest;
 
-pub use clusters::clusters_go_on;
+pub use laws::clusters_go_on;
 pub use places::{from_line, line_places};
 pub use rest::after_line;
