@@ -8,8 +8,8 @@ use crate::rest::second_line;
 use std::alloc::Global;
 use tui_cells::Mem;
 
-/// The text from where its line `line` begins, counted from 0, where lines break at blanks alone; None where it has no such line. It
-/// takes no memory, and its work is that of the lines above that one.
+/// The text from where its line `line`, counted from 0, begins, where it is wrapped into lines of `width` columns that break at blanks
+/// alone; None where it has no such line. The work is that of the lines above. It takes no memory.
 pub fn from_line(text: &str, width: u16, trim: bool, line: usize) -> Option<&str>
     ensures past { result ≡ None ↔ HasAtMost width trim text.now line }
     ensures rest { IfSome result (λ rest. IsFromLine width trim line text.now rest.now) }
@@ -42,9 +42,9 @@ fn line_count(text: &str, width: u16, trim: bool) -> usize
     count
 }
 
-/// Where the lines of the text begin, in bytes from its front, each at a boundary of characters: the lines from each place on
-/// are those of the text behind it. It reserves 8 bytes a line, and its work is twice that of reading the text once.
-/// `NoMemory` where there is none for the places.
+/// Where the lines of a text begin, in bytes, where it is wrapped into lines of `width` columns that break at blanks alone: from each
+/// of these places on, the text has the lines from that one on. It takes 8 bytes a line, and reads the text twice. `NoMemory`
+/// where there is none for the places.
 pub fn line_places(alloc: Global, text: &str, width: u16, trim: bool) -> Mem<Vec<usize>>
     ensures { IfOk result (λ places. ArePlaces width trim text.now places.items) }
 {

@@ -7,8 +7,8 @@ ghost use Rattle.tui_places.specs.AfterLine.{IsAfterLine, IsOneLine};
 use crate::graphemes::{Next, next_grapheme};
 use crate::line::{line_end, line_start, past_blanks};
 
-/// The text from where its second line begins, where lines break at blanks alone; None where it has only one. The work is
-/// that of one line and what is read ahead for its end, and it takes no memory.
+/// The text from where its second line begins, where it is wrapped into lines of `width` columns that break at blanks alone; None
+/// where it has only one line. The work is that of the line and of what is read ahead for its end. It takes no memory.
 pub fn after_line(text: &str, width: u16, trim: bool) -> Option<&str>
     ensures one { result ≡ None ↔ IsOneLine width trim text.now }
     ensures rest { IfSome result (λ rest. IsAfterLine width trim text.now rest.now) }
