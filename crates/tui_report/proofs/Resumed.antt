@@ -1,5 +1,5 @@
 -- A cell drawn from where it goes on.
-use Rattle.std.proofs.Common.{◌≡◌, ℕ, ◌<◌, List, [], ◌++◌, drop, Result, sym, ap, refl, ◌∙◌, subst, true}
+use Rattle.std.proofs.Common.{◌≡◌, ℕ, List, [], ◌++◌, drop, Result, sym, ap, ◌∙◌, subst}
 use Rattle.std.specs.Prelude.{OnOk}
 use Rattle.std.specs.Str.{IsCharBoundary}
 use Rattle.tui_cells.specs.Buffer.{Screen}
@@ -8,7 +8,7 @@ use Rattle.tui_cells.specs.Layers.{Painted, stroke}
 use Rattle.tui_cells.specs.Rect.{covers, intersection_of}
 use Rattle.tui_cells.specs.Style.{no_style}
 use Rattle.tui_cells.specs.declared.rect.Rect.{Rect}
-use Rattle.tui_para.specs.Paragraph.{ParagraphData, paragraph_of}
+use Rattle.tui_para.specs.Paragraph.{paragraph_of}
 use Rattle.tui_para.specs.Rendering.{paragraph_layers}
 use Rattle.tui_para.specs.Strokes.{glyph_lines_layers}
 use Rattle.tui_report.specs.Starts.{GoesOn, cell_lines}
