@@ -4,6 +4,7 @@
 use std::alloc::Global;
 use tui::buffer::{Attributes, Buffer, Mem, visible_cells};
 use tui::layout::{Alignment, Constraint, Flex, Fraction, Rect, Segment, split};
+use tui::pager::{Entry, Key, Pager, PagerError};
 use tui::report::{Column, Record, Report};
 use tui::style::{Color, Modifier, Style};
 use tui::symbols::MergeStrategy;
@@ -304,4 +305,25 @@ fn print_pages(alloc: Global, report: &Report<'_>, area: Rect) -> anyhow::Result
         out.push('\x0c')?;
     }
     Ok(out)
+}
+
+fn run_keys(pager: &mut Pager<'_>, keys: &[Key]) -> Mem<()> {
+    for key in keys {
+        pager.key(*key)?;
+    }
+    Ok(())
+}
+
+fn with_new_entries<'a>(
+    alloc: Global,
+    pager: &Pager<'_>,
+    entries: Vec<Entry<'a>>,
+    place: usize,
+) -> Result<Pager<'a>, PagerError> {
+    let area = pager.screen().area();
+    let mut next = Pager::new(alloc, area.width, area.height, entries)?;
+    for _step in 0..place {
+        next.key(Key::Down)?;
+    }
+    Ok(next)
 }
