@@ -3,6 +3,7 @@
 
 pub mod buffer;
 pub mod layout;
+pub mod panes;
 pub mod report;
 pub mod scene;
 pub mod style;
