@@ -8,5 +8,7 @@ pub use Rattle.tui_layout.specs as layout
 pub use Rattle.tui_lists.specs as lists
 pub use Rattle.tui_para.specs as para
 pub use Rattle.tui_scene.specs as scene
+pub use Rattle.tui_splits.specs as splits
 pub use Rattle.tui_table.specs as table
 pub use Rattle.tui_text.specs as text
+pub use Rattle.tui_tree.specs as tree

@@ -4,6 +4,7 @@
 pub mod buffer;
 pub mod layout;
 pub mod pager;
+pub mod panes;
 pub mod plain;
 pub mod report;
 pub mod scene;

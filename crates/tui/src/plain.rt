@@ -10,6 +10,7 @@ use crate::layout::{
     Alignment, Constraint, Direction, Flex, Fraction, Offset, Position, Rect, Segment, Window,
 };
 use crate::pager::{Key, PagerError, PagerState};
+use crate::panes::{OrderError, PanesError};
 use crate::report::{Piece, ReportError};
 use crate::scene::DrawError;
 use crate::style::{Color, Modifier, ParseError, Style};
@@ -87,6 +88,14 @@ impl Plain for PagerError {
 }
 
 impl Plain for PagerState {
+    ghost same = { Prim.search rules };
+}
+
+impl Plain for OrderError {
+    ghost same = { Prim.search rules };
+}
+
+impl Plain for PanesError {
     ghost same = { Prim.search rules };
 }
 

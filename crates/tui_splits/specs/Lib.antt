@@ -1,0 +1,5 @@
+pub mod Draw
+pub mod Laws
+pub mod Order
+pub mod Panes
+pub mod Replace
