@@ -63,6 +63,22 @@ def scene_width(file):
         return json.load(scene)["width"]
 
 
+def program_of(file):
+    """The program that reads a file of examples/: the one that NAME-input.json names, else the one that draws scenes."""
+    name = file.name.removesuffix("-input.json")
+    return name if name != file.name else "scene"
+
+
+def sheets(lines):
+    """The lines of a print in parts, each of which begins with a line `p`; one part where there is none."""
+    found = [[]]
+    for line in lines:
+        if line.startswith("p ") and found != [[]]:
+            found.append([])
+        found[-1].append(line)
+    return found
+
+
 def read(lines, width=None):
     """The rows, each its cells and its runs (column, length, foreground, background, bits); other lines are left out. Where no
     width is given, it is the one that most rows come to."""

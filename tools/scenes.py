@@ -1,5 +1,5 @@
 #!/usr/bin/env python3
-"""Writes the scenes that docs/PERFORMANCE.md measures into a folder: scenes.py FOLDER."""
+"""Writes the scenes and the reports that docs/PERFORMANCE.md measures into a folder: scenes.py FOLDER."""
 import json
 import pathlib
 import random
@@ -130,6 +130,35 @@ def ignored():
     return {**scene(1, 1, []), "more": more}
 
 
+def report(width, height, sizes, records):
+    columns = [{"name": f"column {i}", "size": size} for i, size in enumerate(sizes)]
+    return {"width": width, "height": height, "title": "Report", "columns": columns, "records": records}
+
+
+def records(count):
+    """Records of three texts of 5 to 20, 10 to 80 and 5 to 30 letters, in words of 1 to 9."""
+    source = random.Random(4718)
+
+    def text(length):
+        each = []
+        while length > 0:
+            each.append("abcdefghi"[: source.randint(1, 9)])
+            length -= len(each[-1]) + 1
+        return " ".join(each)
+
+    return [[text(source.randint(5, 20)), text(source.randint(10, 80)), text(source.randint(5, 30))] for _ in range(count)]
+
+
+def letters(count):
+    """So many records of one word of 4,096 letters, a line for each letter."""
+    return report(3, 4, [1], [["abcdefghijklmnop" * 256] for _ in range(count)])
+
+
+def newlines(count):
+    """So many records of 4,096 lines of one letter."""
+    return report(3, 4, [1], [["a\n" * 4096] for _ in range(count)])
+
+
 SCENES = {
     "ignored": ignored,
     "blank": lambda: scene(1000, 1000, []),
@@ -156,6 +185,10 @@ SCENES = {
     "spark": spark,
     "dashboard": lambda: scene(40, 12, dashboard(0, 0)),
     "dashboards": lambda: scene(240, 72, [item for i in range(36) for item in dashboard(40 * (i % 6), 12 * (i // 6))]),
+    "pages": lambda: report(80, 60, [12, 45, {"fill": 1}], records(10_000)),
+    "pages128": lambda: letters(128),
+    "pages255": lambda: letters(255),
+    "pages85": lambda: newlines(85),
     "exact": lambda: scene(1000, 1000, [block((0, 0, 1000, 1000), merge_borders="Exact")]),
 }
 

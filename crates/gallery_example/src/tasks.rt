@@ -4,6 +4,8 @@
 use std::alloc::Global;
 use tui::buffer::{Attributes, Buffer, Mem, visible_cells};
 use tui::layout::{Alignment, Constraint, Flex, Fraction, Rect, Segment, split};
+use tui::pager::{Entry, Key, Pager, PagerError};
+use tui::report::{Column, Record, Report};
 use tui::style::{Color, Modifier, Style};
 use tui::symbols::MergeStrategy;
 use tui::text::{Line, Text};
@@ -268,4 +270,60 @@ fn draw_names(alloc: Global, count: usize, area: Rect, buffer: &mut Buffer) -> a
     }
     let list = List::new(alloc, items)?;
     Ok(Widget::render(&list, alloc, area, buffer)?)
+}
+
+fn stock_report<'a>(alloc: Global, stock: &[(&'a str, &'a str)]) -> anyhow::Result<Report<'a>> {
+    let mut columns = Vec::new(alloc);
+    for (name, size) in [
+        ("item", Constraint::Fill(1)),
+        ("left", Constraint::Length(4)),
+    ] {
+        columns.push(Column { name, size })?;
+    }
+    let mut records = Vec::new(alloc);
+    for (item, left) in stock {
+        let mut cells = Vec::new(alloc);
+        cells.push(*item)?;
+        cells.push(*left)?;
+        records.push(Record { cells })?;
+    }
+    Ok(Report::new(alloc, 40, 60, "Stock", columns, records)?)
+}
+
+fn print_pages(alloc: Global, report: &Report<'_>, area: Rect) -> anyhow::Result<String> {
+    let mut out = String::new(alloc);
+    let mut page = Buffer::empty(alloc, area)?;
+    for at in 0..report.page_count() {
+        page.reset(area);
+        report.draw_page(alloc, at, &mut page)?;
+        for row in 0..page.height() {
+            for (_, cell) in visible_cells(page.row_at(row)) {
+                out.push_str(cell.symbol())?;
+            }
+            out.push('\n')?;
+        }
+        out.push('\x0c')?;
+    }
+    Ok(out)
+}
+
+fn run_keys(pager: &mut Pager<'_>, keys: &[Key]) -> Mem<()> {
+    for key in keys {
+        pager.key(*key)?;
+    }
+    Ok(())
+}
+
+fn with_new_entries<'a>(
+    alloc: Global,
+    pager: &Pager<'_>,
+    entries: Vec<Entry<'a>>,
+    place: usize,
+) -> Result<Pager<'a>, PagerError> {
+    let area = pager.screen().area();
+    let mut next = Pager::new(alloc, area.width, area.height, entries)?;
+    for _step in 0..place {
+        next.key(Key::Down)?;
+    }
+    Ok(next)
 }

@@ -1,17 +1,33 @@
 -- The run of a row.
-use Rattle.std.specs.Prelude.{ℕ, List, [], Some, String}
+use Rattle.std.specs.Prelude.{ℕ, ◌≡◌, List, [], Some, String}
 use Rattle.std.specs.declared.alloc.Global.{Global}
+use Rattle.scene_rows.specs.declared.program.Program.{Program}
+use Rattle.scene_rows.specs.declared.program.Program.TheVariants as program
+use Rattle.tui_browser.specs.Ended as pager
+use Rattle.tui_browser.specs.Rules.{pager_rules}
+use Rattle.tui_browser.specs.declared.ended.PagerEnded.{PagerEnded}
 use Rattle.tui_port.specs.Causes.{Told}
 use Rattle.tui_port.specs.Memory.{SinkState}
-use Rattle.tui_run.specs.Call.{call_of}
+use Rattle.tui_run.specs.Call.{Call, call_of}
+use Rattle.tui_run.specs.Runs.{IsRun}
+use Rattle.tui_sheets.specs.Ended as pages
+use Rattle.tui_sheets.specs.Rules.{pages_rules}
+use Rattle.tui_sheets.specs.declared.ended.PagesEnded.{PagesEnded}
+use Rattle.tui_shell.specs.Ended as show
 use Rattle.tui_shell.specs.Endings.{Ends}
 use Rattle.tui_shell.specs.declared.ended.Ended.{Ended}
+
+-- a run of a program by these words ends with a status
+abbrev pub EndsWith : Program → List (String Global) → Call → ℕ → Type 0
+EndsWith program.Show words call status = (e : Ended) × Ends words call e × (status ≡ show.status_of e)
+EndsWith program.Pages words call status = (e : PagesEnded) × IsRun pages_rules words call (pages.ending_of e) × (status ≡ pages.status_of e)
+EndsWith program.Pager words call status = (e : PagerEnded) × IsRun pager_rules words call (pager.ending_of e) × (status ≡ pager.status_of e)
 
 -- bytes that are told, and a count of faults
 abbrev pub tells : List ℕ → ℕ → Told
 tells bytes faults = record { bytes = Some bytes; faults = faults }
 
--- a run over these words and these bytes, from an empty sink to this one, ended so
-abbrev pub Ran : List (String Global) → List ℕ → SinkState → Ended → Type 0
-Ran words input sink ended =
-    (left : List ℕ) × (reads : ℕ) × Ends words (call_of (tells input 0) (tells left reads) (tells [] 0) (tells sink.held sink.faults)) ended
+-- a run over these words and these bytes, from an empty sink to this one, ends with a status
+abbrev pub Ran : Program → List (String Global) → List ℕ → SinkState → ℕ → Type 0
+Ran program words input sink status =
+    (left : List ℕ) × (reads : ℕ) × EndsWith program words (call_of (tells input 0) (tells left reads) (tells [] 0) (tells sink.held sink.faults)) status

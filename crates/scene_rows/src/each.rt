@@ -20,7 +20,7 @@ struct Stretch {
 /// Runs a row again and again, and writes a heading with its name, and for each stretch of runs that ended alike how many they
 /// are, their status, and what each of them has written.
 pub(crate) fn run_each<W: Write>(alloc: Global, row: &Row, each: Each, out: &mut W) -> Result<()> {
-    let (_ended, sink) = run(alloc, &row.words, row.given(alloc)?)?;
+    let (_status, sink) = run(alloc, row.program, &row.words, row.given(alloc)?)?;
     let name = &row.name;
     writeln!(out, "== {name} (each)")?;
     let (first, last) = numbers(alloc, row, each, sink.bytes())?;
@@ -60,12 +60,12 @@ fn is_last(each: Each, ran: &Stretch) -> bool {
 fn nth_run(alloc: Global, row: &Row, each: Each, number: usize, whole: &[u8]) -> Result<Stretch> {
     let mut given = row.given(alloc)?;
     change(&mut given, each, number)?;
-    let (ended, sink) = run(alloc, &row.words, given)?;
+    let (status, sink) = run(alloc, row.program, &row.words, given)?;
     let written = sink.bytes();
-    let is_part = ended.status() == 7 && written.len() < whole.len() && whole.starts_with(written);
+    let is_part = status == 7 && written.len() < whole.len() && whole.starts_with(written);
     Ok(Stretch {
         runs: 1,
-        status: ended.status(),
+        status,
         written: Vec::from_slice(alloc, if is_part { PART } else { written })?,
     })
 }

@@ -1,8 +1,9 @@
-//! Runs the command over rows of data: each line of standard input is a row in JSON, and for each the program writes a heading
-//! with its name and its status, and what the run has written. A line that is no row ends it with status 1.
+//! Runs the programs over rows of data: each line of standard input is a row in JSON, and for each it writes a heading with
+//! its name and its status, and what the run has written. A line that is no row ends it with status 1.
 #![tactic(auto)]
 
 mod each;
+mod program;
 mod report;
 mod row;
 mod run;
@@ -39,7 +40,7 @@ fn run_line<W: Write>(alloc: Global, line: &str, out: &mut W) -> Result<()> {
 }
 
 fn run_once<W: Write>(alloc: Global, row: &Row, out: &mut W) -> Result<()> {
-    let (ended, sink) = run(alloc, &row.words, row.given(alloc)?)?;
-    report(out, &row.name, ended, sink.bytes())?;
+    let (status, sink) = run(alloc, row.program, &row.words, row.given(alloc)?)?;
+    report(out, &row.name, status, sink.bytes())?;
     Ok(())
 }

@@ -2,17 +2,15 @@
 
 use std::io;
 use std::io::Write;
-use tui_shell::Ended;
 
 /// Writes a heading with the name and the status, and then what the run has written. `cut` in the heading says that this does
 /// not end with a newline; one follows it then.
 pub(crate) fn report<W: Write>(
     out: &mut W,
     name: &str,
-    ended: Ended,
+    status: u8,
     written: &[u8],
 ) -> io::Result<()> {
-    let status = ended.status();
     let end = if is_cut(written) { ", cut" } else { "" };
     writeln!(out, "== {name} (status {status}{end})")?;
     out.write_all(written)?;

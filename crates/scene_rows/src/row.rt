@@ -1,15 +1,19 @@
 //! A row of the data.
 
+use crate::program::Program;
 use anyhow::{Result, bail};
 use serde::Deserialize;
 use std::alloc::{AllocError, Global};
 
-/// A run of the command, and what is to fail in it.
+/// A run of a program, and what is to fail in it.
 #[derive(Drop, Deserialize)]
 #[serde(deny_unknown_fields)]
 pub(crate) struct Row {
     /// What the row shows.
     pub(crate) name: String,
+    /// The program that runs.
+    #[serde(default = "Program::of_scenes")]
+    pub(crate) program: Program,
     /// The words after the program's name.
     pub(crate) words: Vec<String>,
     /// The input as text.

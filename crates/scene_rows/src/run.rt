@@ -1,20 +1,46 @@
 //! The run of a row.
 
+ghost use Rattle.scene_rows.specs.Ran.{EndsWith, Ran};
 ghost use Rattle.std.specs.Prelude.{IfOk};
-ghost use Rattle.scene_rows.specs.Ran.{Ran};
+ghost use Rattle.tui_run.specs.Call.{call_of};
 
+use crate::program::Program;
 use crate::row::Given;
 use anyhow::Result;
 use std::alloc::Global;
-use tui_port::{MemSink, MemSource};
-use tui_shell::{Ended, show};
+use tui_browser::run_pager;
+use tui_port::{MemSink, MemSource, Sink, Source};
+use tui_sheets::run_pages;
+use tui_shell::show;
 
-/// Runs the command over words and what is given, and answers how it ended and the sink.
-pub(crate) fn run(alloc: Global, words: &[String], given: Given) -> Result<(Ended, MemSink)>
-    ensures { IfOk result (λ ran. Ran words.now given.input.items ran.1 ran.0) }
+/// Runs a program over words and what is given, and answers its status and the sink.
+pub(crate) fn run(
+    alloc: Global,
+    program: Program,
+    words: &[String],
+    given: Given,
+) -> Result<(u8, MemSink)>
+    ensures { IfOk result (λ ran. Ran program words.now given.input.items ran.1 ran.0) }
 {
     let mut source = MemSource::new(given.input, given.reads);
     let mut sink = MemSink::new(alloc, given.room, given.puts)?;
-    let ended = show(alloc, words, &mut source, &mut sink);
-    Ok((ended, sink))
+    let status = end(alloc, program, words, &mut source, &mut sink);
+    Ok((status, sink))
+}
+
+/// The status with which a program ends.
+fn end<S: Source, K: Sink>(
+    alloc: Global,
+    program: Program,
+    words: &[String],
+    source: &mut S,
+    sink: &mut K,
+) -> u8
+    ensures { EndsWith program words.now (call_of (S.told source.old) (S.told source.new) (K.told sink.old) (K.told sink.new)) result }
+{
+    match program {
+        Program::Show => show(alloc, words, source, sink).status(),
+        Program::Pages => run_pages(alloc, words, source, sink).status(),
+        Program::Pager => run_pager(alloc, words, source, sink).status(),
+    }
 }

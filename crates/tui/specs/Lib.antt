@@ -1,3 +1,5 @@
+pub mod Order
+pub mod Same
 pub use Rattle.tui_bars.specs as bars
 pub use Rattle.tui_calendar.specs as calendar
 pub use Rattle.tui_cells.specs as cells

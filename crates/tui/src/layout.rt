@@ -2,7 +2,6 @@
 
 pub use tui_cells::{Offset, Position, Rect};
 pub use tui_layout::{
-    Constraint, Direction, Flex, Fraction, Segment, Steps, Sums, Window, scroll_window, split,
-    uncounted_window,
+    Constraint, Direction, Flex, Fraction, Segment, Sums, Window, split, uncounted_window,
 };
 pub use tui_text::Alignment;

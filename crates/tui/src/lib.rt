@@ -3,7 +3,9 @@
 
 pub mod buffer;
 pub mod layout;
+pub mod pager;
 pub mod panes;
+pub mod plain;
 pub mod report;
 pub mod scene;
 pub mod style;

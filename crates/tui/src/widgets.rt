@@ -8,7 +8,7 @@ pub use tui_calendar::{CalendarEventStore, DateStyler, Monthly};
 pub use tui_cells::{StatefulWidget, Widget};
 pub use tui_frames::{
     Block, BlockExt, BorderType, Borders, CellEffect, Clear, Dimmed, Fill, Padding, Shadow, Title,
-    TitlePosition, beside, clone_if_some, columns_if_some, paint_if_some, rows_if_some,
+    TitlePosition,
 };
 pub use tui_layout::HighlightSpacing;
 pub use tui_lists::{

@@ -1,10 +1,12 @@
-mod Unique
-mod Greedy
+pub mod Unique
+pub mod Greedy
 mod Rows
-mod Mapped
+pub mod Mapped
 mod WithCuts
 mod Zipped
-mod WithoutCuts
+mod BrokenLines
+mod MarkedCuts
+pub mod WithoutCuts
 mod LinesBehind
 mod Filled
 mod Parts

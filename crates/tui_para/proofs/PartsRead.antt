@@ -10,7 +10,7 @@ use Rattle.tui_para.specs.Given.{SourceReads}
 use Rattle.tui_para.specs.Hyphenation.{behind_all, marked_from}
 use Rattle.tui_para.specs.Hyphens.{Uncut, glyph_rule, uncut}
 use Rattle.tui_para.specs.Lines.{IsFirstOf}
-use Rattle.tui_para.specs.Marked.{HasKept, IsPart, cuts_of, glyphs_of, part_of}
+use Rattle.tui_para.specs.Marked.{IsPart, cuts_of, glyphs_of, part_of}
 use Rattle.tui_para.specs.Wrapped.{HasLines, kept}
 use Rattle.tui_para.specs.Wrapping.{CutPartsWith, FindsPart, HasRead, IsNextPlace, LinesOfRest, PartsWith, glyphs_from}
 use Rattle.tui_para.specs.declared.wrap.Wrap.{Wrap}
@@ -70,17 +70,6 @@ module _ (w v : ℕ) (b c : Hyphenation) (xs ys : List Glyph) (width : v ≡ w) 
   behind_then d h =
       h ∙ (ap (λ n. behind_all c (kept glyph_width n ys)) width ∙ (ap (λ k. behind_all k (kept glyph_width w ys)) goes
       ∙ (sym (behind-append b (kept glyph_width w xs) (kept glyph_width w ys)) ∙ sym (ap (behind_all b) (kept-append glyph_width w xs ys)))))
-
--- graphemes were kept, and then more
-pub HasKept-then : (w : ℕ) (xs ys : List StyledGrapheme) (old middle new : Marked) → HasKept w xs old middle → HasKept w ys middle new → HasKept w (xs ++ ys) old new
-HasKept-then w xs ys old middle new a b =
-    let both = sym (map-append glyph_of xs ys) in
-    record {
-      behind = subst (λ k. cuts_of new ≡ cuts_of old ++ marked_from old.hyphenation (kept glyph_width w k)) both
-          (marked_then w w old.hyphenation middle.hyphenation (map glyph_of xs) (map glyph_of ys) refl a.goes_on (cuts_of old) (cuts_of middle) (cuts_of new) a.behind b.behind);
-      goes_on = subst (λ k. new.hyphenation ≡ behind_all old.hyphenation (kept glyph_width w k)) both
-          (behind_then w w old.hyphenation middle.hyphenation (map glyph_of xs) (map glyph_of ys) refl a.goes_on new.hyphenation b.goes_on);
-    }
 
 module _ {I : Type 0} (gives : I → Option StyledGrapheme → I → Type 0) where
   -- nothing is read yet

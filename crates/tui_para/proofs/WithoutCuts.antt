@@ -49,7 +49,7 @@ module _ {A B : Type 0} (f : A → B) (rule : Rule B) where
       ap (λ l. l ∷ lines_of rule n (after_break rule (rule.width - sum_by rule.size (take (line_len (ends_piece rule) rule.blank rule.size rule.width s) s)) (drop (line_len (ends_piece rule) rule.blank rule.size rule.width s) s))) front
       ∙ ap (λ l. map f (take k t) ∷ l) (ap (lines_of rule n) rest ∙ lines_map n (after_break seen (rule.width - sum_by seen.size (take k t)) (drop k t)))
 
-  wrap_map : (xs : List A) → wrap_kept rule (map f xs) ≡ map (map f) (wrap_kept (seen_by f rule) xs)
+  pub wrap_map : (xs : List A) → wrap_kept rule (map f xs) ≡ map (map f) (wrap_kept (seen_by f rule) xs)
   wrap_map [] = refl
   wrap_map (x ∷ xs) = ap (λ n. lines_of rule n (map f (x ∷ xs))) (length-map (x ∷ xs) f) ∙ lines_map (length (x ∷ xs)) (x ∷ xs)
 

@@ -26,3 +26,6 @@ zipped_drop (suc n) [] [] e = refl
 zipped_drop (suc n) [] (k ∷ ms) e = absurd (omega arith)
 zipped_drop (suc n) (x ∷ gs) [] e = absurd (omega arith)
 zipped_drop (suc n) (x ∷ gs) (k ∷ ms) e = zipped_drop n gs ms (omega arith)
+
+pub length_zipped : (gs : List StyledGrapheme) (ms : List Mark) → length gs ≡ length ms → length (zipped gs ms) ≡ length gs
+length_zipped gs ms e = sym (length-map (zipped gs ms) (λ (p : Glyph × Bool). p.0)) ∙ (ap length (glyphs_zipped gs ms e) ∙ length-map gs glyph_of)

@@ -1,6 +1,8 @@
 -- What wrapping sees of a grapheme.
-use Rattle.std.specs.Prelude.{ℕ, Bool, ◌||◌}
-use Rattle.tui_text.specs.Grapheme.{Glyph, glyph_blank, glyph_width}
+use Rattle.std.specs.Prelude.{◌≡◌, ℕ, Bool, ◌||◌, List, length, map}
+use Rattle.std.specs.List.{zip}
+use Rattle.tui_text.specs.Grapheme.{Glyph, glyph_blank, glyph_of, glyph_width}
+use Rattle.tui_text.specs.declared.grapheme.StyledGrapheme.{StyledGrapheme}
 use Rattle.tui_para.specs.Rule.{Rule}
 use Rattle.tui_para.specs.declared.wrap.Wrap.{Wrap}
 use Rattle.tui_para.specs.declared.wrapping.mark.Mark.{Mark}
@@ -25,3 +27,8 @@ size_of m = m.width
 
 abbrev pub mark_rule : ℕ → Wrap → Rule Mark
 mark_rule w wrap = record { blank = is_blank; cut = is_cut; size = size_of; width = w; trim = wrap.trim }
+
+-- each grapheme has its mark
+pub record AreMarks (graphemes : List StyledGrapheme) (marks : List Mark) : Type 0 where
+  pub together : length graphemes ≡ length marks
+  pub marked : marks ≡ map mark_of (zip (map glyph_of graphemes) (map is_cut marks))

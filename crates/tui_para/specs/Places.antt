@@ -1,5 +1,5 @@
 -- Where a line stands among graphemes, in numbers of graphemes, and the lines of a list as a function.
-use Rattle.std.specs.Prelude.{ℕ, zero, suc, ◌-◌, Bool, false, cond, not, ◌&&◌, nat_le, nat_lt, List, [], ◌∷◌, length, take, drop, sum_by}
+use Rattle.std.specs.Prelude.{ℕ, zero, suc, ◌+◌, ◌-◌, Bool, false, cond, not, ◌&&◌, nat_le, nat_lt, List, [], ◌∷◌, length, take, drop, sum_by}
 use Rattle.tui_para.specs.Rule.{Rule, ends_piece}
 use Rattle.tui_para.specs.Wrapped.{after_break, line_start}
 
@@ -25,6 +25,15 @@ goes_on_for ends blank size in_word pieces n room [] = n
 goes_on_for ends blank size in_word pieces n room (x ∷ xs) =
     let ended = cond (in_word && ends x) n pieces in
     cond (nat_le (size x) room) (goes_on_for ends blank size (not (blank x)) ended (suc n) (room - size x) xs) (cond (nat_lt 0 ended) ended n)
+
+-- the same up to the end of the last piece that has ended before one of the graphemes
+abbrev pub pieces_len : {A : Type 0} → (A → Bool) → (A → Bool) → Bool → ℕ → ℕ → List A → ℕ
+pieces_len ends blank in_word pieces n [] = pieces
+pieces_len ends blank in_word pieces n (x ∷ xs) = pieces_len ends blank (not (blank x)) (cond (in_word && ends x) n pieces) (suc n) xs
+
+-- the line where the grapheme behind the first n doesn't fit: up to the end of the last piece that has ended there, or else n
+abbrev pub broken_len : {A : Type 0} → (A → Bool) → (A → Bool) → ℕ → List A → ℕ
+broken_len ends blank n xs = let ended = pieces_len ends blank false 0 0 (take (n + 1) xs) in cond (nat_lt 0 ended) ended n
 
 -- the line at the front
 abbrev pub line_len : {A : Type 0} → (A → Bool) → (A → Bool) → (A → ℕ) → ℕ → List A → ℕ

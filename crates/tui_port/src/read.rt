@@ -14,6 +14,10 @@ pub const LIMIT: usize = 1_048_576;
 /// How many bytes are read at a time, at most.
 pub const CHUNK: usize = 8192;
 
+const _: () = prove!(LIMIT == 1_048_576);
+
+const _: () = prove!(LIMIT + CHUNK == 1_056_768);
+
 /// Why an input was not read to its end.
 #[derive(Clone, Copy, Debug, PartialEq, Eq)]
 pub enum ReadEnd {

@@ -11,7 +11,8 @@ use Rattle.tui_report.specs.Report.{ColumnData, ReportData, places_of}
 use Rattle.tui_report.specs.Strokes.{drawn_in, names_layers, number_paragraph, page_area, page_layers, pieces_layers, plain}
 use Rattle.tui_report.specs.declared.piece.Piece.{Piece}
 
-read_page : (pages : List (List Piece)) (at : ℕ) (page : List Piece) → at < length pages → slice_get pages at ≡ Some page →
+-- a page that is read
+pub read_page : (pages : List (List Piece)) (at : ℕ) (page : List Piece) → at < length pages → slice_get pages at ≡ Some page →
     slice_index_or pages at [] ≡ page
 read_page [] at page h e = absurd (omega arith)
 read_page (first ∷ pages) zero page h e = cc

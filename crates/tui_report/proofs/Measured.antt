@@ -9,11 +9,12 @@ use Rattle.std.proofs.lemmas.List.Elements.{All-from_recursion, recursion_from_A
 use Rattle.std.specs.List.{AllByRecursion}
 use Rattle.tui_frames.specs.InBlock.{beside}
 use Rattle.tui_layout.specs.declared.segment.Segment.{Segment}
+use Rattle.tui_para.specs.Hyphens.{at_blanks}
 use Rattle.tui_para.specs.Lines.{GlyphLine}
 use Rattle.tui_para.specs.Paragraph.{ParagraphData, block_rows}
 use Rattle.tui_para.specs.Wrapped.{IsTheOne}
 use Rattle.tui_para.specs.WrappedText.{WrappedText, wrap_text}
-use Rattle.tui_report.specs.Heights.{IsFirstTooTall, heights_of, line_count, most_lines, record_height, trimmed}
+use Rattle.tui_report.specs.Heights.{IsFirstTooTall, heights_of, line_count, most_lines, record_height}
 use Rattle.tui_report.specs.Strokes.{cell_from}
 use Rattle.tui_text.specs.Text.{raw_text}
 use Rattle.tui_text.specs.Width.{saturated}
@@ -32,10 +33,10 @@ CountsWrapped w count p =
     WrappedText w wrap p.alignment p.text lines → count ≡ Ok (beside (saturated (length lines)) (block_rows p)))
 
 pub counted : {E : Type 0} (w : ℕ) (count : Result ℕ E) (p : ParagraphData) (cell : List ℕ) → p ≡ cell_from 0 cell →
-    (0 < w → IsTheOne (WrappedText w trimmed Left (raw_text cell)) (wrap_text w trimmed Left (raw_text cell))) →
+    (0 < w → IsTheOne (WrappedText w (at_blanks true) Left (raw_text cell)) (wrap_text w (at_blanks true) Left (raw_text cell))) →
     (w ≡ 0 → count ≡ Ok 0) → (0 < w → CountsWrapped w count p) → IfOk count (λ n. n ≡ saturated (line_count w cell))
 counted w count p cell is once none wrapped =
-    let lines = wrap_text w trimmed Left (raw_text cell) in
+    let lines = wrap_text w (at_blanks true) Left (raw_text cell) in
     elim (cases_lt 0 w) [
       | inl some ↦
           rw (subst (CountsWrapped w count) is (wrapped some) lines (once some).meets)

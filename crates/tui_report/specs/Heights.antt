@@ -1,18 +1,14 @@
 -- How many lines records have.
-use Rattle.std.specs.Prelude.{ℕ, ◌<◌, ◌≤◌, ◌==◌, false, true, max, List, length, map, take, fold, zip, slice_index, All, if◌then◌else◌}
+use Rattle.std.specs.Prelude.{ℕ, ◌<◌, ◌≤◌, ◌==◌, true, max, List, length, map, take, fold, zip, slice_index, All, if◌then◌else◌}
 use Rattle.tui_layout.specs.declared.segment.Segment.{Segment}
+use Rattle.tui_para.specs.Hyphens.{at_blanks}
 use Rattle.tui_para.specs.WrappedText.{wrap_text}
-use Rattle.tui_para.specs.declared.wrap.Wrap.{Wrap}
 use Rattle.tui_text.specs.Text.{raw_text}
 use Rattle.tui_text.specs.declared.alignment.Alignment.TheVariants.{Left}
 
--- lines without the blanks at which they break, and no breaks after hyphens
-abbrev pub trimmed : Wrap
-trimmed = record { trim = true; hyphens = false }
-
--- the lines into which a text is wrapped at a width; at width 0 it has none
+-- the lines into which a text is wrapped at a width, without the blanks at which they break; at width 0 it has none
 abbrev pub line_count : ℕ → List ℕ → ℕ
-line_count width text = if width == 0 then 0 else length (wrap_text width trimmed Left (raw_text text))
+line_count width text = if width == 0 then 0 else length (wrap_text width (at_blanks true) Left (raw_text text))
 
 -- the greatest number of lines of the cells in their columns, at least 1; a cell past the columns has none
 abbrev pub record_height : List Segment → List (List ℕ) → ℕ

@@ -1,12 +1,13 @@
 -- The strokes of a page.
-use Rattle.std.specs.Prelude.{ℕ, ◌+◌, ◌-◌, ◌<◌, ◌≤◌, List, [], ◌∷◌, ◌++◌, length, Some, flat_map, zip, slice_index_or, codes, decimal}
+use Rattle.std.specs.Prelude.{ℕ, ◌+◌, ◌-◌, ◌<◌, ◌≤◌, List, [], ◌∷◌, ◌++◌, length, true, Some, flat_map, zip, slice_index_or, codes, decimal}
 use Rattle.tui_cells.specs.Layers.{Layer}
 use Rattle.tui_cells.specs.Rect.{area_of, columns_from, intersection_of, rows_from}
 use Rattle.tui_cells.specs.declared.rect.Rect.{Rect}
 use Rattle.tui_layout.specs.declared.segment.Segment.{Segment}
+use Rattle.tui_para.specs.Hyphens.{at_blanks}
 use Rattle.tui_para.specs.Paragraph.{ParagraphData, paragraph_of}
 use Rattle.tui_para.specs.Rendering.{paragraph_layers}
-use Rattle.tui_report.specs.Heights.{most_lines, trimmed}
+use Rattle.tui_report.specs.Heights.{most_lines}
 use Rattle.tui_report.specs.Pages.{size_of}
 use Rattle.tui_report.specs.Report.{ColumnData, ReportData, places_of}
 use Rattle.tui_report.specs.declared.piece.Piece.{Piece}
@@ -19,7 +20,7 @@ plain text = paragraph_of (raw_text text)
 
 -- a cell, wrapped and scrolled to one of its lines
 abbrev pub cell_from : ℕ → List ℕ → ParagraphData
-cell_from line cell = record (plain cell) { wrap = Some trimmed; scroll_y = line }
+cell_from line cell = record (plain cell) { wrap = Some (at_blanks true); scroll_y = line }
 
 -- page i of n, i counted from 1
 abbrev pub number_of : ℕ → ℕ → List ℕ

@@ -1,11 +1,13 @@
 //! What stands on a page.
 
-ghost use Rattle.std.specs.Prelude.{◌≡◌, ◌+◌, ◌<◌, ◌≤◌, All, None, OnOk, length, map};
+ghost use Rattle.std.specs.Prelude.{◌≡◌, ◌+◌, ◌<◌, ◌≤◌, [], All, IfSome, None, OnOk, Some, length, map, slice_get, slice_index_or};
 ghost use Rattle.tui_cells.specs.Layers.{KeptOutside, Painted};
-ghost use Rattle.tui_cells.specs.Rect.{covers};
+ghost use Rattle.tui_cells.specs.Rect.{covers, intersection_of};
 ghost use Rattle.tui_para.specs.Paragraph.{paragraph_data};
 ghost use Rattle.tui_report.specs.Pages.{lines_on};
 ghost use Rattle.tui_report.specs.Report.{cells_of, column_data};
+ghost use Rattle.tui_report.specs.Starts.{GoesOn, RowStarts};
+ghost use Rattle.tui_report.specs.declared.piece.Piece.{Piece};
 ghost use Rattle.tui_report.specs.Strokes.{IsDrawable, cell_from, cells_layers, drawn_in, names_layers, number_paragraph, pieces_layers, plain};
 
 use crate::column::Column;
@@ -48,6 +50,51 @@ fn draw_cell(alloc: Global, cell: &str, line: u16, area: Rect, buf: &mut Buffer)
     draw_in(alloc, &paragraph, area, buf)
 }
 
+/// The lines of a cell from one on, with which it goes on from this byte on at the width that the buffer has of the area.
+fn draw_from(
+    alloc: Global,
+    cell: &str,
+    line: u16,
+    start: usize,
+    width: u16,
+    area: Rect,
+    buf: &mut Buffer,
+) -> Mem<()>
+    requires goes_on { GoesOn width line cell.now start }
+    requires width { (intersection_of area buf.old.area).width ≡ width }
+    ensures ok { OnOk result (Painted (drawn_in buf.old.area area (cell_from line cell.now)) buf.old buf.new) }
+    ensures kept { KeptOutside (covers area) buf.old buf.new }
+{
+    match cell.split_at_checked(start) {
+        Some((_, rest)) => draw_cell(alloc, rest, 0, area, buf),
+        None => draw_in(alloc, &Paragraph::new(Text::new(alloc)), area, buf),
+    }
+}
+
+/// The same, where the byte may be known from which the cell goes on with that line at a width: what stands before it is then not
+/// read.
+fn draw_rest(
+    alloc: Global,
+    cell: &str,
+    line: u16,
+    start: Option<usize>,
+    width: u16,
+    area: Rect,
+    buf: &mut Buffer,
+) -> Mem<()>
+    requires { IfSome start (λ s. 0 < width → GoesOn width line cell.now s) }
+    ensures ok { OnOk result (Painted (drawn_in buf.old.area area (cell_from line cell.now)) buf.old buf.new) }
+    ensures kept { KeptOutside (covers area) buf.old buf.new }
+{
+    let clip = area.intersection(buf.area());
+    match start {
+        Some(start) if width > 0 && clip.width == width => {
+            draw_from(alloc, cell, line, start, width, area, buf)
+        }
+        _ => draw_cell(alloc, cell, line, area, buf),
+    }
+}
+
 /// The number of a page, counted from 1, and how many there are.
 pub(crate) fn draw_number(
     alloc: Global,
@@ -84,15 +131,28 @@ pub(crate) fn draw_names(
     Ok(())
 }
 
-/// The cells of a record from one of its lines on, side by side.
+fn start_of(starts: &[usize], i: usize) -> Option<usize>
+    ensures { result ≡ slice_get starts.now i }
+{
+    if i < starts.len() {
+        Some(starts[i])
+    } else {
+        None
+    }
+}
+
+/// The cells of a record from one of its lines on, side by side. `starts` are the bytes from which they go on with it, as far as these
+/// are known.
 fn draw_cells(
     alloc: Global,
     entry: &Record<'_>,
     line: u16,
+    starts: &[usize],
     places: &[Segment],
     rows: Rect,
     buf: &mut Buffer,
 ) -> Mem<()>
+    requires { RowStarts line places.now (cells_of entry.now) starts.now }
     ensures ok { OnOk result (Painted (cells_layers line buf.old.area rows places.now (cells_of entry.now)) buf.old buf.new) }
     ensures kept { KeptOutside (covers rows) buf.old buf.new }
 {
@@ -100,15 +160,17 @@ fn draw_cells(
     'cells: for i in 0..places.len().min(cells.len()) {
         let place = places[i];
         let area = rows.columns_from(place.start, place.width);
-        draw_cell(alloc, cells[i], line, area, buf)?;
+        let start = start_of(starts, i);
+        draw_rest(alloc, cells[i], line, start, place.width, area, buf)?;
     }
     Ok(())
 }
 
-/// The pieces of a page, one below the other.
+/// The pieces of a page, one below the other. `starts` are the bytes from which the cells of the first one go on.
 pub(crate) fn draw_pieces(
     alloc: Global,
     pieces: &[Piece],
+    starts: &[usize],
     records: &[Record<'_>],
     places: &[Segment],
     page: Rect,
@@ -116,6 +178,7 @@ pub(crate) fn draw_pieces(
 ) -> Mem<()>
     requires drawable { All (IsDrawable (length records.now)) pieces.now }
     requires fit { lines_on pieces.now + 3 ≤ page.height }
+    requires starts { (p : Piece) → slice_get pieces.now 0 ≡ Some p → RowStarts p.from places.now (slice_index_or (map cells_of records.now) p.place []) starts.now }
     ensures ok { OnOk result (Painted (pieces_layers buf.old.area page places.now (map cells_of records.now) 2 pieces.now) buf.old buf.new) }
     ensures kept { KeptOutside (covers page) buf.old buf.new }
 {
@@ -124,10 +187,12 @@ pub(crate) fn draw_pieces(
         let piece = pieces[i];
         let size = (piece.to - piece.from) as u16;
         let rows = page.rows_from(row, size);
+        let known = if i == 0 { starts } else { &starts[..0] };
         draw_cells(
             alloc,
             &records[piece.place],
             piece.from as u16,
+            known,
             places,
             rows,
             buf,

@@ -11,6 +11,7 @@ pub mod piece;
 pub mod records;
 pub mod report;
 pub mod report_error;
+mod starts;
 
 pub use column::Column;
 pub use laws::page_laws;

@@ -16,6 +16,7 @@ use crate::pages::Pages;
 use crate::piece::Piece;
 use crate::records::Record;
 use crate::report_error::ReportError;
+use crate::starts::{page_starts, starts_if_tall};
 use std::alloc::Global;
 use std::marker::Model;
 use tui_cells::{Buffer, Mem, Rect};
@@ -31,6 +32,8 @@ pub struct Report<'a> {
     places: Vec<Segment>,
     records: Vec<Record<'a>>,
     pages: Pages,
+    // The bytes from which the cells of each page's first piece go on, column by column; none where no record is taller than a page.
+    starts: Vec<usize>,
 }
 
 // Written out, so that a crate above proves nothing of what it holds to let it go.
@@ -44,6 +47,7 @@ impl<'a> Drop for Report<'a> {
             places,
             records,
             pages,
+            starts,
         } = self;
     }
 }
@@ -51,6 +55,7 @@ impl<'a> Drop for Report<'a> {
 impl<'a> Model for Report<'a> {
     ghost use Rattle.std.specs.Prelude.{map};
     ghost use Rattle.tui_report.specs.Report.{IsReport, ReportData, column_data, cells_of};
+    ghost use Rattle.tui_report.specs.Starts.{HaveStarts};
 
     ghost Value = { ReportData };
 
@@ -63,7 +68,8 @@ impl<'a> Model for Report<'a> {
       pages = r.pages;
     } };
 
-    ghost invariant = { λ r. IsReport r.places.items r.width r.height (map column_data r.columns.items) (map cells_of r.records.items) r.pages };
+    ghost invariant = { λ r. IsReport r.places.items r.width r.height (map column_data r.columns.items) (map cells_of r.records.items) r.pages
+        × HaveStarts r.places.items (map cells_of r.records.items) r.pages r.starts.items };
 }
 
 impl<'a> Report<'a> {
@@ -100,7 +106,9 @@ impl<'a> Report<'a> {
         if let Some(place) = first_too_tall(&heights) {
             return Err(ReportError::TooTall { place });
         }
-        let pages = Pages::new(alloc, &heights, usize::from(height) - 3)?;
+        let room = usize::from(height) - 3;
+        let pages = Pages::new(alloc, &heights, room)?;
+        let starts = starts_if_tall(alloc, &heights, room, &places, &records, &pages)?;
         Ok(Report {
             width,
             height,
@@ -109,6 +117,7 @@ impl<'a> Report<'a> {
             places,
             records,
             pages,
+            starts,
         })
     }
 
@@ -140,7 +149,16 @@ impl<'a> Report<'a> {
         let names = page.rows_from(1, 1);
         draw_names(alloc, &self.columns, &self.places, names, buf)?;
         let pieces = self.pages.page(at);
-        draw_pieces(alloc, pieces, &self.records, &self.places, page, buf)?;
+        let starts = page_starts(&self.starts, at, self.places.len());
+        draw_pieces(
+            alloc,
+            pieces,
+            starts,
+            &self.records,
+            &self.places,
+            page,
+            buf,
+        )?;
         let last = page.rows_from(self.height - 1, 1);
         draw_number(alloc, at, self.pages.page_count(), last, buf)
     }

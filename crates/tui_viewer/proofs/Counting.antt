@@ -1,8 +1,9 @@
 -- How many lines a body has, as they are counted.
-use Rattle.std.proofs.Common.{◌≡◌, ℕ, ◌<◌, ◌-◌, ◌/◌, List, length, map, get_or, Option, Some, Result, Ok, IfOk, IfSome, refl, sym, ap, ◌∙◌, subst, arith}
+use Rattle.std.proofs.Common.{◌≡◌, ℕ, ◌<◌, ◌-◌, ◌/◌, true, List, length, map, get_or, Option, Some, Result, Ok, IfOk, IfSome, refl, sym, ap, ◌∙◌, subst, arith}
 use Rattle.std.specs.Prelude.{slice_index}
 use Rattle.std.proofs.lemmas.List.{get_or-map, length-map}
 use Rattle.tui_frames.specs.InBlock.{beside}
+use Rattle.tui_para.specs.Hyphens.{at_blanks}
 use Rattle.tui_para.specs.Lines.{GlyphLine}
 use Rattle.tui_para.specs.Paragraph.{ParagraphData, block_rows}
 use Rattle.tui_para.specs.Wrapped.{IsTheOne}
@@ -12,7 +13,7 @@ use Rattle.tui_text.specs.Width.{saturated}
 use Rattle.tui_text.specs.declared.alignment.Alignment.TheVariants.{Left}
 use Rattle.tui_viewer.specs.Entry.{EntryData, entry_data}
 use Rattle.tui_viewer.specs.Laws.{IsPlace}
-use Rattle.tui_viewer.specs.Screen.{body_lines, line_count, trimmed, unframed}
+use Rattle.tui_viewer.specs.Screen.{body_lines, line_count, unframed}
 use Rattle.tui_viewer.specs.Steps.{lines_at}
 use Rattle.tui_viewer.specs.declared.entry.Entry.{Entry}
 
@@ -23,10 +24,10 @@ CountsWrapped w count p =
     WrappedText w wrap p.alignment p.text lines → count ≡ Ok (beside (saturated (length lines)) (block_rows p)))
 
 pub counted : {E : Type 0} (w : ℕ) (count : Result ℕ E) (p : ParagraphData) (body : List ℕ) → 0 < w → p ≡ unframed body 0 →
-    (0 < w → IsTheOne (WrappedText w trimmed Left (raw_text body)) (wrap_text w trimmed Left (raw_text body))) →
+    (0 < w → IsTheOne (WrappedText w (at_blanks true) Left (raw_text body)) (wrap_text w (at_blanks true) Left (raw_text body))) →
     (0 < w → CountsWrapped w count p) → IfOk count (λ n. n ≡ saturated (line_count w body))
 counted w count p body some is once wrapped =
-    rw (subst (CountsWrapped w count) is (wrapped some) (wrap_text w trimmed Left (raw_text body)) (once some).meets) refl
+    rw (subst (CountsWrapped w count) is (wrapped some) (wrap_text w (at_blanks true) Left (raw_text body)) (once some).meets) refl
 
 -- the lines of the selected body, by its entry
 pub selected_count : {E : Type 0} (count : Result ℕ E) (entries : List Entry) (width place : ℕ) (selected : Option ℕ) (e : Entry) →

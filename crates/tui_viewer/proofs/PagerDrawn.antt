@@ -1,6 +1,6 @@
 -- The screen of a pager, drawn part by part.
 use Rattle.std.proofs.Common.{◌≡◌, ℕ, ◌-◌, List, length, subst}
-use Rattle.tui_cells.specs.Buffer.{IsFilled, Screen}
+use Rattle.tui_cells.specs.Buffer.{IsFilled, IsScreen, Screen}
 use Rattle.tui_cells.specs.Cell.{blank}
 use Rattle.tui_cells.specs.Layers.{Painted}
 use Rattle.tui_cells.specs.declared.rect.Rect.{Rect}
@@ -23,13 +23,13 @@ pub pager_drawn : (p : PagerData) (titles : ListData) (body : List ℕ) (most co
     Painted (list_layers titles (list_state p.state) (titles_area p.width p.height)) a b →
     Painted (paragraph_layers (body_paragraph body p.state.line) (body_area p.width p.height)) b c →
     Painted (scrollbar_layers bar (bar_state (p.height - 3) most p.state.line) (bar_area p.width p.height)) c d →
-    Painted (paragraph_layers (paragraph_of (raw_text (place_text p.state.selected count))) (last_row p.width p.height)) d e →
+    Painted (paragraph_layers (paragraph_of (raw_text (place_text p.state.selected count))) (last_row p.width p.height)) d e → IsScreen e →
     IsDrawn (pager_layers p) (page_area p.width p.height) e
 unfolding pager_layers
-pager_drawn p titles body most count filled a b c d e t o m n f first titles_there body_there bar_there place_there =
+pager_drawn p titles body most count filled a b c d e t o m n f first titles_there body_there bar_there place_there shape =
     let q = subst (λ (l : ListData). Painted (list_layers l (list_state p.state) (titles_area p.width p.height)) a b) t titles_there in
     let r = subst (λ (x : List ℕ). Painted (paragraph_layers (body_paragraph x p.state.line) (body_area p.width p.height)) b c) o body_there in
     let s = subst (λ (k : ℕ). Painted (scrollbar_layers bar (bar_state (p.height - 3) k p.state.line) (bar_area p.width p.height)) c d) m bar_there in
     let u = subst (λ (k : ℕ). Painted (paragraph_layers (paragraph_of (raw_text (place_text p.state.selected k))) (last_row p.width p.height)) d e)
     n place_there in
-    drawn filled (page_area p.width p.height) a e f first (Painted-then q (Painted-then r (Painted-then s u)))
+    drawn filled (page_area p.width p.height) a e f first (Painted-then q (Painted-then r (Painted-then s u))) shape

@@ -1,5 +1,6 @@
 -- Laws of pagers.
 use Rattle.std.specs.Prelude.{ℕ, ◌≡◌, ◌<◌, ◌≤◌, List, [], ◌∷◌, length, slice_index, ◌-◌, Option, None, Some}
+use Rattle.tui_cells.specs.Buffer.{Screen}
 use Rattle.tui_layout.specs.Found.{window_of}
 use Rattle.tui_layout.specs.Sums.{total}
 use Rattle.tui_layout.specs.declared.window.Window.{Window}
@@ -7,7 +8,7 @@ use Rattle.tui_frames.specs.InBlock.{inner_of}
 use Rattle.tui_lists.specs.List.{list_window}
 use Rattle.tui_viewer.specs.Entry.{EntryData}
 use Rattle.tui_viewer.specs.Pager.{PagerData}
-use Rattle.tui_viewer.specs.Screen.{list_state, sizes_of, titles_area, titles_list}
+use Rattle.tui_viewer.specs.Screen.{IsDrawn, list_state, page_area, pager_layers, sizes_of, titles_area, titles_list}
 use Rattle.tui_viewer.specs.Steps.{Sizes, most_of, pressed, resized, started}
 use Rattle.tui_viewer.specs.declared.key.Key.{Key}
 use Rattle.tui_viewer.specs.declared.state.PagerState.{PagerState}
@@ -80,3 +81,8 @@ StaysSound = (entries : List EntryData) (width height : ℕ) (calls : List Call)
 abbrev pub SelectedIsSeen : Type 0
 SelectedIsSeen = (entries : List EntryData) (width height : ℕ) (calls : List Call) →
     SeesSelected (after_calls (pager_of entries width height) calls)
+
+-- a pager has one screen
+abbrev pub ScreenIsOne : Type 0
+ScreenIsOne = (p : PagerData) (screen other : Screen) → IsDrawn (pager_layers p) (page_area p.width p.height) screen →
+    IsDrawn (pager_layers p) (page_area p.width p.height) other → other ≡ screen

@@ -6,7 +6,6 @@ use Rattle.std.specs.Prelude.{
   ◌-◌,
   ◌/◌,
   true,
-  false,
   List,
   [],
   ◌∷◌,
@@ -20,7 +19,7 @@ use Rattle.std.specs.Prelude.{
   decimal,
   slice_index_or,
 }
-use Rattle.tui_cells.specs.Buffer.{Screen, cell_at}
+use Rattle.tui_cells.specs.Buffer.{IsScreen, Screen, cell_at}
 use Rattle.tui_cells.specs.Cell.{blank}
 use Rattle.tui_cells.specs.Layers.{Layer, layers_at}
 use Rattle.tui_cells.specs.Rect.{covers}
@@ -36,10 +35,10 @@ use Rattle.tui_lists.specs.Tabs.{reversed}
 use Rattle.tui_lists.specs.declared.list.state.ListState.{ListState}
 use Rattle.tui_lists.specs.declared.scrollbar.orientation.ScrollbarOrientation.TheVariants.{VerticalRight}
 use Rattle.tui_lists.specs.declared.scrollbar.state.ScrollbarState.{ScrollbarState}
+use Rattle.tui_para.specs.Hyphens.{at_blanks}
 use Rattle.tui_para.specs.Paragraph.{ParagraphData, paragraph_of}
 use Rattle.tui_para.specs.Rendering.{paragraph_layers}
 use Rattle.tui_para.specs.WrappedText.{wrap_text}
-use Rattle.tui_para.specs.declared.wrap.Wrap.{Wrap}
 use Rattle.tui_text.specs.Line.{raw_line}
 use Rattle.tui_text.specs.Text.{raw_text}
 use Rattle.tui_text.specs.declared.alignment.Alignment.TheVariants.{Left}
@@ -86,15 +85,12 @@ abbrev pub list_state : PagerState → ListState
 list_state s = record { offset = s.offset; selected = s.selected }
 
 -- the body, in lines without the blanks at which they break and without breaks after hyphens, from a line on
-abbrev pub trimmed : Wrap
-trimmed = record { trim = true; hyphens = false }
-
 abbrev pub body_of : List EntryData → Option ℕ → List ℕ
 body_of entries None = []
 body_of entries (Some place) = (slice_index_or entries place (record { title = []; body = [] })).body
 
 abbrev pub unframed : List ℕ → ℕ → ParagraphData
-unframed body line = record (paragraph_of (raw_text body)) { wrap = Some trimmed; scroll_y = line }
+unframed body line = record (paragraph_of (raw_text body)) { wrap = Some (at_blanks true); scroll_y = line }
 
 abbrev pub body_paragraph : List ℕ → ℕ → ParagraphData
 body_paragraph body line = record (unframed body line) { block = Some (block_of 15) }
@@ -108,7 +104,7 @@ bar_state rows most line = record { content_length = most + 1; position = line; 
 
 -- what a size comes to: the rows of both panes, the lines of the titles, and those of the bodies inside their borders
 abbrev pub line_count : ℕ → List ℕ → ℕ
-line_count width body = length (wrap_text width trimmed Left (raw_text body))
+line_count width body = length (wrap_text width (at_blanks true) Left (raw_text body))
 
 abbrev pub body_lines : List EntryData → ℕ → List ℕ
 body_lines entries width = map (λ e. line_count (width - width / 3 - 2) e.body) entries
@@ -137,7 +133,8 @@ pager_layers p =
     ++ (scrollbar_layers bar (bar_state (p.height - 3) most p.state.line) (bar_area p.width p.height)
     ++ paragraph_layers (paragraph_of (raw_text (place_text p.state.selected (length p.entries)))) (last_row p.width p.height)))
 
--- a screen of an area, each cell of which is the blank one under the layers
+-- a screen of an area and of its shape, each cell of which is the blank one under the layers
 pub record IsDrawn (layers : List Layer) (area : Rect) (screen : Screen) : Type 0 where
   pub area_is : screen.area ≡ area
   pub cells : (x y : ℕ) → covers area x y ≡ true → cell_at screen x y ≡ Some (layers_at layers x y blank)
+  pub shape : IsScreen screen

@@ -1,6 +1,6 @@
 //! What a pager shows.
 
-ghost use Rattle.std.specs.Prelude.{◌≡◌, ◌-◌, ◌<◌, ◌≤◌, IfOk, OnOk, length, map};
+ghost use Rattle.std.specs.Prelude.{◌≡◌, ◌+◌, ◌-◌, ◌^◌, ◌<◌, ◌≤◌, IfOk, IfSome, OnOk, length, map};
 ghost use Rattle.tui_cells.specs.Buffer.{IsFilled};
 ghost use Rattle.tui_cells.specs.Cell.{blank};
 ghost use Rattle.tui_cells.specs.Layers.{Painted};
@@ -142,15 +142,15 @@ fn draw_place(
         width,
         height: 1,
     };
-    let number = number_of(selected, count);
+    let number = number_of(selected);
     let text = format!(in alloc; "{number}/{count}")?;
     let paragraph = Paragraph::new(Text::raw(alloc, text.as_str())?);
     paragraph.render(alloc, area, buf)
 }
 
 /// The place of an entry, from 1, and 0 for none.
-fn number_of(selected: Option<usize>, _count: usize) -> usize
-    requires { IsPlace _count selected }
+fn number_of(selected: Option<usize>) -> usize
+    requires { IfSome selected (λ place. place + 1 < 2 ^ 64) }
     ensures { result ≡ number_of selected }
 {
     match selected {
@@ -201,5 +201,7 @@ pub(crate) fn draw_screen(
     draw_bar(alloc, most, state.line, width, height, &mut screen)?;
     let count = entries.len();
     draw_place(alloc, state.selected, count, width, height, &mut screen)?;
+    // The shape of the rows is told by their count.
+    let _height = screen.height();
     Ok(screen)
 }

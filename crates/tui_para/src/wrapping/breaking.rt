@@ -1,10 +1,10 @@
 //! Where the lines of a text line begin and end.
 
 ghost use Rattle.std.specs.List.{between};
-ghost use Rattle.std.specs.Prelude.{◌≡◌, ◌≤◌, ◌<◌, ◌+◌, List, Bool, length, drop, take, map, cond, false, sum_by, All};
+ghost use Rattle.std.specs.Prelude.{◌≡◌, ◌≤◌, ◌<◌, ◌+◌, ◌^◌, List, Bool, length, drop, take, map, sum_by, All};
 ghost use Rattle.tui_text.specs.Grapheme.{Glyph};
 ghost use Rattle.tui_para.specs.Mark.{ends_before, mark_of, is_blank, size_of};
-ghost use Rattle.tui_para.specs.Places.{blanks_len, start_len, line_len, dropped_len};
+ghost use Rattle.tui_para.specs.Places.{blanks_len, start_len, broken_len, line_len, dropped_len};
 ghost use Rattle.tui_para.specs.Hyphens.{glyph_rule};
 ghost use Rattle.tui_para.specs.Wrapped.{IsNextLine};
 
@@ -33,11 +33,24 @@ fn start_of(marks: &[Mark], trim: bool) -> usize
     if trim { leading_blanks(marks) } else { 0 }
 }
 
-/// The graphemes up to here where a piece of a word ends here, else those up to the end of the piece before.
-fn whole_pieces(pieces: Prefix, here: Prefix, piece_ends: bool) -> Prefix
-    ensures { result ≡ cond piece_ends here pieces }
+/// The line where the grapheme behind these does not fit: up to the end of the last piece of a word that has ended, else up
+/// to that grapheme. It is looked for backwards, so that of a grapheme within a line only the width is asked.
+fn line_before(marks: &[Mark], here: Prefix) -> Prefix
+    requires within { here.len < length marks.now }
+    requires columns { here.room + sum_by size_of (take here.len marks.now) < 2 ^ 16 }
+    ensures within { result.len ≤ here.len }
+    ensures len { result.len ≡ broken_len ends_before is_blank here.len marks.now }
+    ensures room { result.room + sum_by size_of (take result.len marks.now) ≡ here.room + sum_by size_of (take here.len marks.now) }
 {
-    if piece_ends { here } else { pieces }
+    let mut room = here.room;
+    for back in 0..here.len {
+        let place = here.len - back;
+        if marks[place].ends_piece() && !marks[place - 1].blank {
+            return Prefix { len: place, room };
+        }
+        room += marks[place - 1].width;
+    }
+    here
 }
 
 /// The line that stands at the front.
@@ -46,20 +59,12 @@ fn line_at(marks: &[Mark], width: u16) -> Prefix
     ensures len { result.len ≡ line_len ends_before is_blank size_of width marks.now }
     ensures room { result.room + sum_by size_of (take result.len marks.now) ≡ width }
 {
-    let mut pieces = Prefix {
-        len: 0,
-        room: width,
-    };
     let mut room = width;
-    let mut in_word = false;
     for (i, mark) in marks.iter().enumerate() {
-        let here = Prefix { len: i, room };
-        pieces = whole_pieces(pieces, here, in_word && mark.ends_piece());
         if mark.width > room {
-            return if pieces.len > 0 { pieces } else { here };
+            return line_before(marks, Prefix { len: i, room });
         }
         room -= mark.width;
-        in_word = !mark.blank;
     }
     Prefix {
         len: marks.len(),

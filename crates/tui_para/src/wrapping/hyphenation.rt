@@ -7,7 +7,7 @@ ghost use Rattle.tui_para.specs.Hyphens.{is_hyphen, is_letter};
 ghost use Rattle.tui_para.specs.Mark.{mark_of};
 
 use crate::wrapping::mark::Mark;
-use tui_text::{StyledGrapheme, cell_width};
+use tui_text::StyledGrapheme;
 
 /// Whether words are cut after hyphens and, where they are, what stands directly before the next grapheme of a text line. A
 /// word is cut where the next grapheme shows that a `-` stands between two graphemes that aren't `-`.
@@ -41,19 +41,18 @@ impl Hyphenation {
         ensures mark { result.0 ≡ mark_of (glyph_of grapheme.now, after_hyphen self && is_letter (glyph_of grapheme.now)) }
         ensures behind { result.1 ≡ behind self (glyph_of grapheme.now) }
     {
-        let blank = is_blank(grapheme);
-        let behind = self.behind(grapheme, blank);
+        let mark = Mark::uncut(grapheme);
+        let behind = self.behind(grapheme, mark.blank);
         let mark = Mark {
-            width: cell_width(grapheme.symbol),
-            blank,
             cut: self.cuts_before(behind),
+            ..mark
         };
         (mark, behind)
     }
 
-    // Mostly no word is cut, and then nothing is asked of the grapheme.
+    /// What stands before the grapheme behind this one. Where no word is cut, nothing is asked of it.
     #[inline(always)]
-    fn behind(self, grapheme: &StyledGrapheme<'_>, blank: bool) -> Hyphenation
+    pub(crate) fn behind(self, grapheme: &StyledGrapheme<'_>, blank: bool) -> Hyphenation
         requires { blank ≡ glyph_blank (glyph_of grapheme.now) }
         ensures { result ≡ behind self (glyph_of grapheme.now) }
     {
@@ -63,7 +62,7 @@ impl Hyphenation {
         }
     }
 
-    #[inline(never)]
+    #[inline(always)]
     fn behind_one(self, is_hyphen: bool, is_blank: bool) -> Hyphenation
         ensures { result ≡ cond is_hyphen (behind_hyphen self) (behind_other is_blank self) }
     {
@@ -77,7 +76,7 @@ impl Hyphenation {
 
     /// Whether a word is cut before a grapheme behind which this stands.
     #[inline(always)]
-    fn cuts_before(self, behind: Hyphenation) -> bool
+    pub(crate) fn cuts_before(self, behind: Hyphenation) -> bool
         ensures { result ≡ (after_hyphen self && after_letter behind) }
     {
         matches!(self, Hyphenation::Hyphen) && matches!(behind, Hyphenation::Letter)
@@ -85,16 +84,9 @@ impl Hyphenation {
 }
 
 #[inline(always)]
-#[tactic(auto, unfolding(tui_text::specs::Grapheme::is_blank))]
-fn is_blank(grapheme: &StyledGrapheme<'_>) -> bool
-    ensures { result ≡ glyph_blank (glyph_of grapheme.now) }
-{
-    grapheme.is_whitespace()
-}
-
 #[tactic(auto, unfolding(crate::specs::Hyphens::is_hyphen_text))]
 fn is_hyphen(grapheme: &StyledGrapheme<'_>) -> bool
     ensures { result ≡ is_hyphen (glyph_of grapheme.now) }
 {
-    grapheme.symbol == "-"
+    matches!(grapheme.symbol.as_bytes(), [b'-'])
 }

@@ -1,7 +1,10 @@
 //! What wrapping sees of a grapheme.
 
-ghost use Rattle.std.specs.Prelude.{◌≡◌};
-ghost use Rattle.tui_para.specs.Mark.{ends_before};
+ghost use Rattle.std.specs.Prelude.{◌≡◌, false};
+ghost use Rattle.tui_text.specs.Grapheme.{glyph_of};
+ghost use Rattle.tui_para.specs.Mark.{ends_before, mark_of};
+
+use tui_text::{StyledGrapheme, cell_width};
 
 /// The width of a grapheme, and whether it is a blank.
 #[derive(Clone, Copy, Debug, PartialEq, Eq)]
@@ -13,6 +16,19 @@ pub(crate) struct Mark {
 }
 
 impl Mark {
+    /// That of a grapheme before which no word is cut.
+    #[inline(always)]
+    #[tactic(auto, unfolding(tui_text::specs::Grapheme::is_blank))]
+    pub(crate) fn uncut(grapheme: &StyledGrapheme<'_>) -> Mark
+        ensures { result ≡ mark_of (glyph_of grapheme.now, false) }
+    {
+        Mark {
+            width: cell_width(grapheme.symbol),
+            blank: grapheme.is_whitespace(),
+            cut: false,
+        }
+    }
+
     /// Whether a piece of a word ends before it, if one stands there.
     #[inline(always)]
     pub(crate) fn ends_piece(self) -> bool

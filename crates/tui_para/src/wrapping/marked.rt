@@ -1,13 +1,15 @@
 //! The graphemes of one text line.
 
-ghost use Rattle.std.specs.Prelude.{◌≡◌, ◌≤◌, ◌+◌, Some, List, [], ◌∷◌, ◌++◌, length, drop, map, IfOk, IfSome, OnOk, OnErr, vec_len};
+ghost use Rattle.std.specs.Prelude.{◌≡◌, ◌≤◌, ◌+◌, Bool, Some, List, [], ◌∷◌, ◌++◌, length, drop, map, take, IfOk, IfSome, OnOk, OnErr, vec_len};
 ghost use Rattle.std.specs.Iterator.{size};
 ghost use Rattle.std.specs.List.{between, zip};
-ghost use Rattle.tui_text.specs.Grapheme.{glyph_of};
+ghost use Rattle.tui_text.specs.Grapheme.{Glyph, glyph_of};
 ghost use Rattle.tui_text.specs.declared.grapheme.StyledGrapheme.{StyledGrapheme};
 ghost use Rattle.tui_para.specs.Given.{Ready, SourceReads};
-ghost use Rattle.tui_para.specs.Hyphenation.{at_start};
-ghost use Rattle.tui_para.specs.Mark.{is_cut, mark_of};
+ghost use Rattle.tui_para.specs.Hyphenation.{at_start, behind_all, marked_from};
+ghost use Rattle.tui_para.specs.declared.wrapping.hyphenation.Hyphenation.{Hyphenation};
+ghost use Rattle.tui_para.specs.declared.wrapping.hyphenation.Hyphenation.TheVariants.{Off};
+ghost use Rattle.tui_para.specs.Mark.{AreMarks, is_cut, mark_of};
 
 use crate::wrapping::hyphenation::Hyphenation;
 use crate::wrapping::mark::Mark;
@@ -27,7 +29,7 @@ pub(crate) struct Marked<'a> {
 }
 
 impl<'a> Marked<'a> {
-    ghost use Rattle.tui_para.specs.Marked.{HasKept, cuts_of, glyphs_of};
+    ghost use Rattle.tui_para.specs.Marked.{HasKept, HasPut, StandBehind, cuts_of, glyphs_of};
 
     /// No grapheme yet, at the beginning of a text line.
     pub(crate) fn new(alloc: Global, hyphens: bool) -> Marked<'a>
@@ -89,14 +91,13 @@ impl<'a> Marked<'a> {
     }
 
     /// Puts a grapheme behind those that are there, unless it is wider than a line.
-    fn keep(&mut self, grapheme: StyledGrapheme<'a>, width: u16) -> Mem<()>
-        ensures ok { OnOk result (HasKept width (grapheme.entry ∷ []) self.old self.new) }
-        ensures err { OnErr result (HasKept width [] self.old self.new) }
+    fn put(&mut self, grapheme: StyledGrapheme<'a>, width: u16) -> Mem<()>
+        ensures ok { OnOk result (HasPut width (grapheme.entry ∷ []) self.old self.new) }
+        ensures err { OnErr result (HasPut width [] self.old self.new) }
     {
-        let (mark, behind) = self.hyphenation.mark(&grapheme);
+        let mark = Mark::uncut(&grapheme);
         if mark.width <= width {
             self.push(grapheme, mark)?;
-            self.hyphenation = behind;
         }
         Ok(())
     }
@@ -115,24 +116,77 @@ impl<'a> Marked<'a> {
     /// None where no more came.
     pub(crate) fn read<I: Iterator<Item = StyledGrapheme<'a>>>(
         &mut self,
+        source: I,
+        count: usize,
+        width: u16,
+    ) -> Mem<Option<I>>
+        requires { Ready I.Iterator source }
+        ensures fit { (before : Hyphenation) × (taken : List StyledGrapheme) × StandBehind before width taken self.old self.new }
+        ensures read { IfOk result (λ left. (taken : List StyledGrapheme) × SourceReads I.next_gives (Some source) taken left
+            × HasKept width taken self.old self.new) }
+        ensures ready { IfOk result (λ left. IfSome left (λ i. Ready I.Iterator i × (size (I.remaining i) + count ≤ size (I.remaining source)))) }
+    {
+        let start = self.len();
+        let left = self.put_all(source, count, width)?;
+        self.cut_from(start);
+        Ok(left)
+    }
+
+    /// The same, and marks no cut. Cuts are told afterwards, so that reading costs nothing for them where no word is cut.
+    fn put_all<I: Iterator<Item = StyledGrapheme<'a>>>(
+        &mut self,
         mut source: I,
         count: usize,
         width: u16,
     ) -> Mem<Option<I>>
         requires { Ready I.Iterator source }
-        ensures fit { (taken : List StyledGrapheme) × HasKept width taken self.old self.new }
+        ensures fit { (taken : List StyledGrapheme) × HasPut width taken self.old self.new }
         ensures read { IfOk result (λ left. (taken : List StyledGrapheme) × SourceReads I.next_gives (Some source) taken left
-            × HasKept width taken self.old self.new) }
+            × HasPut width taken self.old self.new) }
         ensures ready { IfOk result (λ left. IfSome left (λ i. Ready I.Iterator i × (size (I.remaining i) + count ≤ size (I.remaining source)))) }
     {
         'graphemes: for _read in 0..count {
             let Some(grapheme) = source.next() else {
                 return Ok(None);
             };
-            self.keep(grapheme, width)?;
+            self.put(grapheme, width)?;
         }
         Ok(Some(source))
     }
+
+    /// Marks where words are cut among the graphemes from a place on, which were put there without a cut.
+    fn cut_from(&mut self, start: usize)
+        requires { start ≤ length (cuts_of self.old) }
+        ensures cut { (front : List (Glyph × Bool)) (glyphs : List Glyph) → length front ≡ start → cuts_of self.old ≡ front ++ marked_from Off glyphs
+            → (cuts_of self.new ≡ front ++ marked_from self.old.hyphenation glyphs) × (self.new.hyphenation ≡ behind_all self.old.hyphenation glyphs) }
+    {
+        let before = self.hyphenation;
+        if let Hyphenation::Off = before {
+            return;
+        }
+        self.hyphenation = cut_marks(&self.graphemes, &mut self.marks, start, before);
+    }
+}
+
+/// Marks the graphemes from a place on by where their words are cut. Answers what stands before the next grapheme.
+fn cut_marks(
+    graphemes: &[StyledGrapheme<'_>],
+    marks: &mut Vec<Mark>,
+    start: usize,
+    before: Hyphenation,
+) -> Hyphenation
+    requires within { start ≤ length graphemes.now }
+    requires marked { AreMarks graphemes.now marks.old.items }
+    ensures behind { result ≡ behind_all before (map glyph_of (drop start graphemes.now)) }
+    ensures marks { marks.new.items ≡ take start marks.old.items ++ map mark_of (marked_from before (map glyph_of (drop start graphemes.now))) }
+{
+    let mut last = before;
+    for i in start..graphemes.len() {
+        let behind = last.behind(&graphemes[i], marks[i].blank);
+        marks[i].cut = last.cuts_before(behind);
+        last = behind;
+    }
+    last
 }
 
 fn drop_front<T: Copy>(items: &mut Vec<T>, count: usize)

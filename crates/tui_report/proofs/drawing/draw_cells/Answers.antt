@@ -9,8 +9,8 @@ cells-preserved c = record {
   rest = λ final q. c.cells.invariant.rest final
       (beside_more (λ buffer area cell. drawn_in buffer area (cell_from c.args.line cell)) (λ cell. cell.now) c.args.buf.now.area c.args.rows _
       c.args.places.now c.as_slice-cells.result.now c.cells.i _ _ _ c.cells.buf _ final c.min-i-end.ensures c.cells-test.true
-      c.cells.invariant.kept.area c.columns_from-area.ensures c.in_ok-draw_cell.ensures.ok q);
-  kept = column_kept c.args.rows _ _ _ _ _ _ c.cells.invariant.kept c.columns_from-area.ensures c.in_ok-draw_cell.ensures.kept;
+      c.cells.invariant.kept.area c.columns_from-area.ensures c.in_ok-draw_rest.ensures.ok q);
+  kept = column_kept c.args.rows _ _ _ _ _ _ c.cells.invariant.kept c.columns_from-area.ensures c.in_ok-draw_rest.ensures.kept;
 }
 
 pub returns-clause-ok : goal.returns-clause-ok

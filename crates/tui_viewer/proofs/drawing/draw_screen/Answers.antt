@@ -26,3 +26,4 @@ returns c =
     _ _ _ _ _ _ _ _ _ _ c.requires.titles c.selected_body-body.ensures c.requires.most
     (sym (length-map c.args.entries.now entry_data)) refl
     c.in_ok-screen.ensures c.in_ok-draw_titles.ensures c.in_ok-draw_body.ensures c.in_ok-draw_bar.ensures c.in_ok-draw_place.ensures
+    c.height-height.ensures.shape

@@ -1,5 +1,6 @@
-use Rattle.std.proofs.Common.{◌∙◌, ap, arith, map, rules}
+use Rattle.std.proofs.Common.{◌∙◌, ap, arith, map, refl, rules}
 use Rattle.tui_report.specs.Report.{column_data, places_of}
+use Rattle.tui_report.proofs.Known.{have_read}
 use Rattle.tui_report.proofs.Made.{counted_heights, made, made_fewest, made_is, made_kept, measured, too_tall}
 use Rattle.tui_report.proofs.report.Report.new.Goals as goal
 
@@ -19,17 +20,19 @@ pub invariant_of-result : goal.invariant_of-result
 invariant_of-result c =
     let h = counted_heights c.args.width _ _ _ _ _ _ _ c.deref.ensures.value c.in_ok-places.ensures c.deref-2.ensures.value
     c.deref-3.ensures.value c.in_ok-heights.ensures in
-    let m = measured c.args.width _ _ _ _ _ h c.deref-4.ensures.value c.deref-5.ensures.value c.in_default.ensures in
-    made_kept c.args.width c.args.height _ _ _ _ (omega arith) (omega arith)
-    (c.in_ok-places.ensures ∙ ap (λ cs. places_of c.args.width (map column_data cs)) c.deref.ensures.value)
-    (made c.args.width c.args.height _ _ _ _ _ (omega arith) c.from.ensures m c.in_ok-pages.ensures.pages)
+    let m = measured c.args.width _ _ _ _ _ h c.deref-4.ensures.value c.deref-5.ensures.value c.in_default.ensures in (
+      made_kept c.args.width c.args.height _ _ _ _ (omega arith) (omega arith)
+          (c.in_ok-places.ensures ∙ ap (λ cs. places_of c.args.width (map column_data cs)) c.deref.ensures.value)
+          (made c.args.width c.args.height _ _ _ _ _ (omega arith) c.from-room.ensures m c.in_ok-pages.ensures.pages),
+      have_read _ c.deref-7.result.now _ c.deref-8.result.now _ _ _ c.deref-7.ensures.value c.deref-8.ensures.value refl c.in_ok-starts.ensures,
+    )
 
 pub returns : goal.returns
 returns c =
     let h = counted_heights c.args.width _ _ _ _ _ _ _ c.deref.ensures.value c.in_ok-places.ensures c.deref-2.ensures.value
     c.deref-3.ensures.value c.in_ok-heights.ensures in
     let m = measured c.args.width _ _ _ _ _ h c.deref-4.ensures.value c.deref-5.ensures.value c.in_default.ensures in
-    let k = made c.args.width c.args.height _ _ _ _ _ (omega arith) c.from.ensures m c.in_ok-pages.ensures.pages in
+    let k = made c.args.width c.args.height _ _ _ _ _ (omega arith) c.from-room.ensures m c.in_ok-pages.ensures.pages in
     record {
       small = search rules;
       tall = search rules;

@@ -7,19 +7,19 @@ use Rattle.tui_para.proofs.wrapping.text_line.TextLine.read_on.Goals as goal
 pub invariant_of-self-in-Break-1 : goal.invariant_of-self-in-Break-1
 invariant_of-self-in-Break-1 g c =
     let s = c.args.self.now in
-    let (taken, has) = c.read.ensures.fit in
+    let (before, taken, stand) = c.read.ensures.fit in
     record {
       within = search rules;
-      fit = fit_behind s.width s.place _ (cuts_of s.line) (cuts_of c.drop_front.new.self) (cuts_of c.read.new.self) (map glyph_of taken) s.fit c.drop_front.ensures.dropped has.behind;
+      fit = fit_behind s.width s.place before (cuts_of s.line) (cuts_of c.drop_front.new.self) (cuts_of c.read.new.self) (map glyph_of taken) s.fit c.drop_front.ensures.dropped stand;
     }
 
 pub invariant_of-self-2 : goal.invariant_of-self-2
 invariant_of-self-2 g c =
     let s = c.args.self.now in
-    let (taken, has) = c.read.ensures.fit in
+    let (before, taken, stand) = c.read.ensures.fit in
     record {
       within = search rules;
-      fit = fit_behind s.width s.place _ (cuts_of s.line) (cuts_of c.drop_front.new.self) (cuts_of c.read.new.self) (map glyph_of taken) s.fit c.drop_front.ensures.dropped has.behind;
+      fit = fit_behind s.width s.place before (cuts_of s.line) (cuts_of c.drop_front.new.self) (cuts_of c.read.new.self) (map glyph_of taken) s.fit c.drop_front.ensures.dropped stand;
     }
 
 pub returns-clause-read : goal.returns-clause-read

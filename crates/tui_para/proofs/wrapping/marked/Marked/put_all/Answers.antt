@@ -1,11 +1,11 @@
 use Rattle.std.proofs.Common.{◌++◌, ◌∷◌, [], refl, arith}
 use Rattle.tui_para.proofs.Sources.{Yields-append}
-use Rattle.tui_para.proofs.PartsRead.{HasKept-then}
-use Rattle.tui_para.proofs.wrapping.marked.Marked.read.Goals as goal
+use Rattle.tui_para.proofs.MarkedCuts.{HasPut-then}
+use Rattle.tui_para.proofs.wrapping.marked.Marked.put_all.Goals as goal
 
 pub graphemes-preserved : goal.graphemes-preserved
 graphemes-preserved g c =
-    let (taken, yields, kept_is) = c.graphemes.invariant.taken in
+    let (taken, yields, put) = c.graphemes.invariant.taken in
     let x = c.in-Some.grapheme in
     let on = c.in-Some.ensures.goes.on c.graphemes.invariant.ready.ends in
     let near = c.graphemes.invariant.nearer in
@@ -13,7 +13,7 @@ graphemes-preserved g c =
       taken = (
         taken ++ x ∷ [],
         Yields-append g.I.Iterator.next_gives c.args.source c.graphemes.source c.next.new.self taken (x ∷ []) yields (c.next.new.self, c.in-Some.ensures.steps, refl),
-        HasKept-then c.args.width taken (x ∷ []) c.args.self.now c.graphemes.self c.keep.new.self kept_is c.in_ok-keep.ensures.ok,
+        HasPut-then c.args.width taken (x ∷ []) c.args.self.now c.graphemes.self c.put.new.self put c.in_ok-put.ensures.ok,
       );
       ready = record { can_next = on.0; ends = on.1 };
       nearer = let less = on.2 in omega arith;

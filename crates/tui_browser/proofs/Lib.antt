@@ -1,0 +1,4 @@
+pub mod Bounds
+pub mod KeyLines
+pub mod Output
+pub mod Stepping

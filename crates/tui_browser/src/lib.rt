@@ -1,0 +1,22 @@
+//! The program of a pager: it reads entries and keys in JSON, and writes the state behind each key and the last screen.
+#![tactic(auto)]
+
+mod bad_input;
+mod command;
+mod ended;
+mod field;
+mod input;
+mod input_error;
+mod laws;
+mod printing;
+mod program;
+mod run;
+mod size;
+mod step;
+
+pub use bad_input::BadInput;
+pub use command::PagerCommand;
+pub use ended::PagerEnded;
+pub use field::PagerField;
+pub use laws::output_law;
+pub use program::{run_pager, run_program};

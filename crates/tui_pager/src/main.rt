@@ -1,0 +1,14 @@
+//! The program `tui_pager`: it reads entries and keys in JSON from standard input, and writes the states and the last screen of a
+//! pager to standard output.
+#![tactic(auto)]
+
+use std::process::ExitCode;
+use std::{env, io};
+use tui_browser::run_program;
+use tui_port::{StdSink, StdSource};
+
+fn main(rt: HostRuntime) -> ExitCode {
+    let mut source = StdSource::new(rt.reader());
+    let mut sink = StdSink::new(io::writer(&rt));
+    run_program(rt.alloc(), env::args(&rt), &mut source, &mut sink).exit_code()
+}

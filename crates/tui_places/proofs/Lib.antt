@@ -1,0 +1,12 @@
+mod Controls
+mod Boundaries
+mod NewLines
+mod LineEnds
+mod LineClusters
+mod Rests
+mod ShownClusters
+mod FirstCluster
+mod Walked
+mod WrappedLines
+mod AfterLine
+mod FromLine

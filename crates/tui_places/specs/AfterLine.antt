@@ -1,0 +1,43 @@
+-- The lines of a text from one of them on.
+use Rattle.std.specs.Prelude.{◌≡◌, ℕ, ◌<◌, ◌≤◌, Bool, List, ◌++◌, drop, length, slice_index}
+use Rattle.std.specs.Str.{IsCharBoundary}
+use Rattle.tui_cells.specs.declared.style.Style.{Style}
+use Rattle.tui_text.specs.Text.{raw_text}
+use Rattle.tui_text.specs.declared.alignment.Alignment.{Alignment}
+use Rattle.tui_para.specs.Hyphens.{at_blanks}
+use Rattle.tui_para.specs.Lines.{GlyphLine}
+use Rattle.tui_para.specs.WrappedText.{wrap_text}
+
+-- the lines into which a text is wrapped, in a style and an alignment, where lines break at blanks alone
+abbrev pub wrapped_lines : Style → Alignment → ℕ → Bool → List ℕ → List GlyphLine
+wrapped_lines style alignment w trim text = wrap_text w (at_blanks trim) alignment (record (raw_text text) { style = style })
+
+-- the text has n lines; it has one; it has at most n
+abbrev pub HasLineCount : ℕ → Bool → List ℕ → ℕ → Type 0
+HasLineCount w trim text n = (style : Style) (alignment : Alignment) → length (wrapped_lines style alignment w trim text) ≡ n
+
+abbrev pub IsOneLine : ℕ → Bool → List ℕ → Type 0
+IsOneLine w trim text = HasLineCount w trim text 1
+
+abbrev pub HasAtMost : ℕ → Bool → List ℕ → ℕ → Type 0
+HasAtMost w trim text n = (style : Style) (alignment : Alignment) → length (wrapped_lines style alignment w trim text) ≤ n
+
+-- the text ends with `rest`, whose lines are those from line k on
+pub record IsFromLine (w : ℕ) (trim : Bool) (k : ℕ) (text rest : List ℕ) : Type 0 where
+  pub front : List ℕ
+  pub whole : text ≡ front ++ rest
+  pub lines : (style : Style) (alignment : Alignment) → wrapped_lines style alignment w trim rest ≡ drop k (wrapped_lines style alignment w trim text)
+
+-- behind its first line
+abbrev pub IsAfterLine : ℕ → Bool → List ℕ → List ℕ → Type 0
+IsAfterLine w trim text rest = IsFromLine w trim 1 text rest
+
+-- the lines from line k on are those of the text from this place on
+pub record IsPlace (w : ℕ) (trim : Bool) (text : List ℕ) (k place : ℕ) : Type 0 where
+  pub boundary : IsCharBoundary text place
+  pub from : IsFromLine w trim k text (drop place text)
+
+-- a place for each line
+pub record ArePlaces (w : ℕ) (trim : Bool) (text places : List ℕ) : Type 0 where
+  pub count : HasLineCount w trim text (length places)
+  pub each : (k : ℕ) → k < length places → IsPlace w trim text k (slice_index places k)
