@@ -10,3 +10,4 @@ mod Walked
 mod WrappedLines
 mod AfterLine
 mod FromLine
+pub mod RestLayers

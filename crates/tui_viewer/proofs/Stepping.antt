@@ -1,10 +1,10 @@
 -- What is shown next.
-use Rattle.std.proofs.Common.{◌≡◌, ℕ, ◌-◌, ◌≤◌, ◌==◌, min, List, length, sym, ap, ◌∙◌, subst, arith, Option, None, Some, Result, IfOk}
+use Rattle.std.proofs.Common.{◌≡◌, ℕ, ◌-◌, ◌==◌, min, List, length, sym, ap, ◌∙◌, subst, Option, None, Some, Result, IfOk}
 use Rattle.std.specs.Prelude.{map, if◌then◌else◌}
 use Rattle.tui_lists.specs.ListItem.{heights_of}
-use Rattle.tui_text.specs.Width.{saturated}
 use Rattle.tui_viewer.specs.Entry.{EntryData}
 use Rattle.tui_viewer.specs.Laws.{IsPlace, IsSound}
+use Rattle.tui_viewer.specs.Lines.{HavePlaces}
 use Rattle.tui_viewer.specs.Screen.{body_lines, sizes_of, title_item}
 use Rattle.tui_viewer.specs.Shown.{pager_data}
 use Rattle.tui_viewer.specs.Steps.{lines_at, most_in, most_of, moved_by, pressed, resized, settled, started}
@@ -13,15 +13,10 @@ use Rattle.tui_viewer.specs.declared.shown.Shown.{Shown}
 use Rattle.tui_viewer.specs.declared.state.PagerState.{PagerState}
 use Rattle.tui_viewer.proofs.Sound.{count_heights}
 
-most_cut : (rows lines : ℕ) → rows ≤ 65535 → most_in rows (saturated lines) ≡ most_in rows lines
-most_cut rows lines r = omega arith
-
--- the greatest line, by a number of lines that is cut
-pub most_is : (entries : List EntryData) (width height : ℕ) (selected : Option ℕ) (lines most : ℕ) → height - 3 ≤ 65535 →
-    most ≡ most_in (height - 3) lines → lines ≡ saturated (lines_at (body_lines entries width) selected) →
-    most ≡ most_of (sizes_of entries width height) selected
-most_is entries width height selected lines most h m n =
-    m ∙ (ap (most_in (height - 3)) n ∙ most_cut (height - 3) (lines_at (body_lines entries width) selected) h)
+-- the greatest line, by the number of lines
+pub most_is : (entries : List EntryData) (width height : ℕ) (selected : Option ℕ) (lines most : ℕ) → most ≡ most_in (height - 3) lines →
+    lines ≡ lines_at (body_lines entries width) selected → most ≡ most_of (sizes_of entries width height) selected
+most_is entries width height selected lines most m n = m ∙ ap (most_in (height - 3)) n
 
 pub place_of : (entries : List EntryData) (width height : ℕ) (s : PagerState) → IsSound (sizes_of entries width height) s → IsPlace (length entries) s.selected
 place_of entries width height s sound = subst (λ n. IsPlace n s.selected) (count_heights entries) sound.place
@@ -65,8 +60,8 @@ pub data_as : {E : Type 0} (result : Result Shown E) (entries : List EntryData) 
 data_as result entries width height s t e ok =
     subst (λ (u : PagerState). IfOk result (λ r. pager_data entries r ≡ record { width = width; height = height; entries = entries; state = u })) e ok
 
--- lines that are counted already
-pub lines_as : (entries : List EntryData) (width kept lines : ℕ) (selected old : Option ℕ) → width ≡ kept → selected ≡ old →
-    lines ≡ saturated (lines_at (body_lines entries kept) old) → lines ≡ saturated (lines_at (body_lines entries width) selected)
-lines_as entries width kept lines selected old w o e =
-    e ∙ sym (ap (λ n. saturated (lines_at (body_lines entries n) selected)) w ∙ ap (λ x. saturated (lines_at (body_lines entries kept) x)) o)
+-- places that are kept
+pub places_as : (entries : List EntryData) (width kept : ℕ) (selected old : Option ℕ) (places : List ℕ) → width ≡ kept → selected ≡ old →
+    HavePlaces entries kept old places → HavePlaces entries width selected places
+places_as entries width kept selected old places w o have =
+    subst (λ n. HavePlaces entries n selected places) (sym w) (subst (λ s. HavePlaces entries kept s places) (sym o) have)

@@ -2,6 +2,7 @@ pub mod Contents
 pub mod Entry
 pub mod Key
 pub mod Laws
+pub mod Lines
 pub mod Pager
 pub mod Screen
 pub mod Shown

@@ -1,20 +1,19 @@
 -- What a pager shows, as it is kept.
-use Rattle.std.specs.Prelude.{◌≡◌, ◌≤◌, List}
-use Rattle.tui_text.specs.Width.{saturated}
+use Rattle.std.specs.Prelude.{◌≤◌, List}
 use Rattle.tui_viewer.specs.Entry.{EntryData}
 use Rattle.tui_viewer.specs.Laws.{IsSoundPager}
+use Rattle.tui_viewer.specs.Lines.{HavePlaces}
 use Rattle.tui_viewer.specs.Pager.{PagerData}
-use Rattle.tui_viewer.specs.Screen.{IsDrawn, body_lines, page_area, pager_layers}
-use Rattle.tui_viewer.specs.Steps.{lines_at}
+use Rattle.tui_viewer.specs.Screen.{IsDrawn, page_area, pager_layers}
 use Rattle.tui_viewer.specs.declared.shown.Shown.{Shown}
 
 abbrev pub pager_data : List EntryData → Shown → PagerData
 pager_data entries s = record { width = s.width; height = s.height; entries = entries; state = s.state }
 
--- the size is large enough, the state sound, the lines are those of the selected body, and the screen is drawn
+-- the size is large enough, the state sound, the places are those of the selected body's lines, and the screen is drawn
 pub record IsUpToDate (entries : List EntryData) (s : Shown) : Type 0 where
   pub wide : 12 ≤ s.width
   pub high : 5 ≤ s.height
   pub sound : IsSoundPager (pager_data entries s)
-  pub counted : s.lines ≡ saturated (lines_at (body_lines entries s.width) s.state.selected)
+  pub places : HavePlaces entries s.width s.state.selected s.places.items
   pub drawn : IsDrawn (pager_layers (pager_data entries s)) (page_area s.width s.height) s.screen

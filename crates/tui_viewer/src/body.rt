@@ -1,18 +1,18 @@
 //! The body of an entry.
 
-ghost use Rattle.std.specs.Prelude.{◌≡◌, ◌<◌, ◌≤◌, IfOk, length, map};
+ghost use Rattle.std.specs.Prelude.{◌≡◌, ◌≤◌, IfOk, length, map};
 ghost use Rattle.tui_para.specs.Paragraph.{paragraph_data};
-ghost use Rattle.tui_text.specs.Width.{saturated};
 ghost use Rattle.tui_viewer.specs.Entry.{entry_data};
 ghost use Rattle.tui_viewer.specs.Laws.{IsPlace};
-ghost use Rattle.tui_viewer.specs.Screen.{body_lines, body_of, body_paragraph, line_count, unframed};
-ghost use Rattle.tui_viewer.specs.Steps.{lines_at};
+ghost use Rattle.tui_viewer.specs.Lines.{HavePlaces};
+ghost use Rattle.tui_viewer.specs.Screen.{body_of, body_paragraph, unframed};
 
 use crate::entry::Entry;
 use std::alloc::Global;
 use tui_cells::Mem;
 use tui_frames::Block;
-use tui_para::{Paragraph, Wrap, text_wraps_exactly_once};
+use tui_para::{Paragraph, Wrap};
+use tui_places::line_places;
 use tui_text::Text;
 
 /// A body, wrapped without the blanks at which its lines break, from one of its lines on.
@@ -37,30 +37,22 @@ pub(crate) fn body_paragraph<'a>(alloc: Global, body: &'a str, line: u16) -> Mem
     Ok(unframed(alloc, body, line)?.block(Block::bordered(alloc)))
 }
 
-/// How many lines a body has at a width inside its borders, cut at the greatest number of 64 bits.
-fn line_count(alloc: Global, width: u16, body: &str) -> Mem<usize>
-    requires { 0 < width }
-    ensures { IfOk result (λ count. count ≡ saturated (line_count width body.now)) }
-{
-    text_wraps_exactly_once();
-    let paragraph = unframed(alloc, body, 0)?;
-    paragraph.line_count(alloc, width)
-}
-
-/// How many lines the selected body has on a screen of this width, cut alike; none where none is selected.
-pub(crate) fn selected_lines(
+/// Where the lines of the selected body begin on a screen of this width, in bytes; no place where none is selected. `NoMemory` where
+/// there is none for the places.
+pub(crate) fn selected_places(
     alloc: Global,
     width: u16,
     entries: &[Entry<'_>],
     selected: Option<usize>,
-) -> Mem<usize>
+) -> Mem<Vec<usize>>
     requires wide { 12 ≤ width }
     requires place { IsPlace (length entries.now) selected }
-    ensures { IfOk result (λ count. count ≡ saturated (lines_at (body_lines (map entry_data entries.now) width) selected)) }
+    ensures { IfOk result (λ places. HavePlaces (map entry_data entries.now) width selected places.items) }
 {
+    let body = selected_body(entries, selected);
     match selected {
-        None => Ok(0),
-        Some(place) => line_count(alloc, width - width / 3 - 2, entries[place].body),
+        None => Ok(Vec::new(alloc)),
+        Some(_) => line_places(alloc, body, width - width / 3 - 2, true),
     }
 }
 

@@ -1,15 +1,15 @@
 //! What a pager keeps of its entries.
 
-ghost use Rattle.std.specs.Prelude.{◌≡◌, ◌<◌, ◌≤◌, IfOk, length, map};
+ghost use Rattle.std.specs.Prelude.{◌≡◌, ◌≤◌, IfOk, length, map};
 ghost use Rattle.tui_lists.specs.ListItem.{heights_of};
-ghost use Rattle.tui_text.specs.Width.{saturated};
 ghost use Rattle.tui_viewer.specs.Entry.{entry_data};
 ghost use Rattle.tui_viewer.specs.Laws.{IsPlace};
+ghost use Rattle.tui_viewer.specs.Lines.{HavePlaces};
 ghost use Rattle.tui_viewer.specs.Pager.{PagerData};
-ghost use Rattle.tui_viewer.specs.Screen.{IsDrawn, body_lines, page_area, pager_layers, sizes_of, title_item};
-ghost use Rattle.tui_viewer.specs.Steps.{lines_at, most_of, settled};
+ghost use Rattle.tui_viewer.specs.Screen.{IsDrawn, page_area, pager_layers, title_item};
+ghost use Rattle.tui_viewer.specs.Steps.{settled};
 
-use crate::body::selected_lines;
+use crate::body::selected_places;
 use crate::drawing::draw_screen;
 use crate::entry::Entry;
 use crate::making::{heights, title_items, titles_list};
@@ -74,13 +74,18 @@ impl<'a> Contents<'a> {
         self.entries.len()
     }
 
-    /// How many lines the selected body has on a screen of this width, cut at the greatest number of 64 bits.
-    pub(crate) fn lines_at(&self, alloc: Global, width: u16, selected: Option<usize>) -> Mem<usize>
+    /// Where the lines of the selected body begin on a screen of this width, in bytes; no place where none is selected.
+    pub(crate) fn places(
+        &self,
+        alloc: Global,
+        width: u16,
+        selected: Option<usize>,
+    ) -> Mem<Vec<usize>>
         requires wide { 12 ≤ width }
         requires place { IsPlace (length self.now) selected }
-        ensures { IfOk result (λ count. count ≡ saturated (lines_at (body_lines self.now width) selected)) }
+        ensures { IfOk result (λ places. HavePlaces self.now width selected places.items) }
     {
-        selected_lines(alloc, width, &self.entries, selected)
+        selected_places(alloc, width, &self.entries, selected)
     }
 
     /// The state with the offset that the list of the titles keeps.
@@ -90,19 +95,19 @@ impl<'a> Contents<'a> {
         follow(&self.heights, rows, state)
     }
 
-    /// The screen of a state, by itself. `most` is the greatest line that the selected body may begin with.
+    /// The screen of a state, by itself. `places` are where the lines of the selected body begin.
     pub(crate) fn draw(
         &self,
         alloc: Global,
         width: u16,
         height: u16,
         state: PagerState,
-        most: u16,
+        places: &[usize],
     ) -> Mem<Buffer>
         requires wide { 12 ≤ width }
         requires high { 5 ≤ height }
         requires place { IsPlace (length self.now) state.selected }
-        requires most { most ≡ most_of (sizes_of self.now width height) state.selected }
+        requires places { HavePlaces self.now width state.selected places.now }
         ensures { IfOk result (IsDrawn (pager_layers (record { width = width; height = height; entries = self.now; state = state })) (page_area width height)) }
     {
         draw_screen(
@@ -112,7 +117,7 @@ impl<'a> Contents<'a> {
             width,
             height,
             state,
-            most,
+            places,
         )
     }
 }

@@ -13,6 +13,7 @@ ghost use Rattle.tui_para.specs.Rendering.{paragraph_layers};
 ghost use Rattle.tui_text.specs.Text.{raw_text};
 ghost use Rattle.tui_viewer.specs.Entry.{entry_data};
 ghost use Rattle.tui_viewer.specs.Laws.{IsPlace};
+ghost use Rattle.tui_viewer.specs.Lines.{AreWithin, HavePlaces};
 ghost use Rattle.tui_viewer.specs.Pager.{PagerData};
 ghost use Rattle.tui_viewer.specs.Screen.{
   IsDrawn,
@@ -27,15 +28,14 @@ ghost use Rattle.tui_viewer.specs.Screen.{
   page_area,
   pager_layers,
   place_text,
-  sizes_of,
   titles_area,
   titles_list,
 };
-ghost use Rattle.tui_viewer.specs.Steps.{most_of};
 
 use crate::body::{body_paragraph, selected_body};
 use crate::entry::Entry;
 use crate::state::PagerState;
+use crate::steps::greatest_line;
 use std::alloc::Global;
 use tui_cells::{Buffer, Mem, Rect, StatefulWidget, Widget};
 use tui_lists::{List, ListState, Scrollbar, ScrollbarOrientation, ScrollbarState};
@@ -67,7 +67,7 @@ fn draw_titles(
 }
 
 /// A body from one of its lines on, at the right.
-fn draw_body(
+fn draw_lines(
     alloc: Global,
     body: &str,
     line: u16,
@@ -85,6 +85,28 @@ fn draw_body(
         height: height.saturating_sub(1),
     };
     body_paragraph(alloc, body, line)?.render(alloc, area, buf)
+}
+
+/// The same, where `places` are where the body's lines begin, as far as that is known: what stands above the line is then not read.
+fn draw_body(
+    alloc: Global,
+    body: &str,
+    places: &[usize],
+    line: u16,
+    width: u16,
+    height: u16,
+    buf: &mut Buffer,
+) -> Mem<()>
+    requires area { buf.old.area ≡ page_area width height }
+    requires places { AreWithin width body.now places.now }
+    ensures { OnOk result (Painted (paragraph_layers (body_paragraph body.now line) (body_area width height)) buf.old buf.new) }
+{
+    let at = usize::from(line);
+    if at < places.len() {
+        draw_lines(alloc, &body[places[at]..], 0, width, height, buf)
+    } else {
+        draw_lines(alloc, body, line, width, height, buf)
+    }
 }
 
 fn bar() -> Scrollbar<'static>
@@ -172,7 +194,7 @@ fn blank_page(alloc: Global, width: u16, height: u16) -> Mem<Buffer>
     Buffer::empty(alloc, page)
 }
 
-/// The screen of entries in a state, by itself. `most` is the greatest line that the selected body may begin with.
+/// The screen of entries in a state, by itself. `places` are where the lines of the selected body begin.
 pub(crate) fn draw_screen(
     alloc: Global,
     titles: &List<'_>,
@@ -180,13 +202,13 @@ pub(crate) fn draw_screen(
     width: u16,
     height: u16,
     state: PagerState,
-    most: u16,
+    places: &[usize],
 ) -> Mem<Buffer>
     requires wide { 12 ≤ width }
     requires high { 5 ≤ height }
     requires titles { list_data titles.now ≡ titles_list (map entry_data entries.now) }
     requires place { IsPlace (length entries.now) state.selected }
-    requires most { most ≡ most_of (sizes_of (map entry_data entries.now) width height) state.selected }
+    requires places { HavePlaces (map entry_data entries.now) width state.selected places.now }
     ensures { IfOk result (IsDrawn (pager_layers (record {
       width = width;
       height = height;
@@ -197,7 +219,8 @@ pub(crate) fn draw_screen(
     let mut screen = blank_page(alloc, width, height)?;
     draw_titles(alloc, titles, width, height, state, &mut screen)?;
     let body = selected_body(entries, state.selected);
-    draw_body(alloc, body, state.line, width, height, &mut screen)?;
+    draw_body(alloc, body, places, state.line, width, height, &mut screen)?;
+    let most = greatest_line(places.len(), height - 3);
     draw_bar(alloc, most, state.line, width, height, &mut screen)?;
     let count = entries.len();
     draw_place(alloc, state.selected, count, width, height, &mut screen)?;

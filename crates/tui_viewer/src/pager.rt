@@ -83,9 +83,7 @@ impl<'a> Pager<'a> {
         ensures ok { OnOk result (self.new ≡ after_call self.old (press key)) }
         ensures err { OnErr result (self.new ≡ self.old) }
     {
-        let shown = self.shown.pressed(self.alloc, &self.contents, key)?;
-        self.shown = shown;
-        Ok(())
+        self.shown.press_key(self.alloc, &self.contents, key)
     }
 
     /// Takes another size. The entry stays selected; the line is cut where the body now ends earlier. `TooSmall` comes exactly where
@@ -99,8 +97,7 @@ impl<'a> Pager<'a> {
             return Err(PagerError::TooSmall);
         }
         let alloc = self.alloc;
-        let shown = self.shown.resized(alloc, &self.contents, width, height)?;
-        self.shown = shown;
+        self.shown.take_size(alloc, &self.contents, width, height)?;
         Ok(())
     }
 

@@ -1,61 +1,52 @@
 //! What a pager shows, and the steps to what it shows next.
 
-ghost use Rattle.std.specs.Prelude.{◌≡◌, ◌≤◌, ◌-◌, ◌==◌, if◌then◌else◌, IfOk, None, Some, length, min, true};
-ghost use Rattle.tui_text.specs.Width.{saturated};
+ghost use Rattle.std.specs.Prelude.{◌≡◌, ℕ, ◌≤◌, ◌-◌, ◌==◌, if◌then◌else◌, IfOk, None, OnErr, OnOk, Some, length, min, true};
 ghost use Rattle.tui_viewer.specs.Laws.{IsPlace, IsSoundPager, after_call, pager_of, press, resize};
+ghost use Rattle.tui_viewer.specs.Lines.{HavePlaces};
 ghost use Rattle.tui_viewer.specs.Pager.{PagerData};
 ghost use Rattle.tui_viewer.specs.Screen.{body_lines, sizes_of};
 ghost use Rattle.tui_viewer.specs.Shown.{IsUpToDate, pager_data};
-ghost use Rattle.tui_viewer.specs.Steps.{lines_at, most_in};
+ghost use Rattle.tui_viewer.specs.Steps.{lines_at, pressed, resized};
 
 use crate::contents::Contents;
 use crate::key::Key;
 use crate::state::PagerState;
-use crate::steps::moved;
+use crate::steps::{greatest_line, moved};
 use std::alloc::Global;
 use tui_cells::{Buffer, Mem};
 
-/// The size of the screen, the state, how many lines the selected body has, cut at the greatest number of 64 bits, and the screen.
+/// The size of the screen, the state, where the lines of the selected body begin, in bytes, and the screen.
 #[derive(Drop)]
 pub(crate) struct Shown {
     pub(crate) width: u16,
     pub(crate) height: u16,
     pub(crate) state: PagerState,
-    pub(crate) lines: usize,
+    pub(crate) places: Vec<usize>,
     pub(crate) screen: Buffer,
 }
 
-/// The greatest line that a body of so many lines may begin with.
-fn greatest_line(lines: usize, rows: u16) -> u16
-    ensures line { result ≡ most_in rows lines }
-    ensures rows { rows ≤ 65535 }
-{
-    lines.saturating_sub(usize::from(rows)).min(65535) as u16
-}
-
-/// What entries in a state show, on a screen of its own.
+/// What entries in a state show, on a screen of its own. `places` are where the lines of the selected body begin.
 fn show(
     alloc: Global,
     contents: &Contents<'_>,
     width: u16,
     height: u16,
     state: PagerState,
-    lines: usize,
+    places: Vec<usize>,
 ) -> Mem<Shown>
     requires wide { 12 ≤ width }
     requires high { 5 ≤ height }
     requires sound { IsSoundPager (record { width = width; height = height; entries = contents.now; state = state }) }
-    requires counted { lines ≡ saturated (lines_at (body_lines contents.now width) state.selected) }
+    requires places { HavePlaces contents.now width state.selected places.items }
     ensures up_to_date { IfOk result (IsUpToDate contents.now) }
     ensures is { IfOk result (λ shown. pager_data contents.now shown ≡ record { width = width; height = height; entries = contents.now; state = state }) }
 {
-    let most = greatest_line(lines, height - 3);
-    let screen = contents.draw(alloc, width, height, state, most)?;
+    let screen = contents.draw(alloc, width, height, state, &places)?;
     Ok(Shown {
         width,
         height,
         state,
-        lines,
+        places,
         screen,
     })
 }
@@ -82,66 +73,96 @@ pub(crate) fn started(alloc: Global, contents: &Contents<'_>, width: u16, height
         line: 0,
     };
     let state = contents.follow(height - 3, first);
-    let lines = contents.lines_at(alloc, width, state.selected)?;
-    show(alloc, contents, width, height, state, lines)
+    let places = contents.places(alloc, width, state.selected)?;
+    show(alloc, contents, width, height, state, places)
+}
+
+/// A state on a screen of another size, where the selected body has so many lines: the line is cut where the body ends earlier.
+fn cut(contents: &Contents<'_>, height: u16, lines: usize, state: PagerState) -> PagerState
+    requires { 5 ≤ height }
+    ensures { (width : ℕ) → lines ≡ lines_at (body_lines contents.now width) state.selected → result ≡ resized (sizes_of contents.now width height) state }
+{
+    let rows = height - 3;
+    let most = greatest_line(lines, rows);
+    let line = state.line.min(most);
+    contents.follow(rows, PagerState { line, ..state })
 }
 
 impl Shown {
-    /// What is shown after a key.
-    pub(crate) fn pressed(&self, alloc: Global, contents: &Contents<'_>, key: Key) -> Mem<Shown>
-        requires { IsUpToDate contents.now self.now }
-        ensures up_to_date { IfOk result (IsUpToDate contents.now) }
-        ensures is { IfOk result (λ shown. pager_data contents.now shown ≡ after_call (pager_data contents.now self.now) (press key)) }
+    /// Takes a key. At `NoMemory` all is as before.
+    pub(crate) fn press_key(&mut self, alloc: Global, contents: &Contents<'_>, key: Key) -> Mem<()>
+        requires { IsUpToDate contents.now self.old }
+        ensures up_to_date { OnOk result (IsUpToDate contents.now self.new) }
+        ensures is { OnOk result (pager_data contents.now self.new ≡ after_call (pager_data contents.now self.old) (press key)) }
+        ensures err { OnErr result (self.new ≡ self.old) }
     {
-        let rows = self.height - 3;
-        let most = greatest_line(self.lines, rows);
-        let count = contents.len();
-        let next = moved(rows, count, most, key, self.state);
-        let state = contents.follow(rows, next);
-        let lines = self.lines_at(alloc, contents, self.width, state.selected)?;
-        show(alloc, contents, self.width, self.height, state, lines)
+        let state = self.after_key(contents, key);
+        if is_same(state.selected, self.state.selected) {
+            return self.redraw(alloc, contents, self.height, state);
+        }
+        let places = contents.places(alloc, self.width, state.selected)?;
+        *self = show(alloc, contents, self.width, self.height, state, places)?;
+        Ok(())
     }
 
-    /// What is shown on a screen of another size.
-    pub(crate) fn resized(
-        &self,
+    /// Takes another size. At `NoMemory` all is as before.
+    pub(crate) fn take_size(
+        &mut self,
         alloc: Global,
         contents: &Contents<'_>,
         width: u16,
         height: u16,
-    ) -> Mem<Shown>
+    ) -> Mem<()>
         requires wide { 12 ≤ width }
         requires high { 5 ≤ height }
-        requires up_to_date { IsUpToDate contents.now self.now }
-        ensures up_to_date { IfOk result (IsUpToDate contents.now) }
-        ensures is { IfOk result (λ shown. pager_data contents.now shown ≡ after_call (pager_data contents.now self.now) (resize width height)) }
+        requires up_to_date { IsUpToDate contents.now self.old }
+        ensures up_to_date { OnOk result (IsUpToDate contents.now self.new) }
+        ensures is { OnOk result (pager_data contents.now self.new ≡ after_call (pager_data contents.now self.old) (resize width height)) }
+        ensures err { OnErr result (self.new ≡ self.old) }
     {
-        let lines = self.lines_at(alloc, contents, width, self.state.selected)?;
-        let rows = height - 3;
-        let most = greatest_line(lines, rows);
-        let line = self.state.line.min(most);
-        let cut = PagerState { line, ..self.state };
-        let state = contents.follow(rows, cut);
-        show(alloc, contents, width, height, state, lines)
+        if width == self.width {
+            let state = cut(contents, height, self.places.len(), self.state);
+            return self.redraw(alloc, contents, height, state);
+        }
+        let places = contents.places(alloc, width, self.state.selected)?;
+        let state = cut(contents, height, places.len(), self.state);
+        *self = show(alloc, contents, width, height, state, places)?;
+        Ok(())
     }
 
-    /// How many lines a selected body has on a screen of a width. It is counted where the body or the width is another one.
-    fn lines_at(
-        &self,
+    /// The state after a key.
+    fn after_key(&self, contents: &Contents<'_>, key: Key) -> PagerState
+        requires { IsUpToDate contents.now self.now }
+        ensures is { result ≡ pressed (sizes_of contents.now self.now.width self.now.height) key self.now.state }
+    {
+        let rows = self.height - 3;
+        let most = greatest_line(self.places.len(), rows);
+        let count = contents.len();
+        let next = moved(rows, count, most, key, self.state);
+        contents.follow(rows, next)
+    }
+
+    /// Shows a state of the same selected body on a screen of the same width. The places are kept. At `NoMemory` all is as before.
+    fn redraw(
+        &mut self,
         alloc: Global,
         contents: &Contents<'_>,
-        width: u16,
-        selected: Option<usize>,
-    ) -> Mem<usize>
-        requires wide { 12 ≤ width }
-        requires place { IsPlace (length contents.now) selected }
-        requires counted { self.now.lines ≡ saturated (lines_at (body_lines contents.now self.now.width) self.now.state.selected) }
-        ensures { IfOk result (λ count. count ≡ saturated (lines_at (body_lines contents.now width) selected)) }
+        height: u16,
+        state: PagerState,
+    ) -> Mem<()>
+        requires wide { 12 ≤ self.old.width }
+        requires high { 5 ≤ height }
+        requires sound { IsSoundPager (record { width = self.old.width; height = height; entries = contents.now; state = state }) }
+        requires places { HavePlaces contents.now self.old.width state.selected self.old.places.items }
+        ensures up_to_date { OnOk result (IsUpToDate contents.now self.new) }
+        ensures is { OnOk result (pager_data contents.now self.new ≡ record { width = self.old.width; height = height; entries = contents.now; state = state }) }
+        ensures err { OnErr result (self.new ≡ self.old) }
     {
-        if width == self.width && is_same(selected, self.state.selected) {
-            return Ok(self.lines);
-        }
-        contents.lines_at(alloc, width, selected)
+        let screen = contents.draw(alloc, self.width, height, state, &self.places)?;
+        self.height = height;
+        self.state = state;
+        self.screen = screen;
+        Ok(())
     }
 }
 

@@ -1,11 +1,18 @@
 //! One step.
 
 ghost use Rattle.std.specs.Prelude.{◌≡◌, ◌<◌, ◌≤◌, length};
-ghost use Rattle.tui_viewer.specs.Steps.{line_by, moved_by, selected_by, settled};
+ghost use Rattle.tui_viewer.specs.Steps.{line_by, most_in, moved_by, selected_by, settled};
 
 use crate::key::Key;
 use crate::state::PagerState;
 use tui_layout::{Sums, uncounted_window};
+
+/// The greatest line that a body of so many lines may begin with.
+pub(crate) fn greatest_line(lines: usize, rows: u16) -> u16
+    ensures { result ≡ most_in rows lines }
+{
+    lines.saturating_sub(usize::from(rows)).min(65535) as u16
+}
 
 /// The state behind a key, before the offset follows. `most` is the greatest line of the selected body.
 pub(crate) fn moved(rows: u16, count: usize, most: u16, key: Key, state: PagerState) -> PagerState

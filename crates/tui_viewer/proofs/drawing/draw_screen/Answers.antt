@@ -1,14 +1,21 @@
-use Rattle.std.proofs.Common.{◌∙◌, map, refl, sym}
+use Rattle.std.proofs.Common.{◌∙◌, map, refl, subst, sym}
 use Rattle.std.proofs.lemmas.List.{length-map}
 use Rattle.tui_viewer.specs.Entry.{entry_data}
+use Rattle.tui_viewer.specs.Laws.{IsPlace}
+use Rattle.tui_viewer.proofs.BodyPlaces.{count_is, within_of}
 use Rattle.tui_viewer.proofs.PagerDrawn.{pager_drawn}
+use Rattle.tui_viewer.proofs.Stepping.{most_is}
 use Rattle.tui_viewer.proofs.drawing.draw_screen.Goals as goal
 
 pub draw_titles-requires : goal.draw_titles-requires
 draw_titles-requires c = c.in_ok-screen.ensures.area_is
 
-pub draw_body-requires : goal.draw_body-requires
-draw_body-requires c = c.in_ok-draw_titles.ensures.area ∙ c.in_ok-screen.ensures.area_is
+pub draw_body-requires-clause-area : goal.draw_body-requires-clause-area
+draw_body-requires-clause-area c = c.in_ok-draw_titles.ensures.area ∙ c.in_ok-screen.ensures.area_is
+
+pub draw_body-requires-clause-places : goal.draw_body-requires-clause-places
+draw_body-requires-clause-places c =
+    within_of (map entry_data c.args.entries.now) c.args.width c.args.state.selected _ c.args.places.now c.selected_body-body.ensures c.requires.places
 
 pub draw_bar-requires-clause-area : goal.draw_bar-requires-clause-area
 draw_bar-requires-clause-area c = c.in_ok-draw_body.ensures.area ∙ (c.in_ok-draw_titles.ensures.area ∙ c.in_ok-screen.ensures.area_is)
@@ -22,8 +29,13 @@ draw_place-requires-clause-place c = c.requires.place
 
 pub returns : goal.returns
 returns c =
+    let entries = map entry_data c.args.entries.now in
+    let selected = c.args.state.selected in
+    let there = subst (λ n. IsPlace n selected) (sym (length-map c.args.entries.now entry_data)) c.requires.place in
+    let count = count_is entries c.args.width selected c.args.places.now there c.requires.places in
+    let most = most_is entries c.args.width c.args.height selected _ _ c.greatest_line-most.ensures count in
     pager_drawn (record { width = c.args.width; height = c.args.height; entries = map entry_data c.args.entries.now; state = c.args.state })
-    _ _ _ _ _ _ _ _ _ _ c.requires.titles c.selected_body-body.ensures c.requires.most
+    _ _ _ _ _ _ _ _ _ _ c.requires.titles c.selected_body-body.ensures most
     (sym (length-map c.args.entries.now entry_data)) refl
     c.in_ok-screen.ensures c.in_ok-draw_titles.ensures c.in_ok-draw_body.ensures c.in_ok-draw_bar.ensures c.in_ok-draw_place.ensures
     c.height-height.ensures.shape

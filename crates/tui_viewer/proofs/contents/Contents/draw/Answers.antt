@@ -1,10 +1,10 @@
-use Rattle.std.proofs.Common.{◌≡◌, ◌∙◌, ap, length, map, subst, sym, List}
+use Rattle.std.proofs.Common.{◌∙◌, ap, length, map, subst, sym, List}
 use Rattle.std.specs.Prelude.{IfOk}
 use Rattle.std.proofs.lemmas.List.{length-map}
 use Rattle.tui_viewer.specs.Entry.{EntryData, entry_data}
 use Rattle.tui_viewer.specs.Laws.{IsPlace}
-use Rattle.tui_viewer.specs.Screen.{IsDrawn, page_area, pager_layers, sizes_of, titles_list}
-use Rattle.tui_viewer.specs.Steps.{most_of}
+use Rattle.tui_viewer.specs.Lines.{HavePlaces}
+use Rattle.tui_viewer.specs.Screen.{IsDrawn, page_area, pager_layers, titles_list}
 use Rattle.tui_viewer.proofs.contents.Contents.draw.Goals as goal
 
 pub draw_screen-requires-clause-titles : goal.draw_screen-requires-clause-titles
@@ -15,10 +15,10 @@ draw_screen-requires-clause-place c =
     let here = ap (map entry_data) c.deref.ensures.value ∙ c.self.view_is in
     subst (λ n. IsPlace n c.args.state.selected) (ap length (sym here) ∙ length-map c.deref.result.now entry_data) c.requires.place
 
-pub draw_screen-requires-clause-most : goal.draw_screen-requires-clause-most
-draw_screen-requires-clause-most c =
+pub draw_screen-requires-clause-places : goal.draw_screen-requires-clause-places
+draw_screen-requires-clause-places c =
     let here = ap (map entry_data) c.deref.ensures.value ∙ c.self.view_is in
-    subst (λ (es : List EntryData). c.args.most ≡ most_of (sizes_of es c.args.width c.args.height) c.args.state.selected) (sym here) c.requires.most
+    subst (λ (es : List EntryData). HavePlaces es c.args.width c.args.state.selected c.args.places.now) (sym here) c.requires.places
 
 pub returns : goal.returns
 returns c =
