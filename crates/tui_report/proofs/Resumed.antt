@@ -11,15 +11,10 @@ use Rattle.tui_cells.specs.declared.rect.Rect.{Rect}
 use Rattle.tui_para.specs.Paragraph.{paragraph_of}
 use Rattle.tui_para.specs.Rendering.{paragraph_layers}
 use Rattle.tui_para.specs.Strokes.{glyph_lines_layers}
+use Rattle.tui_places.proofs.RestLayers.{rest_layers}
 use Rattle.tui_report.specs.Starts.{GoesOn, cell_lines}
 use Rattle.tui_report.specs.Strokes.{cell_from, drawn_in}
 use Rattle.tui_text.specs.Text.{empty_text}
-
--- the rest of a cell shows what the cell shows from that line on
-rest_layers : (line : ℕ) (cell rest : List ℕ) (clip : Rect) → cell_lines clip.width rest ≡ drop line (cell_lines clip.width cell) →
-    paragraph_layers (cell_from 0 rest) clip ≡ paragraph_layers (cell_from line cell) clip
-unfolding Rattle.tui_para.specs.Rendering.content_layers
-rest_layers line cell rest clip e = ap (λ lines. stroke (covers clip) (dress no_style) ++ glyph_lines_layers clip clip.y lines) e
 
 -- a text without lines shows what a cell without further lines shows
 none_layers : (line : ℕ) (cell : List ℕ) (clip : Rect) → drop line (cell_lines clip.width cell) ≡ [] →
@@ -27,6 +22,7 @@ none_layers : (line : ℕ) (cell : List ℕ) (clip : Rect) → drop line (cell_l
 unfolding Rattle.tui_para.specs.Rendering.content_layers
 none_layers line cell clip e = ap (λ lines. stroke (covers clip) (dress no_style) ++ glyph_lines_layers clip clip.y lines) (sym e)
 
+-- the rest of a cell shows what the cell shows from that line on
 pub rest_drawn : {T E : Type 0} (result : Result T E) (width line start : ℕ) (cell rest : List ℕ) (area : Rect) (a b : Screen) →
     (intersection_of area a.area).width ≡ width → GoesOn width line cell start → IsCharBoundary cell start → rest ≡ drop start cell →
     OnOk result (Painted (drawn_in a.area area (cell_from 0 rest)) a b) → OnOk result (Painted (drawn_in a.area area (cell_from line cell)) a b)
@@ -35,7 +31,7 @@ rest_drawn result width line start cell rest area a b same g some is =
     let clip = intersection_of area a.area in
     let e : cell_lines clip.width rest ≡ drop line (cell_lines clip.width cell) =
     subst (λ w. cell_lines w rest ≡ drop line (cell_lines w cell)) (sym same) (ap (cell_lines width) is ∙ g.lines some) in
-    subst (λ layers. OnOk result (Painted layers a b)) (rest_layers line cell rest clip e)
+    subst (λ layers. OnOk result (Painted layers a b)) (rest_layers (cell_from 0 []) true line cell rest clip e)
 
 pub none_drawn : {T E : Type 0} (result : Result T E) (width line start : ℕ) (cell : List ℕ) (area : Rect) (a b : Screen) →
     (intersection_of area a.area).width ≡ width → GoesOn width line cell start → (IsCharBoundary cell start → ⊥) →
