@@ -1,5 +1,5 @@
 -- A cell drawn from where it goes on.
-use Rattle.std.proofs.Common.{◌≡◌, ℕ, List, [], ◌++◌, drop, Result, sym, ap, ◌∙◌, subst}
+use Rattle.std.proofs.Common.{◌≡◌, ℕ, List, [], ◌++◌, drop, Result, sym, ap, ◌∙◌, subst, true}
 use Rattle.std.specs.Prelude.{OnOk}
 use Rattle.std.specs.Str.{IsCharBoundary}
 use Rattle.tui_cells.specs.Buffer.{Screen}
