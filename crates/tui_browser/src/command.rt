@@ -4,15 +4,15 @@ ghost use Rattle.tui_run.specs.Endings.{AnswersWith, no_refusal, nothing};
 ghost use Rattle.tui_browser.specs.Input.{input_data};
 ghost use Rattle.tui_browser.specs.Printed.{IsWritten};
 
-use crate::bad_input::{BadInput, put_refusal};
+use crate::bad_input::BadInput;
 use crate::input::{Input, read_input};
-use crate::input_error::InputError;
 use crate::printing::put_run;
 use crate::run::press_keys;
 use serde_json::Value;
 use std::alloc::Global;
+use tui_json::InputError;
 use tui_port::Sink;
-use tui_run::{Job, Leftovers, Reader, Stop, are_none};
+use tui_run::{Job, Leftovers, Reader, Stop, are_none, put_refused_field};
 
 /// The command of the program: it reads entries and keys, and writes the state behind each key and the last screen.
 #[derive(Clone, Copy, Debug, PartialEq, Eq)]
@@ -54,7 +54,7 @@ impl Job for PagerCommand {
     }
 
     fn refuse<K: Sink>(&self, refusal: BadInput, sink: &mut K) -> bool {
-        put_refusal(refusal, sink)
+        put_refused_field(refusal.field.name(), refusal.at, sink)
     }
 }
 

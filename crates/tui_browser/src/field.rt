@@ -1,8 +1,7 @@
 //! The fields of the input.
 
 use crate::bad_input::BadInput;
-use crate::input_error::InputError;
-use tui_json::Fields;
+use tui_json::{Fields, InputError};
 
 /// A field of the input in JSON.
 #[derive(Clone, Copy, Debug, PartialEq, Eq)]
@@ -35,10 +34,11 @@ impl PagerField {
 }
 
 impl Fields for PagerField {
-    ghost use Rattle.tui_browser.specs.Refusals.{bad_input, field_name, refused};
+    ghost use Rattle.tui_browser.specs.Refusals.{bad_input, field_name};
+    ghost use Rattle.tui_json.specs.Refusals.{refused};
     ghost use Rattle.tui_browser.specs.declared.bad_input.BadInput.{BadInput};
 
-    type Error = InputError;
+    type Error = InputError<BadInput>;
 
     ghost Refusal = { BadInput };
 
@@ -52,11 +52,11 @@ impl Fields for PagerField {
         self.name()
     }
 
-    fn error(self, at: Option<usize>) -> InputError {
+    fn error(self, at: Option<usize>) -> InputError<BadInput> {
         InputError::Refused(BadInput { at, field: self })
     }
 
-    fn no_memory() -> InputError {
+    fn no_memory() -> InputError<BadInput> {
         InputError::NoMemory
     }
 }

@@ -2,18 +2,17 @@
 
 ghost use Rattle.std.specs.Prelude.{map};
 ghost use Rattle.serde_json.specs.View.{view, items_view};
-ghost use Rattle.tui_json.specs.Refusals.{Gives, numbered};
+ghost use Rattle.tui_json.specs.Refusals.{Gives, numbered, refused};
 ghost use Rattle.tui_browser.specs.Input.{entry_of, input_data, input_of, screen_size_of, size_data};
-ghost use Rattle.tui_browser.specs.Refusals.{refused};
 ghost use Rattle.tui_viewer.specs.Entry.{entry_data};
 
+use crate::bad_input::BadInput;
 use crate::field::PagerField;
-use crate::input_error::InputError;
 use crate::size::Size;
 use crate::step::Step;
 use serde_json::Value;
 use std::alloc::Global;
-use tui_json::{Counted, Short, Within, each_numbered, required};
+use tui_json::{Counted, InputError, Short, Within, each_numbered, required};
 use tui_viewer::Entry;
 
 /// All fields of an input. Its texts are borrowed from the value that was read.
@@ -27,7 +26,10 @@ pub(crate) struct Input<'v> {
 /// The input that a value is. It is refused at the first field that is missing or not of its kind: of the input, or of the entry or
 /// the key of a number.
 #[tactic(auto, unfolding(crate::specs::Input::input_of))]
-pub(crate) fn read_input<'v>(alloc: Global, value: &'v Value) -> Result<Input<'v>, InputError>
+pub(crate) fn read_input<'v>(
+    alloc: Global,
+    value: &'v Value,
+) -> Result<Input<'v>, InputError<BadInput>>
     ensures { Gives input_data refused result (input_of (view value.now)) }
 {
     let size = read_size(alloc, value)?;
@@ -43,7 +45,7 @@ pub(crate) fn read_input<'v>(alloc: Global, value: &'v Value) -> Result<Input<'v
 }
 
 #[tactic(auto, unfolding(crate::specs::Input::screen_size_of))]
-fn read_size<'v>(alloc: Global, value: &'v Value) -> Result<Size, InputError>
+fn read_size<'v>(alloc: Global, value: &'v Value) -> Result<Size, InputError<BadInput>>
     ensures { Gives size_data refused result (screen_size_of (view value.now)) }
 {
     let Within(width): Within<12, 200> = required(alloc, None, PagerField::Width, value)?;
@@ -51,7 +53,10 @@ fn read_size<'v>(alloc: Global, value: &'v Value) -> Result<Size, InputError>
     Ok(Size { width, height })
 }
 
-fn read_entries<'v>(alloc: Global, values: &'v [Value]) -> Result<Vec<Entry<'v>>, InputError>
+fn read_entries<'v>(
+    alloc: Global,
+    values: &'v [Value],
+) -> Result<Vec<Entry<'v>>, InputError<BadInput>>
     ensures { Gives (λ entries. map entry_data entries.items) refused result (numbered entry_of 0 (items_view values.now)) }
 {
     let mut entries = Vec::with_capacity(alloc, values.len())?;
@@ -62,7 +67,11 @@ fn read_entries<'v>(alloc: Global, values: &'v [Value]) -> Result<Vec<Entry<'v>>
 }
 
 #[tactic(auto, unfolding(crate::specs::Input::entry_of))]
-fn read_entry<'v>(alloc: Global, i: usize, value: &'v Value) -> Result<Entry<'v>, InputError>
+fn read_entry<'v>(
+    alloc: Global,
+    i: usize,
+    value: &'v Value,
+) -> Result<Entry<'v>, InputError<BadInput>>
     ensures { Gives entry_data refused result (entry_of i (view value.now)) }
 {
     let Short(title): Short<'v, 1000> = required(alloc, Some(i), PagerField::Title, value)?;

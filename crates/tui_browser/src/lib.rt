@@ -6,7 +6,6 @@ mod command;
 mod ended;
 mod field;
 mod input;
-mod input_error;
 mod laws;
 mod printing;
 mod program;

@@ -2,12 +2,12 @@
 
 ghost use Rattle.tui_browser.specs.Keys.{keys};
 
+use crate::bad_input::BadInput;
 use crate::field::PagerField;
-use crate::input_error::InputError;
 use crate::size::Size;
 use serde_json::Value;
 use std::alloc::Global;
-use tui_json::{Fields, Kind, KindError, Named, Numbered, Within, by_name};
+use tui_json::{Fields, InputError, Kind, KindError, Named, Numbered, Within, by_name};
 use tui_viewer::Key;
 
 /// One of the keys of an input: a key by its name, or another size of the screen.
@@ -66,11 +66,11 @@ impl<'v> Kind<'v, PagerField> for Step {
 
 impl<'v> Numbered<'v> for Step {
     ghost use Rattle.tui_browser.specs.Input.{called, key_of};
-    ghost use Rattle.tui_browser.specs.Refusals.{refused};
+    ghost use Rattle.tui_json.specs.Refusals.{refused};
     ghost use Rattle.tui_browser.specs.declared.bad_input.BadInput.{BadInput};
     ghost use Rattle.tui_viewer.specs.Laws.{Call};
 
-    type Error = InputError;
+    type Error = InputError<BadInput>;
 
     ghost Refusal = { BadInput };
 
@@ -82,7 +82,7 @@ impl<'v> Numbered<'v> for Step {
 
     ghost tests = { key_of };
 
-    fn read(alloc: Global, number: usize, value: &'v Value) -> Result<Step, InputError> {
+    fn read(alloc: Global, number: usize, value: &'v Value) -> Result<Step, InputError<BadInput>> {
         match <Step as Kind<'v, PagerField>>::read(alloc, value) {
             Ok(step) => Ok(step),
             Err(KindError::WrongKind) => Err(PagerField::Keys.error(Some(number))),
@@ -90,7 +90,7 @@ impl<'v> Numbered<'v> for Step {
         }
     }
 
-    fn no_memory() -> InputError {
+    fn no_memory() -> InputError<BadInput> {
         InputError::NoMemory
     }
 }

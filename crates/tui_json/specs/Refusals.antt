@@ -2,6 +2,8 @@
 use Rattle.std.specs.Prelude.{◌≡◌, ℕ, ◌+◌, List, [], ◌∷◌, Option, Some, None, Result, Ok, Err}
 use Rattle.serde_json.specs.Data.{Data, Items, no_items, item}
 use Rattle.tui_json.specs.Members.{given_member, member, optional_member}
+use Rattle.tui_json.specs.declared.input_error.InputError.{InputError}
+use Rattle.tui_json.specs.declared.input_error.InputError.TheVariants as errors
 use Rattle.tui_json.specs.declared.kind.KindError.{KindError}
 use Rattle.tui_json.specs.declared.kind.KindError.TheVariants as kinds
 
@@ -19,6 +21,11 @@ Refuses (Some refusal) tests = tests ≡ Err refusal
 abbrev pub Gives : {X Y E R : Type 0} → (X → Y) → (E → Option R) → Result X E → Result Y R → Type 0
 Gives view refused (Ok x) tests = tests ≡ Ok (view x)
 Gives view refused (Err e) tests = Refuses (refused e) tests
+
+-- what an error refuses: nothing where it is want of memory
+abbrev pub refused : {R : Type 0} → InputError R → Option R
+refused (errors.Refused refusal) = Some refusal
+refused errors.NoMemory = None
 
 -- a refusal, where a value is not of its kind
 abbrev pub unless_memory : {R : Type 0} → KindError → R → Option R

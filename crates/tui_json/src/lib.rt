@@ -4,6 +4,7 @@
 mod array;
 mod constraint;
 mod fields;
+mod input_error;
 mod kind;
 mod members;
 mod named;
@@ -14,6 +15,7 @@ mod text;
 pub use array::{Counted, each, elements};
 pub use constraint::constraint_of;
 pub use fields::{Fields, given, optional, required};
+pub use input_error::InputError;
 pub use kind::{Kind, KindError};
 pub use members::{given_member, member, optional_member};
 pub use named::{Named, by_name};

@@ -1,5 +1,25 @@
 -- Where records go on from page to page.
-use Rattle.std.specs.Prelude.{ℕ, ◌≡◌, ◌-◌, ◌<◌, ◌≤◌, ◌/◌, ◌%◌, ◌⊎◌, true, List, [], length, drop, Option, Some, option_and_then, slice_get, slice_index, slice_index_or}
+use Rattle.std.specs.Prelude.{
+  ℕ,
+  ◌≡◌,
+  ◌-◌,
+  ◌<◌,
+  ◌≤◌,
+  ◌/◌,
+  ◌%◌,
+  ◌⊎◌,
+  true,
+  List,
+  [],
+  length,
+  drop,
+  Option,
+  Some,
+  option_and_then,
+  slice_get,
+  slice_index,
+  slice_index_or,
+}
 use Rattle.std.specs.Str.{IsCharBoundary}
 use Rattle.tui_layout.specs.declared.segment.Segment.{Segment}
 use Rattle.tui_para.specs.Hyphens.{at_blanks}

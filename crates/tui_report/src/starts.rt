@@ -1,6 +1,28 @@
 //! Where records go on from page to page.
 
-ghost use Rattle.std.specs.Prelude.{◌≡◌, ◌+◌, ◌<◌, ◌≤◌, ◌*◌, ◌/◌, ◌%◌, ◌++◌, ℕ, List, [], drop, length, map, IfOk, IfSome, None, Some, slice_get, slice_index, option_map};
+ghost use Rattle.std.specs.Prelude.{
+  ◌≡◌,
+  ◌+◌,
+  ◌<◌,
+  ◌≤◌,
+  ◌*◌,
+  ◌/◌,
+  ◌%◌,
+  ◌++◌,
+  ℕ,
+  List,
+  [],
+  drop,
+  length,
+  map,
+  IfOk,
+  IfSome,
+  None,
+  Some,
+  slice_get,
+  slice_index,
+  option_map,
+};
 ghost use Rattle.std.specs.Str.{IsCharBoundary};
 ghost use Rattle.tui_report.specs.Report.{cells_of};
 ghost use Rattle.tui_report.specs.Starts.{GoesOn, HaveStarts, IsBegun, StartsAt, cell_at, cell_lines, first_piece};

@@ -5,3 +5,4 @@ pub mod Complete
 pub mod Status
 pub mod Words
 pub mod Runs
+pub mod FieldLine

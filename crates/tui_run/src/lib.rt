@@ -4,6 +4,7 @@
 mod broken;
 mod command;
 mod ending;
+mod field_line;
 mod job;
 mod json;
 mod leftovers;
@@ -17,6 +18,7 @@ mod written;
 pub use broken::Broken;
 pub use command::Command;
 pub use ending::Ending;
+pub use field_line::put_refused_field;
 pub use job::{Job, run_json};
 pub use leftovers::Leftovers;
 pub use numerals::{Numerals, number_after, numbers_after};

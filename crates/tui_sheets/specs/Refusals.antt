@@ -1,9 +1,8 @@
 -- What is refused, and the line that says so.
-use Rattle.std.specs.Prelude.{ℕ, List, ◌++◌, Option, Some, None, codes, decimal}
+use Rattle.std.specs.Prelude.{ℕ, List, ◌++◌, Option, codes, decimal}
+use Rattle.tui_run.specs.FieldLine.{refused_field}
 use Rattle.tui_sheets.specs.declared.field.ReportField.{ReportField}
 use Rattle.tui_sheets.specs.declared.field.ReportField.TheVariants as fields
-use Rattle.tui_sheets.specs.declared.input_error.InputError.{InputError}
-use Rattle.tui_sheets.specs.declared.input_error.InputError.TheVariants as errors
 use Rattle.tui_sheets.specs.declared.refusal.PagesRefusal.{PagesRefusal}
 use Rattle.tui_sheets.specs.declared.refusal.PagesRefusal.TheVariants as refusals
 
@@ -21,13 +20,7 @@ field_name fields.Records = codes "records"
 abbrev pub bad_input : Option ℕ → ReportField → PagesRefusal
 bad_input at field = refusals.BadInput at field
 
--- what an error refuses: nothing where it is want of memory
-abbrev pub refused : InputError → Option PagesRefusal
-refused errors.NoMemory = None
-refused (errors.Refused refusal) = Some refusal
-
 -- the line of a refusal
-unfoldable pub refusal_line : PagesRefusal → List ℕ
-refusal_line (refusals.BadInput None field) = codes "refused: field " ++ (field_name field ++ codes "\n")
-refusal_line (refusals.BadInput (Some i) field) = codes "refused: field " ++ (field_name field ++ (codes " at " ++ (decimal i ++ codes "\n")))
+abbrev pub refusal_line : PagesRefusal → List ℕ
+refusal_line (refusals.BadInput at field) = refused_field (field_name field) at
 refusal_line (refusals.TooTall place) = codes "refused: record " ++ (decimal place ++ codes " too tall\n")

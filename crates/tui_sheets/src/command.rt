@@ -5,12 +5,12 @@ ghost use Rattle.tui_report.specs.Strokes.{page_area};
 ghost use Rattle.tui_run.specs.Endings.{AnswersWith, no_refusal};
 ghost use Rattle.tui_sheets.specs.Rules.{IsFirst, IsWritten};
 
-use crate::input_error::InputError;
 use crate::printing::{print_count, print_pages};
 use crate::reading::{Reading, read_report};
 use crate::refusal::{PagesRefusal, put_refusal};
 use serde_json::Value;
 use std::alloc::Global;
+use tui_json::InputError;
 use tui_port::Sink;
 use tui_run::{Job, Leftovers, Reader, Stop, are_none, is_word};
 

@@ -1,8 +1,7 @@
 //! The fields of the input.
 
-use crate::input_error::InputError;
 use crate::refusal::PagesRefusal;
-use tui_json::Fields;
+use tui_json::{Fields, InputError};
 
 /// A field of the input in JSON.
 #[derive(Clone, Copy, Debug, PartialEq, Eq)]
@@ -37,10 +36,11 @@ impl ReportField {
 }
 
 impl Fields for ReportField {
-    ghost use Rattle.tui_sheets.specs.Refusals.{bad_input, field_name, refused};
+    ghost use Rattle.tui_sheets.specs.Refusals.{bad_input, field_name};
+    ghost use Rattle.tui_json.specs.Refusals.{refused};
     ghost use Rattle.tui_sheets.specs.declared.refusal.PagesRefusal.{PagesRefusal};
 
-    type Error = InputError;
+    type Error = InputError<PagesRefusal>;
 
     ghost Refusal = { PagesRefusal };
 
@@ -54,11 +54,11 @@ impl Fields for ReportField {
         self.name()
     }
 
-    fn error(self, at: Option<usize>) -> InputError {
+    fn error(self, at: Option<usize>) -> InputError<PagesRefusal> {
         InputError::Refused(PagesRefusal::BadInput { at, field: self })
     }
 
-    fn no_memory() -> InputError {
+    fn no_memory() -> InputError<PagesRefusal> {
         InputError::NoMemory
     }
 }

@@ -3,16 +3,15 @@
 ghost use Rattle.std.specs.Prelude.{map};
 ghost use Rattle.serde_json.specs.View.{view, items_view};
 ghost use Rattle.tui_json.specs.Kinds.{Reads};
-ghost use Rattle.tui_json.specs.Refusals.{Gives, numbered};
+ghost use Rattle.tui_json.specs.Refusals.{Gives, numbered, refused};
 ghost use Rattle.tui_report.specs.Report.{cells_of, column_data};
 ghost use Rattle.tui_sheets.specs.Input.{column_of, input_data, input_of, record_of, sheet_data, sheet_of, texts_of};
-ghost use Rattle.tui_sheets.specs.Refusals.{refused};
 
 use crate::field::ReportField;
-use crate::input_error::InputError;
+use crate::refusal::PagesRefusal;
 use serde_json::Value;
 use std::alloc::Global;
-use tui_json::{Counted, Fields, Kind, KindError, Within, each, required};
+use tui_json::{Counted, Fields, InputError, Kind, KindError, Within, each, required};
 use tui_layout::Constraint;
 use tui_report::{Column, Record};
 
@@ -35,7 +34,10 @@ pub(crate) struct Input<'v> {
 /// The input that a value is. It is refused at the first field that is missing or not of its kind: of the input, or of the column
 /// or the record of a number.
 #[tactic(auto, unfolding(crate::specs::Input::input_of))]
-pub(crate) fn read_input<'v>(alloc: Global, value: &'v Value) -> Result<Input<'v>, InputError>
+pub(crate) fn read_input<'v>(
+    alloc: Global,
+    value: &'v Value,
+) -> Result<Input<'v>, InputError<PagesRefusal>>
     ensures { Gives input_data refused result (input_of (view value.now)) }
 {
     let sheet = read_sheet(alloc, value)?;
@@ -56,7 +58,7 @@ pub(crate) fn read_input<'v>(alloc: Global, value: &'v Value) -> Result<Input<'v
 }
 
 #[tactic(auto, unfolding(crate::specs::Input::sheet_of))]
-fn read_sheet<'v>(alloc: Global, value: &'v Value) -> Result<Sheet<'v>, InputError>
+fn read_sheet<'v>(alloc: Global, value: &'v Value) -> Result<Sheet<'v>, InputError<PagesRefusal>>
     ensures { Gives sheet_data refused result (sheet_of (view value.now)) }
 {
     let Within(width): Within<1, 200> = required(alloc, None, ReportField::Width, value)?;
@@ -69,7 +71,10 @@ fn read_sheet<'v>(alloc: Global, value: &'v Value) -> Result<Sheet<'v>, InputErr
     })
 }
 
-fn read_columns<'v>(alloc: Global, values: &'v [Value]) -> Result<Vec<Column<'v>>, InputError>
+fn read_columns<'v>(
+    alloc: Global,
+    values: &'v [Value],
+) -> Result<Vec<Column<'v>>, InputError<PagesRefusal>>
     ensures { Gives (λ columns. map column_data columns.items) refused result (numbered column_of 0 (items_view values.now)) }
 {
     let mut columns = Vec::with_capacity(alloc, values.len())?;
@@ -80,7 +85,11 @@ fn read_columns<'v>(alloc: Global, values: &'v [Value]) -> Result<Vec<Column<'v>
 }
 
 #[tactic(auto, unfolding(crate::specs::Input::column_of))]
-fn read_column<'v>(alloc: Global, i: usize, value: &'v Value) -> Result<Column<'v>, InputError>
+fn read_column<'v>(
+    alloc: Global,
+    i: usize,
+    value: &'v Value,
+) -> Result<Column<'v>, InputError<PagesRefusal>>
     ensures { Gives column_data refused result (column_of i (view value.now)) }
 {
     let name: &'v str = required(alloc, Some(i), ReportField::Name, value)?;
@@ -88,7 +97,10 @@ fn read_column<'v>(alloc: Global, i: usize, value: &'v Value) -> Result<Column<'
     Ok(Column { name, size })
 }
 
-fn read_records<'v>(alloc: Global, values: &'v [Value]) -> Result<Vec<Record<'v>>, InputError>
+fn read_records<'v>(
+    alloc: Global,
+    values: &'v [Value],
+) -> Result<Vec<Record<'v>>, InputError<PagesRefusal>>
     ensures { Gives (λ records. map cells_of records.items) refused result (numbered record_of 0 (items_view values.now)) }
 {
     let mut records = Vec::with_capacity(alloc, values.len())?;
@@ -98,7 +110,11 @@ fn read_records<'v>(alloc: Global, values: &'v [Value]) -> Result<Vec<Record<'v>
     Ok(records)
 }
 
-fn read_record<'v>(alloc: Global, i: usize, value: &'v Value) -> Result<Record<'v>, InputError>
+fn read_record<'v>(
+    alloc: Global,
+    i: usize,
+    value: &'v Value,
+) -> Result<Record<'v>, InputError<PagesRefusal>>
     ensures { Gives cells_of refused result (record_of i (view value.now)) }
 {
     match read_texts(alloc, value) {

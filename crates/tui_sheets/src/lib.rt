@@ -5,7 +5,6 @@ mod command;
 mod ended;
 mod field;
 mod input;
-mod input_error;
 mod printing;
 mod program;
 mod reading;

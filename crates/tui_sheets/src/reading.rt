@@ -2,17 +2,16 @@
 
 ghost use Rattle.std.specs.Prelude.{◌≡◌, IfOk};
 ghost use Rattle.serde_json.specs.View.{view};
-ghost use Rattle.tui_json.specs.Refusals.{Gives};
+ghost use Rattle.tui_json.specs.Refusals.{Gives, refused};
 ghost use Rattle.tui_report.specs.Strokes.{page_area};
 ghost use Rattle.tui_sheets.specs.Input.{report_in};
-ghost use Rattle.tui_sheets.specs.Refusals.{refused};
 
 use crate::input::read_input;
-use crate::input_error::InputError;
 use crate::refusal::PagesRefusal;
 use serde_json::Value;
 use std::alloc::Global;
 use tui_cells::Rect;
+use tui_json::InputError;
 use tui_report::{Report, ReportError};
 
 /// A report, and the area of its pages.
@@ -25,7 +24,10 @@ pub(crate) struct Reading<'v> {
 /// The report that a value says. It is refused at the first of its tests that fails, the last of which is that no record has more
 /// lines than a report takes.
 #[tactic(auto, unfolding(crate::specs::Input::report_in))]
-pub(crate) fn read_report<'v>(alloc: Global, value: &'v Value) -> Result<Reading<'v>, InputError>
+pub(crate) fn read_report<'v>(
+    alloc: Global,
+    value: &'v Value,
+) -> Result<Reading<'v>, InputError<PagesRefusal>>
     ensures gives { Gives (λ reading. reading.report) refused result (report_in (view value.now)) }
     ensures area { IfOk result (λ reading. reading.area ≡ page_area reading.report) }
 {

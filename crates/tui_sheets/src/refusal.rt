@@ -1,12 +1,13 @@
 //! What is refused.
 
-ghost use Rattle.std.specs.Prelude.{None, Some, true};
+ghost use Rattle.std.specs.Prelude.{true};
 ghost use Rattle.tui_port.specs.Causes.{Puts};
-ghost use Rattle.tui_sheets.specs.Refusals.{bad_input, refusal_line};
+ghost use Rattle.tui_sheets.specs.Refusals.{refusal_line};
 ghost use Rattle.tui_sheets.specs.declared.refusal.PagesRefusal.TheVariants as refusals;
 
 use crate::field::ReportField;
 use tui_port::{Print, Sink};
+use tui_run::put_refused_field;
 
 /// Why the program makes no pages of an input in JSON.
 #[derive(Clone, Copy, Debug, PartialEq, Eq)]
@@ -27,32 +28,9 @@ pub(crate) fn put_refusal<K: Sink>(refusal: PagesRefusal, sink: &mut K) -> bool
     ensures { Puts (K.told sink.old) (K.told sink.new) true result (refusal_line refusal) }
 {
     match refusal {
-        PagesRefusal::BadInput { at: None, field } => put_field(field, sink),
-        PagesRefusal::BadInput { at: Some(i), field } => put_field_at(i, field, sink),
+        PagesRefusal::BadInput { at, field } => put_refused_field(field.name(), at, sink),
         PagesRefusal::TooTall { place } => put_too_tall(place, sink),
     }
-}
-
-fn put_field<K: Sink>(field: ReportField, sink: &mut K) -> bool
-    ensures { Puts (K.told sink.old) (K.told sink.new) true result (refusal_line (bad_input None field)) }
-{
-    let mut print = Print::new();
-    print.text(sink, "refused: field ");
-    print.text(sink, field.name());
-    print.text(sink, "\n");
-    print.end(sink)
-}
-
-fn put_field_at<K: Sink>(i: usize, field: ReportField, sink: &mut K) -> bool
-    ensures { Puts (K.told sink.old) (K.told sink.new) true result (refusal_line (bad_input (Some i) field)) }
-{
-    let mut print = Print::new();
-    print.text(sink, "refused: field ");
-    print.text(sink, field.name());
-    print.text(sink, " at ");
-    print.number(sink, i);
-    print.text(sink, "\n");
-    print.end(sink)
 }
 
 fn put_too_tall<K: Sink>(place: usize, sink: &mut K) -> bool

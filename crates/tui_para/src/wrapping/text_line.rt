@@ -16,6 +16,9 @@ use tui_cells::Mem;
 use tui_text::StyledGrapheme;
 
 /// How many graphemes are read at once at least.
+const FIRST: usize = 16;
+
+/// The same where many were read before.
 const CHUNK: usize = 256;
 
 /// A text line that is wrapped and lent in parts. It is read as far as the parts need.
@@ -27,6 +30,8 @@ pub(crate) struct TextLine<'a, I> {
     line: Marked<'a>,
     width: u16,
     wrap: Wrap,
+    /// How many graphemes are read next at least: few at the beginning, where few lines may be asked for.
+    chunk: usize,
     /// Where the graphemes begin that were not lent.
     place: usize,
     /// No part of it was lent.
@@ -51,6 +56,7 @@ impl<'a, I> TextLine<'a, I> {
             line: Marked::new(alloc, wrap.hyphens),
             width,
             wrap,
+            chunk: FIRST,
             place: 0,
             is_new: false,
         }
@@ -156,6 +162,7 @@ impl<'a, I: Iterator<Item = StyledGrapheme<'a>>> TextLine<'a, I> {
         ensures wrap { self.new.wrap ≡ self.old.wrap }
     {
         self.place = 0;
+        self.chunk = FIRST;
         self.line.clear(self.wrap.hyphens);
         self.is_new = true;
         self.source = Some(source);
@@ -193,7 +200,9 @@ impl<'a, I: Iterator<Item = StyledGrapheme<'a>>> TextLine<'a, I> {
         };
         self.line.drop_front(self.place);
         self.place = 0;
-        let count = self.line.len().max(usize::from(self.width)).max(CHUNK);
+        let wanted = self.line.len().max(usize::from(self.width));
+        let count = wanted.max(self.chunk).max(FIRST);
+        self.chunk = count.saturating_mul(2).min(CHUNK);
         self.source = self.line.read(source, count, self.width)?;
         Ok(())
     }

@@ -6,7 +6,7 @@ use Rattle.tui_json.specs.Refusals.{numbered}
 use Rattle.tui_json.proofs.Numbering.{numbered_more, numbered_err, numbered_end}
 use Rattle.tui_viewer.specs.Entry.{entry_data}
 use Rattle.tui_browser.specs.Input.{entry_of}
-use Rattle.tui_browser.specs.Refusals.{refused}
+use Rattle.tui_json.specs.Refusals.{refused}
 use Rattle.tui_browser.proofs.input.read_entries.Goals as goal
 
 pub returns-in_err-read_entry : goal.returns-in_err-read_entry

@@ -6,7 +6,7 @@ use Rattle.tui_json.specs.Refusals.{numbered}
 use Rattle.tui_json.proofs.Numbering.{numbered_more, numbered_err, numbered_end}
 use Rattle.tui_report.specs.Report.{cells_of}
 use Rattle.tui_sheets.specs.Input.{record_of}
-use Rattle.tui_sheets.specs.Refusals.{refused}
+use Rattle.tui_json.specs.Refusals.{refused}
 use Rattle.tui_sheets.proofs.input.read_records.Goals as goal
 
 pub returns-in_err-read_record : goal.returns-in_err-read_record

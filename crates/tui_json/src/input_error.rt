@@ -1,0 +1,46 @@
+//! Why a value is no input.
+
+use std::alloc::{AllocError, AllocFailed};
+use tui_cells::NoMemory;
+
+/// Why a value is no input of a program, which refuses it with an `R`.
+#[derive(Clone, Copy, Debug, PartialEq, Eq)]
+pub enum InputError<R> {
+    /// The first of its tests that fails refuses it.
+    Refused(R),
+    /// The memory that the input takes was not there.
+    NoMemory,
+}
+
+impl<R> From<NoMemory> for InputError<R> {
+    ghost use Rattle.std.specs.Prelude.{◌≡◌};
+    ghost use Rattle.tui_json.specs.declared.input_error.InputError.TheVariants as errors;
+
+    ghost from_gives = { λ _ e. e ≡ errors.NoMemory };
+
+    fn from(_error: NoMemory) -> InputError<R> {
+        InputError::NoMemory
+    }
+}
+
+impl<R> From<AllocError> for InputError<R> {
+    ghost use Rattle.std.specs.Prelude.{◌≡◌};
+    ghost use Rattle.tui_json.specs.declared.input_error.InputError.TheVariants as errors;
+
+    ghost from_gives = { λ _ e. e ≡ errors.NoMemory };
+
+    fn from(_error: AllocError) -> InputError<R> {
+        InputError::NoMemory
+    }
+}
+
+impl<R, T: Drop> From<AllocFailed<T>> for InputError<R> {
+    ghost use Rattle.std.specs.Prelude.{◌≡◌};
+    ghost use Rattle.tui_json.specs.declared.input_error.InputError.TheVariants as errors;
+
+    ghost from_gives = { λ _ e. e ≡ errors.NoMemory };
+
+    fn from(_error: AllocFailed<T>) -> InputError<R> {
+        InputError::NoMemory
+    }
+}

@@ -1,0 +1,40 @@
+//! The line of a field that is refused.
+
+ghost use Rattle.std.specs.Prelude.{None, Some, true};
+ghost use Rattle.tui_port.specs.Causes.{Puts};
+ghost use Rattle.tui_run.specs.FieldLine.{refused_field};
+
+use tui_port::{Print, Sink};
+
+/// Writes `refused: field NAME`, or `refused: field NAME at I` for a field of the part with that number from 0, as a line of its
+/// own. Answers whether all of it was put. Takes no memory.
+pub fn put_refused_field<K: Sink>(name: &str, at: Option<usize>, sink: &mut K) -> bool
+    ensures { Puts (K.told sink.old) (K.told sink.new) true result (refused_field name.now at) }
+{
+    match at {
+        None => put_name(name, sink),
+        Some(i) => put_name_at(name, i, sink),
+    }
+}
+
+fn put_name<K: Sink>(name: &str, sink: &mut K) -> bool
+    ensures { Puts (K.told sink.old) (K.told sink.new) true result (refused_field name.now None) }
+{
+    let mut print = Print::new();
+    print.text(sink, "refused: field ");
+    print.text(sink, name);
+    print.text(sink, "\n");
+    print.end(sink)
+}
+
+fn put_name_at<K: Sink>(name: &str, i: usize, sink: &mut K) -> bool
+    ensures { Puts (K.told sink.old) (K.told sink.new) true result (refused_field name.now (Some i)) }
+{
+    let mut print = Print::new();
+    print.text(sink, "refused: field ");
+    print.text(sink, name);
+    print.text(sink, " at ");
+    print.number(sink, i);
+    print.text(sink, "\n");
+    print.end(sink)
+}
