@@ -1,5 +1,5 @@
 #!/usr/bin/env python3
-"""Writes the scenes and the reports that docs/PERFORMANCE.md measures into a folder: scenes.py FOLDER."""
+"""Writes the scenes and the other programs' inputs that docs/PERFORMANCE.md measures into a folder: scenes.py FOLDER."""
 import json
 import pathlib
 import random
@@ -130,6 +130,72 @@ def ignored():
     return {**scene(1, 1, []), "more": more}
 
 
+def wide_words(length):
+    """A text of about so many bytes, of words of one to eight CJK characters, every fourth with accents by combining marks at its end."""
+    source = random.Random(4719)
+    each = []
+    while length > 0:
+        word = "".join(chr(source.randint(0x4E00, 0x9FA5)) for _ in range(source.randint(1, 8)))
+        each.append(word + "e\u0301o\u0308" if len(each) % 4 == 3 else word)
+        length -= len(each[-1].encode()) + 1
+    return " ".join(each)
+
+
+def words_of(letters, length):
+    """A text of about so many bytes, of words of one to nine of these letters."""
+    source = random.Random(4720)
+    each = []
+    while length > 0:
+        each.append("".join(source.choice(letters) for _ in range(source.randint(1, 9))))
+        length -= len(each[-1].encode()) + 1
+    return " ".join(each)
+
+
+def many_tabs():
+    """250 rows of a hundred tabs."""
+    titles = [f"tab {i}" for i in range(100)]
+    return scene(1000, 250, [{"widget": "tabs", "area": [0, y, 1000, 1], "titles": titles} for y in range(250)])
+
+
+def stripes():
+    """250 filled stripes of two columns, four apart, each with its own colours, bold."""
+    colour = lambda i: f"#{(i * 7919) % 0x1000000:06x}"
+    style = lambda i: {"fg": colour(i), "bg": colour(i + 250), "add": ["bold"]}
+    return scene(1000, 1000, [fill("x", (4 * i, 0, 2, 1000), style=style(i)) for i in range(250)])
+
+
+def pager(width, height, entries, key):
+    """So many entries as the pair says, each with a title of four bytes and a body of so many bytes, and 1,000 times one key."""
+    count, length = entries
+    each = [{"title": f"e{i:03}", "body": words(length)[:length]} for i in range(count)]
+    return {"width": width, "height": height, "entries": each, "keys": [key] * 1_000}
+
+
+def grid(leaf, **fields):
+    """240 panes in 15 rows of 16, on 960 by 900, each with the widget that `leaf` makes of its number."""
+    row = lambda y: {"parts": [{"size": {"fill": 1}, "pane": {"item": leaf(16 * y + x)}} for x in range(16)]}
+    root = {"direction": "Vertical", "parts": [{"size": {"fill": 1}, "pane": row(y)} for y in range(15)]}
+    return {"width": 960, "height": 900, "root": root, **fields}
+
+
+def placed(i):
+    """The area of a pane of the grid."""
+    return [60 * (i % 16), 60 * (i // 16), 60, 60]
+
+
+def pane_item(i):
+    return {"widget": "paragraph", "text": f"pane {i}", "block": {"borders": ALL}, "style": {"fg": "cyan"}}
+
+
+def grid_scene(changes):
+    """The same widgets as a scene with areas, and for each of so many changes a Clear and the new widget."""
+    each = [{**pane_item(i), "area": placed(i)} for i in range(240)]
+    for i in range(changes):
+        area = placed(i % 240)
+        each += [{"widget": "clear", "area": area}, {**pane_item(i + 240), "area": area}]
+    return scene(960, 900, each)
+
+
 def report(width, height, sizes, records):
     columns = [{"name": f"column {i}", "size": size} for i, size in enumerate(sizes)]
     return {"width": width, "height": height, "title": "Report", "columns": columns, "records": records}
@@ -189,6 +255,18 @@ SCENES = {
     "pages128": lambda: letters(128),
     "pages255": lambda: letters(255),
     "pages85": lambda: newlines(85),
+    "cjk": lambda: scene(200, 1000, [paragraph(wide_words(300_000), (0, 0, 200, 1000), wrap={"trim": True})]),
+    "accents": lambda: scene(200, 1000, [paragraph(words_of("abcdeéèöüñ", 300_000), (0, 0, 200, 1000), wrap={"trim": True})]),
+    "cyrillic": lambda: scene(200, 1000, [paragraph(words_of("абвгдежзик", 300_000), (0, 0, 200, 1000), wrap={"trim": True})]),
+    "tabs": many_tabs,
+    "stripes": stripes,
+    "pager80": lambda: pager(80, 24, (1_000, 1_000), "Down"),
+    "pager200": lambda: pager(200, 100, (1_000, 1_000), "Down"),
+    "pager_line": lambda: pager(80, 24, (1, 64_000), "LineDown"),
+    "panes": lambda: grid(pane_item),
+    "panes_changed": lambda: grid(pane_item, changes=[{"leaf": i % 240, "item": pane_item(i + 240)} for i in range(256)]),
+    "areas": lambda: grid_scene(0),
+    "areas_changed": lambda: grid_scene(256),
     "exact": lambda: scene(1000, 1000, [block((0, 0, 1000, 1000), merge_borders="Exact")]),
 }
 

@@ -6,6 +6,7 @@ mod LineClusters
 mod Rests
 mod ShownClusters
 mod FirstCluster
+mod Printable
 mod Walked
 mod WrappedLines
 mod AfterLine

@@ -25,7 +25,7 @@ pub(crate) fn first_cluster(text: &str) -> Option<(&str, &str)>
 
 /// Whether the text begins with two printable characters of one byte.
 #[inline]
-fn begins_printable(text: &str) -> bool
+pub(crate) fn begins_printable(text: &str) -> bool
     ensures { result ≡ true → (1 < length text.now) × IsSeam text.now 1 }
 {
     let bytes = text.as_bytes();

@@ -1,12 +1,12 @@
 //! The graphemes of the text line at the front of a text.
 
 ghost use Rattle.std.specs.List.{list_any};
-ghost use Rattle.std.specs.Prelude.{◌≡◌, ◌&&◌, chars, nat_le, not};
+ghost use Rattle.std.specs.Prelude.{◌≡◌, ◌&&◌, chars, nat_le, not, IfSome};
 ghost use Rattle.tui_text.specs.Grapheme.{has_control, is_blank_text};
-ghost use Rattle.tui_places.specs.Next.{IsNextOf};
+ghost use Rattle.tui_places.specs.Next.{IsNextOf, IsShown};
 ghost use Rattle.tui_places.specs.Places.{is_newline};
 
-use crate::clusters::first_cluster;
+use crate::clusters::{begins_printable, first_cluster};
 use tui_cells::Style;
 use tui_text::{StyledGrapheme, cell_width};
 
@@ -26,7 +26,36 @@ pub(crate) enum Next<'a> {
 }
 
 /// What comes next in the text's first line, without graphemes that are wider than a line or hold a control character.
+#[inline(always)]
 pub(crate) fn next_grapheme(text: &str, max_width: u16) -> Next<'_>
+    ensures { IsNextOf max_width text.now result }
+{
+    if let Some(grapheme) = printable_grapheme(text, max_width) {
+        return Next::Grapheme(grapheme);
+    }
+    looked_up_grapheme(text, max_width)
+}
+
+/// The next grapheme where the text begins with two printable characters of one byte: the first of them, which needs no tables.
+#[inline(always)]
+fn printable_grapheme(text: &str, max_width: u16) -> Option<Grapheme<'_>>
+    ensures { IfSome result (λ next. IsShown max_width text.now next.width next.blank next.behind.now) }
+{
+    if max_width == 0 || !begins_printable(text) {
+        return None;
+    }
+    let blank = text.as_bytes()[0] == b' ';
+    let (_, behind) = text.split_at(1);
+    Some(Grapheme {
+        width: 1,
+        blank,
+        behind,
+    })
+}
+
+// Never inlined, so that printable bytes cost no call.
+#[inline(never)]
+fn looked_up_grapheme(text: &str, max_width: u16) -> Next<'_>
     ensures { IsNextOf max_width text.now result }
 {
     let mut rest = text;

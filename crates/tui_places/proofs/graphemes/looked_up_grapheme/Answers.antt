@@ -1,6 +1,6 @@
 use Rattle.std.proofs.Common.{sym}
 use Rattle.tui_places.proofs.ShownClusters.{next_shown, over, still_hidden}
-use Rattle.tui_places.proofs.graphemes.next_grapheme.Goals as goal
+use Rattle.tui_places.proofs.graphemes.looked_up_grapheme.Goals as goal
 
 pub returns-then-is_newline : goal.returns-then-is_newline
 returns-then-is_newline c =

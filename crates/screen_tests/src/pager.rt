@@ -1,0 +1,64 @@
+//! A pager by its calls.
+
+use std::alloc::Global;
+use std::test::Fail;
+use text_tests::shows;
+use tui_cells::Mem;
+use tui_viewer::{Entry, Key, Pager, PagerError, PagerState, pager_laws};
+
+fn entries(alloc: Global) -> Mem<Vec<Entry<'static>>> {
+    let mut entries = Vec::new(alloc);
+    for (title, body) in [("a", "one two three"), ("b", "x"), ("c", "y")] {
+        entries.push(Entry { title, body })?;
+    }
+    Ok(entries)
+}
+
+/// What refuses a pager of a size, if anything does.
+fn refusal_of(alloc: Global, width: u16, height: u16) -> Option<PagerError> {
+    Pager::new(alloc, width, height, Vec::new(alloc)).err()
+}
+
+#[test]
+fn small_pagers_are_refused(rt: HostRuntime) -> Result<(), Fail> {
+    let alloc = rt.alloc();
+    assert!(rt; refusal_of(alloc, 11, 5) == Some(PagerError::TooSmall));
+    assert!(rt; refusal_of(alloc, 12, 4) == Some(PagerError::TooSmall));
+    assert!(rt; refusal_of(alloc, 12, 5).is_none());
+    let text = format!(in alloc; "{}", PagerError::TooSmall)?;
+    assert!(rt; text.as_str() == "TooSmall");
+    pager_laws();
+    Ok(())
+}
+
+const LAST: PagerState = PagerState {
+    selected: Some(2),
+    offset: 1,
+    line: 0,
+};
+
+/// Whether the screen is that of the last of three entries, as a refused size leaves it too.
+fn shows_the_last(alloc: Global, pager: &Pager<'_>) -> Mem<bool> {
+    let rows = "\
+┌Ent┐┌────────┐
+│ b ││y       █
+│>c ││        █
+└───┘└────────┘
+3/3            
+";
+    Ok(pager.state() == LAST && shows(alloc, pager.screen(), rows)?)
+}
+
+#[test]
+fn keys_move_and_a_refused_size_changes_nothing(rt: HostRuntime) -> Result<(), Fail> {
+    let alloc = rt.alloc();
+    let mut pager = Pager::new(alloc, 15, 5, entries(alloc)?)?;
+    pager.key(Key::Down)?;
+    pager.key(Key::Down)?;
+    assert!(&rt; shows_the_last(alloc, &pager)?);
+    assert!(&rt; pager.resize(11, 5) == Err(PagerError::TooSmall));
+    assert!(&rt; shows_the_last(alloc, &pager)?);
+    pager.resize(12, 7)?;
+    assert!(&rt; pager.state() == LAST);
+    Ok(())
+}
