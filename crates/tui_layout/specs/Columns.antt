@@ -77,6 +77,7 @@ moved SpaceBetween plan i = if plan.count == 1 then 0 else plan.rest * i / (plan
 moved SpaceEvenly plan i = plan.rest * (i + 1) / (plan.count + 1)
 moved SpaceAround plan i = plan.rest * (2 * i + 1) / (2 * plan.count)
 
+-- how far column i is moved
 unfoldable pub shift : Plan → ℕ → ℕ
 shift plan i = if plan.weights == 0 then moved plan.flex plan i else 0
 
@@ -84,6 +85,7 @@ shift plan i = if plan.weights == 0 then moved plan.flex plan i else 0
 abbrev pub width_at : Plan → List Constraint → ℕ → Constraint → ℕ
 width_at plan cs i c = taken plan (take i cs) c + share plan i (sum_by (weight plan.sharing) (take i cs)) (weight plan.sharing c)
 
+-- the widths of all columns
 abbrev pub widths_of : Plan → List Constraint → List ℕ
 widths_of plan cs = map (λ (i, c). width_at plan cs i c) (enumerate_from 0 cs)
 
@@ -94,9 +96,11 @@ column_at plan cs i c = record {
   width = min (width_at plan cs i c) plan.length;
 }
 
+-- all columns, in order
 abbrev pub columns_in : Plan → List Constraint → List Segment
 columns_in plan cs = map (λ (i, c). column_at plan cs i c) (enumerate_from 0 cs)
 
+-- the columns of a length: its size, the spacing between two, their constraints and the flex
 unfoldable pub columns_of : ℕ → ℕ → List Constraint → Flex → List Segment
 columns_of size spacing cs flex = columns_in (plan_of size spacing cs flex) cs
 

@@ -12,6 +12,7 @@ pub record Refusal : Type 0 where
   pub item : Option ℕ
   pub field : Field
 
+-- a refusal by its item and field
 abbrev pub refusal : Option ℕ → Field → Refusal
 refusal i f = record { item = i; field = f }
 
