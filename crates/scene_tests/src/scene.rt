@@ -11,7 +11,6 @@ use tui_scene::{DrawError, Item, Placed, Scene, draw_at, draw_new, drawing_laws,
 fn refusals(rt: HostRuntime) -> Result<(), Fail> {
     let text = format!(in rt.alloc(); "{}", DrawError::NoMemory { at: 2 })?;
     assert!(rt; text.as_str() == "NoMemory");
-    drawing_laws();
     Ok(())
 }
 
@@ -36,6 +35,7 @@ fn filled(x: u16, symbol: &'static str) -> Placed<'static> {
 #[test]
 fn a_widget_is_drawn_alone(rt: HostRuntime) -> Mem<()> {
     assert!(&rt; is_drawn_alone(rt.alloc())?);
+    drawing_laws();
     redraw_laws();
     Ok(())
 }

@@ -7,7 +7,7 @@ use tui_cells::Mem;
 use tui_layout::Constraint::{Fill, Length, Max, Min, Percentage, Ratio};
 use tui_layout::{
     Constraint, Direction, Flex, Fraction, HighlightSpacing, Segment, Sums, Window, split,
-    uncounted_window,
+    window_of,
 };
 
 fn sums_of(alloc: Global, heights: &[u64]) -> Mem<Sums> {
@@ -26,7 +26,7 @@ fn is_window(
     (first, end): (usize, usize),
 ) -> Mem<bool> {
     let sums = sums_of(alloc, heights)?;
-    let found = uncounted_window(&sums, height, offset, selected, padding);
+    let found = window_of(&sums, height, offset, selected, padding);
     Ok(sums.len() == heights.len() && found == Window { first, end })
 }
 
@@ -84,7 +84,7 @@ fn windows_of_many_items(rt: HostRuntime) -> Result<(), Fail> {
     let mut sums = Sums::new(rt.alloc());
     push_ones(&mut sums, 1000)?;
     assert!(rt;
-        uncounted_window(&sums, 10, 0, Some(999), 0)
+        window_of(&sums, 10, 0, Some(999), 0)
             == Window {
                 first: 990,
                 end: 1000
@@ -92,7 +92,7 @@ fn windows_of_many_items(rt: HostRuntime) -> Result<(), Fail> {
     );
     push_ones(&mut sums, 64536)?;
     assert!(rt;
-        uncounted_window(&sums, 1000, 70000, Some(40000), 5)
+        window_of(&sums, 1000, 70000, Some(40000), 5)
             == Window {
                 first: 39995,
                 end: 40995

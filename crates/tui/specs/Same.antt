@@ -1,4 +1,4 @@
--- Colours, attributes and styles that `==` calls equal are the same.
+-- Laws: colours, attributes and styles that `==` calls equal are the same.
 use Rattle.std.specs.Prelude.{◌≡◌, ◌&&◌, ℕ, Bool, true, Option, Some, None, refl}
 use Rattle.std.specs.contracts.prelude.OptionPartialEq as options
 use denote.Builtin as builtin
@@ -33,12 +33,14 @@ same_colors (Some x) (Some y) e = Prim.search (rules, same_color x y e)
 abbrev eq_styles : Option Style → Option Style → Bool
 eq_styles a b = (options.TheImpl.ghosts style_type.the_row style.TheImpl.ghosts style.TheImpl.dict).eq a b
 
+-- attributes that `==` calls equal are the same
 pub same_attributes : (a b : Attributes) → attributes.TheImpl.ghosts.eq a b ≡ true → a ≡ b
 same_attributes a b e =
     let first = each_true (color.TheImpl.ghosts.eq a.fg b.fg) _ e in
     let second = each_true (color.TheImpl.ghosts.eq a.bg b.bg) _ first.1 in
     Prim.search (rules, same_color a.fg b.fg first.0, same_color a.bg b.bg second.0, second.1)
 
+-- so are styles
 pub same_style : (a b : Style) → style.TheImpl.ghosts.eq a b ≡ true → a ≡ b
 same_style a b e =
     let first = each_true (eq_colors a.fg b.fg) _ e in
@@ -61,6 +63,7 @@ same_values None (Some y) e = Prim.search (rules, e)
 same_values (Some x) None e = Prim.search (rules, e)
 same_values (Some x) (Some y) e = Prim.search (rules, e)
 
+-- so are bars of a sparkline
 pub same_bar : (a b : SparklineBar) → bar.TheImpl.ghosts.eq a b ≡ true → a ≡ b
 same_bar a b e =
     let both = each_true (eq_values a.value b.value) _ e in

@@ -2,6 +2,6 @@
 
 pub use tui_cells::{Offset, Position, Rect};
 pub use tui_layout::{
-    Constraint, Direction, Flex, Fraction, Segment, Sums, Window, split, uncounted_window,
+    Constraint, Direction, Flex, Fraction, Segment, Sums, Window, split, window_of,
 };
 pub use tui_text::Alignment;

@@ -15,6 +15,7 @@ use Rattle.tui_bars.specs.declared.bar.Bar.{Bar}
 use Rattle.tui_bars.specs.declared.bar_chart.BarChart.{BarChart}
 use Rattle.tui_bars.specs.declared.bar_group.BarGroup.{BarGroup}
 
+-- a bar as plain data
 pub record BarData : Type 0 where
   pub value : ℕ
   pub label : Option LineData
@@ -22,6 +23,7 @@ pub record BarData : Type 0 where
   pub value_style : Style
   pub text : Option (List ℕ)
 
+-- a bar of the code as plain data
 abbrev pub bar_data : Bar → BarData
 bar_data b = record { value = b.value; label = option_map line_data b.label; style = b.style; value_style = b.value_style; text = option_copied b.text_value }
 
@@ -29,13 +31,16 @@ bar_data b = record { value = b.value; label = option_map line_data b.label; sty
 abbrev pub bar_of : ℕ → BarData
 bar_of value = record { value = value; label = None; style = no_style; value_style = no_style; text = None }
 
+-- a group as plain data
 pub record GroupData : Type 0 where
   pub label : Option LineData
   pub bars : List BarData
 
+-- a group of the code as plain data
 abbrev pub group_data : BarGroup → GroupData
 group_data g = record { label = option_map line_data g.label; bars = map bar_data g.bars.items }
 
+-- a bar chart as plain data
 pub record BarChartData : Type 0 where
   pub block : Option BlockData
   pub groups : List GroupData
@@ -50,6 +55,7 @@ pub record BarChartData : Type 0 where
   pub label_style : Style
   pub direction : Direction
 
+-- a bar chart of the code as plain data
 abbrev pub bar_chart_data : BarChart → BarChartData
 bar_chart_data c = record {
   block = option_map block_data c.block;
@@ -70,6 +76,7 @@ bar_chart_data c = record {
 abbrev pub has_bars : GroupData → Bool
 has_bars g = nat_lt 0 (length g.bars)
 
+-- the groups that have bars
 abbrev pub with_bars : List GroupData → List GroupData
 with_bars groups = filter has_bars groups
 
@@ -98,6 +105,7 @@ one_group bars = with_bars (record { label = None; bars = bars } ∷ [])
 abbrev pub greatest_in : GroupData → ℕ
 greatest_in g = fold max 0 (map (λ b. b.value) g.bars)
 
+-- that of the whole chart
 abbrev pub greatest_of : BarChartData → ℕ
 greatest_of c = max (unwrap_or c.max (fold max 0 (map greatest_in c.groups))) 1
 
@@ -105,9 +113,11 @@ greatest_of c = max (unwrap_or c.max (fold max 0 (map greatest_in c.groups))) 1
 abbrev pub label_width : BarData → ℕ
 label_width b = option_map_or (λ l. min (line_width false l) 65535) b.label 0
 
+-- that of a group
 abbrev pub label_width_in : GroupData → ℕ
 label_width_in g = fold max 0 (map label_width g.bars)
 
+-- that of the whole chart
 abbrev pub label_width_of : BarChartData → ℕ
 label_width_of c = fold max 0 (map label_width_in c.groups)
 
@@ -115,9 +125,11 @@ label_width_of c = fold max 0 (map label_width_in c.groups)
 abbrev pub has_label : BarData → Bool
 has_label b = is_some b.label
 
+-- whether a bar of a group has a label
 abbrev pub has_bar_label : GroupData → Bool
 has_bar_label g = list_any has_label g.bars
 
+-- whether the group itself has one
 abbrev pub has_group_label : GroupData → Bool
 has_group_label g = is_some g.label
 

@@ -24,6 +24,7 @@ abbrev pub IsLightText : Direction → List ℕ → Type 0
 IsLightText Vertical text = All IsLight (clusters text)
 IsLightText Horizontal text = (place : ℕ) → IsCharBoundary text place → All IsLight (clusters (drop place text))
 
+-- no text of its own, or a light one
 abbrev pub IsLightValue : Direction → Option (List ℕ) → Type 0
 IsLightValue direction None = ⊤
 IsLightValue direction (Some text) = IsLightText direction text
@@ -33,10 +34,12 @@ pub record IsLightBar (direction : Direction) (b : BarData) : Type 0 where
   pub label : IsLightLine b.label
   pub text : IsLightValue direction b.text
 
+-- a group whose label and bars are light
 pub record IsLightGroup (direction : Direction) (g : GroupData) : Type 0 where
   pub label : IsLightLine g.label
   pub bars : All (IsLightBar direction) g.bars
 
+-- a chart that takes no memory
 pub record IsLightChart (c : BarChartData) : Type 0 where
   pub block : IsLightIfBlock c.block
   pub symbols : AreLightLevels c.symbols

@@ -1,4 +1,4 @@
--- The strokes of a bar chart stay in its area.
+-- Laws that the drawing of a bar chart carries: its strokes stay in its area.
 use Rattle.std.specs.Prelude.{ℕ, Bool, true, false, List, [], ◌∷◌, flat_map, Option, None, Some, if◌then◌else◌}
 use Rattle.tui_cells.specs.declared.rect.Rect.{Rect}
 use Rattle.tui_cells.specs.Cell.{dress}
@@ -105,6 +105,7 @@ directed_stays : (c : BarChartData) (area : Rect) (direction : Direction) → St
 directed_stays c area Vertical = StayIn-append (walk_stays c (upright_plan c area) Columns _ _) (walk_stays c (upright_plan c area) Texts _ _)
 directed_stays c area Horizontal = walk_stays c (lying_plan c area) Rows _ _
 
+-- a bar chart changes cells of its area alone
 pub bar_chart_stays : (c : BarChartData) (area : Rect) → StayIn (covers area) (bar_chart_layers c area)
 unfolding bar_chart_layers
 bar_chart_stays c area = else_stays _ (directed_stays c area c.direction)

@@ -20,6 +20,7 @@ bar_layers c plan Columns p = column_layers c plan p.at p.bar
 bar_layers c plan Texts p = texts_layers c plan p.at p.bar
 bar_layers c plan Rows p = lying_layers c plan p.at p.bar
 
+-- a group that is shown, in a walk
 unfoldable pub group_layers : BarChartData → Plan → Pass → Shown → List Layer
 group_layers c plan Columns s = flat_map (bar_layers c plan Columns) (bars_of c s)
 group_layers c plan Texts s = group_label_layers c plan s ++ flat_map (bar_layers c plan Texts) (bars_of c s)

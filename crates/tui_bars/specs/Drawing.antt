@@ -38,12 +38,14 @@ pub record IsLightGauge (g : GaugeData) : Type 0 where
   pub block : IsLightIfBlock g.block
   pub label : IsLightLabel g.label
 
+-- a line gauge that takes no memory
 pub record IsLightLineGauge (g : LineGaugeData) : Type 0 where
   pub block : IsLightIfBlock g.block
   pub label : IsLightLine g.label
   pub filled : IsLight g.filled
   pub unfilled : IsLight g.unfilled
 
+-- each widget as a drawing
 abbrev pub gauge_drawing : GaugeData → Drawing
 gauge_drawing g = framed_drawing g.block g.style (gauge_layers g) (IsLightGauge g) (gauge_stays g)
 

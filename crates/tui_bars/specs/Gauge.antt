@@ -41,6 +41,7 @@ use Rattle.tui_bars.specs.Areas.{put_layers}
 use Rattle.tui_bars.specs.Percent.{eighths_of, fill_of, percent_of}
 use Rattle.tui_bars.specs.declared.gauge.Gauge.{Gauge}
 
+-- a gauge as plain data
 pub record GaugeData : Type 0 where
   pub block : Option BlockData
   pub num : ℕ
@@ -50,6 +51,7 @@ pub record GaugeData : Type 0 where
   pub gauge_style : Style
   pub use_unicode : Bool
 
+-- a gauge of the code as plain data
 abbrev pub gauge_data : Gauge → GaugeData
 gauge_data g = record {
   block = option_map block_data g.block;
@@ -69,6 +71,7 @@ empty_gauge = record { block = None; num = 0; den = 1; label = None; style = no_
 abbrev pub filled_style : Style → Style
 filled_style s = record no_style { fg = Some (unwrap_or s.fg Reset); bg = Some (unwrap_or s.bg Reset) }
 
+-- the same with the colours turned round
 abbrev pub turned_style : Style → Style
 turned_style s = record no_style { fg = Some (unwrap_or s.bg Reset); bg = Some (unwrap_or s.fg Reset) }
 
@@ -76,6 +79,7 @@ turned_style s = record no_style { fg = Some (unwrap_or s.bg Reset); bg = Some (
 abbrev pub full : List ℕ
 full = 0xe2 ∷ 0x96 ∷ 0x88 ∷ []
 
+-- the symbol of so many eighths of a cell
 unfoldable pub eighth : ℕ → List ℕ
 eighth k = if k == 0 then space else 0xe2 ∷ 0x96 ∷ (0x90 - min k 8) ∷ []
 
@@ -83,6 +87,7 @@ eighth k = if k == 0 then space else 0xe2 ∷ 0x96 ∷ (0x90 - min k 8) ∷ []
 abbrev pub filled_area : Rect → ℕ → Rect
 filled_area area fill = record area { width = fill }
 
+-- the column behind the filled ones
 abbrev pub tip_area : Rect → ℕ → Rect
 tip_area area fill = record area { x = past area.x fill; width = 1 }
 
@@ -94,6 +99,7 @@ label_of g = unwrap_or g.label (raw_span (decimal (percent_of g.num g.den) ++ co
 abbrev pub label_width : Rect → SpanData → ℕ
 label_width area label = min (span_width false label) area.width
 
+-- where a label of so many columns begins
 abbrev pub label_place : Rect → ℕ → Position
 label_place area width = record { x = past area.x ((area.width - width) / 2); y = past area.y (area.height / 2) }
 

@@ -18,6 +18,7 @@ use Rattle.tui_bars.specs.Areas.{put_layers}
 use Rattle.tui_bars.specs.Percent.{percent_label}
 use Rattle.tui_bars.specs.declared.line_gauge.LineGauge.{LineGauge}
 
+-- a line gauge as plain data
 pub record LineGaugeData : Type 0 where
   pub block : Option BlockData
   pub num : ℕ
@@ -29,6 +30,7 @@ pub record LineGaugeData : Type 0 where
   pub filled_style : Style
   pub unfilled_style : Style
 
+-- a line gauge of the code as plain data
 abbrev pub line_gauge_data : LineGauge → LineGaugeData
 line_gauge_data g = record {
   block = option_map block_data g.block;
@@ -65,6 +67,7 @@ abbrev pub label_spans : LineGaugeData → Option LineData → List SpanData
 label_spans g None = raw_span (percent_label g.num g.den) ∷ []
 label_spans g (Some line) = line_spans line
 
+-- the label at the area's corner
 abbrev pub label_layers : LineGaugeData → Rect → List Layer
 label_layers g area = set_layers area (corner area) (label_spans g g.label) area.width
 

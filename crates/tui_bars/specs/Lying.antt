@@ -58,6 +58,7 @@ abbrev pub left_label : Plan → ℕ → Option LineData → List Layer
 left_label plan middle None = []
 left_label plan middle (Some label) = set_layers plan.area (record { x = plan.area.x; y = middle }) (line_spans label) plan.labels
 
+-- the label of a bar, if it has one
 unfoldable pub left_layers : Plan → ℕ → BarData → List Layer
 left_layers plan middle bar = left_label plan middle bar.label
 
@@ -70,6 +71,7 @@ abbrev pub next_start : List ℕ → ℕ → ℕ → ℕ
 next_start text i zero = i
 next_start text i (suc n) = if is_start text i then i else next_start text (i + 1) n
 
+-- the first such place from one on
 unfoldable pub start_from : ℕ → List ℕ → ℕ
 start_from place text = next_start text place (length text - place)
 
@@ -78,6 +80,7 @@ start_from place text = next_start text place (length text - place)
 abbrev pub rest_layers : Plan → ℕ → ℕ → List ℕ → Style → List Layer
 rest_layers plan middle k text style = set_layers plan.area (record { x = past plan.start k; y = middle }) (styled_text (drop k text) style) (plan.length - k)
 
+-- what is past the filled cells, if something is
 unfoldable pub beyond_layers : Plan → ℕ → ℕ → List ℕ → Style → List Layer
 beyond_layers plan middle filled text style =
     if nat_lt filled (length text) then rest_layers plan middle (start_from filled text) text style else []
@@ -99,9 +102,11 @@ lying_layers c plan at bar =
 abbrev pub gap_row : BarChartData → Plan → ℕ → ℕ → Rect
 gap_row c plan at n = cells_at plan.start (past at (n * (c.width + c.gap) - c.gap)) plan.length
 
+-- a group's label in that row, if it has one
 abbrev pub group_row : BarChartData → Plan → ℕ → ℕ → Option LineData → List Layer
 group_row c plan at n None = []
 group_row c plan at n (Some label) = group_title_layers c plan.area (gap_row c plan at n) label
 
+-- likewise where there is a gap between groups
 unfoldable pub group_row_layers : BarChartData → Plan → Shown → List Layer
 group_row_layers c plan s = if nat_lt 0 c.group_gap then group_row c plan s.at s.count s.group.label else []

@@ -13,6 +13,7 @@ half_even a b = if nat_lt b (2 * (a % b)) || ((2 * (a % b) == b) && (a / b % 2 =
 abbrev pub padded : ℕ → List ℕ
 padded n = (if nat_lt n 100 then codes " " else []) ++ (if nat_lt n 10 then codes " " else []) ++ decimal n ++ codes "%"
 
+-- a share in percent, a half to the even number
 abbrev pub percent_label : ℕ → ℕ → List ℕ
 percent_label num den = padded (half_even (100 * num) den)
 

@@ -19,6 +19,7 @@ space_after c space n = if nat_lt (room_of c n) space then space - (room_of c n 
 abbrev pub place_after : BarChartData → ℕ → ℕ → ℕ
 place_after c place n = past (past place (n * (c.width + c.gap))) c.group_gap
 
+-- the place of the next bar
 abbrev pub step_of : BarChartData → ℕ → ℕ
 step_of c place = past (past place c.width) c.gap
 

@@ -21,9 +21,11 @@ pub record SparklineBarData : Type 0 where
   pub value : Option ℕ
   pub style : Option Style
 
+-- a bar of the code as plain data
 abbrev pub sparkline_bar_data : SparklineBar → SparklineBarData
 sparkline_bar_data b = record { value = b.value; style = b.style }
 
+-- a sparkline as plain data
 pub record SparklineData : Type 0 where
   pub block : Option BlockData
   pub style : Style
@@ -34,6 +36,7 @@ pub record SparklineData : Type 0 where
   pub symbols : BarSymbols
   pub direction : RenderDirection
 
+-- a sparkline of the code as plain data
 abbrev pub sparkline_data : Sparkline → SparklineData
 sparkline_data s = record {
   block = option_map block_data s.block;
@@ -68,6 +71,7 @@ abbrev pub side : RenderDirection → ℕ → ℕ → ℕ
 side LeftToRight width i = i
 side RightToLeft width i = width - 1 - i
 
+-- the column of bar i
 abbrev pub column_at : SparklineData → Rect → ℕ → Rect
 column_at s area i = record area { x = past area.x (side s.direction area.width i); width = 1 }
 
@@ -77,6 +81,7 @@ value_layers s area column greatest style None = put_layers area column s.absent
 value_layers s area column greatest style (Some value) =
     standing_layers s.symbols area column (patched s.style (unwrap_or style no_style)) (ticks greatest value column.height)
 
+-- bar i in its column
 abbrev pub bar_layers : SparklineData → Rect → ℕ → ℕ → SparklineBarData → List Layer
 bar_layers s area greatest i bar = value_layers s area (column_at s area i) greatest bar.style bar.value
 

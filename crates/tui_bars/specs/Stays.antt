@@ -1,4 +1,4 @@
--- The strokes of bars stay in their areas.
+-- Laws that the drawings of gauges and sparklines carry: the strokes of bars stay in their areas.
 use Rattle.std.specs.Prelude.{ℕ, Bool, true, false, zero, suc, ◌+◌, ◌-◌, List, [], ◌∷◌, Option, None, Some, take, if◌then◌else◌}
 use Rattle.tui_cells.specs.declared.rect.Rect.{Rect}
 use Rattle.tui_cells.specs.declared.style.Style.{Style}
@@ -21,6 +21,7 @@ use Rattle.tui_cells.specs.Symbols.{BarData as BarSymbols}
 use Rattle.tui_bars.specs.Gauge.{GaugeData, gauge_layers, label_of, labelled_layers, tip_layers}
 use Rattle.tui_bars.specs.LineGauge.{LineGaugeData, bar_layers, line_gauge_layers}
 
+-- a symbol over an area changes cells of the clip alone
 pub put_stays : (clip area : Rect) (symbol : List ℕ) (style : Style) → StayIn (covers clip) (put_layers clip area symbol style)
 unfolding put_layers
 put_stays clip area symbol style =
@@ -44,6 +45,7 @@ labelled_stays g label area = StayIn-append (StayIn-append (StayIn-append (StayI
     (StayIn-stroke (covers area) (dress g.gauge_style) (λ x y out. out)) (put_stays area _ _ _)) (put_stays area _ _ _))
     (then_stays _ (put_stays area _ _ _))) (set_stays area _ _ _)
 
+-- a gauge changes cells of its area alone
 pub gauge_stays : (g : GaugeData) (area : Rect) → StayIn (covers area) (gauge_layers g area)
 gauge_stays g area = labelled_stays g (label_of g) area
 
@@ -51,6 +53,7 @@ line_stays : (g : LineGaugeData) (area : Rect) (start : ℕ) → StayIn (covers 
 unfolding bar_layers
 line_stays g area start = StayIn-append (put_stays area _ _ _) (put_stays area _ _ _)
 
+-- so does a line gauge
 pub line_gauge_stays : (g : LineGaugeData) (area : Rect) → StayIn (covers area) (line_gauge_layers g area)
 line_gauge_stays g area = StayIn-append (set_stays area _ _ _) (line_stays g area _)
 
@@ -60,6 +63,7 @@ unfolding levels_layers
 levels_stay s clip area style left zero = StayIn-none
 levels_stay s clip area style left (suc n) = StayIn-append (put_stays clip _ _ style) (levels_stay s clip area style (left - 8) n)
 
+-- a standing bar changes cells of the clip alone
 pub standing_stays : (s : BarSymbols) (clip area : Rect) (style : Style) (filled : ℕ) → StayIn (covers clip) (standing_layers s clip area style filled)
 standing_stays s clip area style filled = levels_stay s clip area style filled area.height
 
@@ -73,5 +77,6 @@ unfolding bars_layers
 bars_stay s area greatest i [] = StayIn-none
 bars_stay s area greatest i (b ∷ bs) = StayIn-append (value_stays s area _ greatest b.style b.value) (bars_stay s area greatest (i + 1) bs)
 
+-- a sparkline changes cells of its area alone
 pub sparkline_stays : (s : SparklineData) (area : Rect) → StayIn (covers area) (sparkline_layers s area)
 sparkline_stays s area = bars_stay s area _ 0 (take area.width s.bars)

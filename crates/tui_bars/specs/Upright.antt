@@ -22,6 +22,7 @@ use Rattle.tui_bars.specs.declared.plan.Plan.{Plan}
 abbrev pub bar_area : BarChartData → Plan → ℕ → Rect
 bar_area c plan at = record { x = at; y = plan.area.y; width = c.width; height = plan.length }
 
+-- a bar by its ticks
 unfoldable pub column_layers : BarChartData → Plan → ℕ → BarData → List Layer
 column_layers c plan at bar =
     standing_layers c.symbols plan.area (bar_area c plan at) (patched c.bar_style bar.style) (ticks plan.greatest bar.value plan.length)
@@ -30,10 +31,12 @@ column_layers c plan at bar =
 abbrev pub group_row : BarChartData → Plan → ℕ → ℕ → Rect
 group_row c plan at n = cells_at at (past plan.area.y (plan.area.height - 1)) (columns_of c n)
 
+-- a group's label, if it has one
 abbrev pub group_label : BarChartData → Plan → ℕ → ℕ → Option LineData → List Layer
 group_label c plan at n None = []
 group_label c plan at n (Some label) = group_title_layers c plan.area (group_row c plan at n) label
 
+-- likewise where labels of groups have a row
 unfoldable pub group_label_layers : BarChartData → Plan → Shown → List Layer
 group_label_layers c plan s = if plan.group_labels then group_label c plan s.at s.count s.group.label else []
 
@@ -41,10 +44,12 @@ group_label_layers c plan s = if plan.group_labels then group_label c plan s.at 
 abbrev pub label_row : BarChartData → Plan → ℕ → Rect
 label_row c plan at = cells_at at (past plan.area.y plan.length) c.width
 
+-- a bar's label, if it has one
 abbrev pub bar_label : BarChartData → Plan → ℕ → Option LineData → List Layer
 bar_label c plan at None = []
 bar_label c plan at (Some label) = titled_layers c plan.area (place_in (label_row c plan at) Center (min (line_width false label) c.width)) label
 
+-- likewise where labels of bars have a row
 unfoldable pub label_layers : BarChartData → Plan → ℕ → BarData → List Layer
 label_layers c plan at bar = if plan.bar_labels then bar_label c plan at bar.label else []
 
@@ -56,6 +61,7 @@ has_room room width filled = nat_lt width room || ((width == room) && nat_le 8 f
 abbrev pub value_place : BarChartData → Plan → ℕ → List ℕ → Position
 value_place c plan at text = record { x = past at ((c.width - length text) / 2); y = past plan.area.y (plan.length - 1) }
 
+-- a value's text, where there is room for it
 unfoldable pub value_text_layers : BarChartData → Plan → ℕ → ℕ → List ℕ → Style → List Layer
 value_text_layers c plan at filled text style =
     if has_room c.width (span_width false (raw_span text)) filled
@@ -66,5 +72,6 @@ unfoldable pub value_layers : BarChartData → Plan → ℕ → BarData → List
 value_layers c plan at bar = if bar.value == 0 then []
     else value_text_layers c plan at (ticks plan.greatest bar.value plan.length) (value_text bar) (patched c.value_style bar.value_style)
 
+-- a bar's label and its value
 unfoldable pub texts_layers : BarChartData → Plan → ℕ → BarData → List Layer
 texts_layers c plan at bar = label_layers c plan at bar ++ value_layers c plan at bar

@@ -32,10 +32,6 @@ states_on p q before all call calls rest next moved done =
     rw moved (append_assoc before ((after_call p call).state ∷ []) (states_behind (after_call p call) rest)
     ∙ subst (λ (cs : List Call). before ++ states_behind p cs ≡ all) next done)
 
--- and after the last one
-pub pager_end : (p all : PagerData) (calls : List Call) → calls ≡ [] → after_calls p calls ≡ all → p ≡ all
-pager_end p all calls none done = subst (λ (cs : List Call). after_calls p cs ≡ all) none done
-
 pub states_end : (p : PagerData) (before all : List PagerState) (calls : List Call) → calls ≡ [] → before ++ states_behind p calls ≡ all → before ≡ all
 unfolding states_behind
 states_end p before all calls none done =

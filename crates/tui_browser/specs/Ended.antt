@@ -10,6 +10,7 @@ use Rattle.tui_browser.specs.declared.bad_input.BadInput.{BadInput}
 use Rattle.tui_browser.specs.declared.ended.PagerEnded.{PagerEnded}
 use Rattle.tui_browser.specs.declared.ended.PagerEnded.TheVariants as ended
 
+-- each ending of this program as one of every program's
 abbrev pub ending_of : PagerEnded → Ending BadInput
 ending_of ended.Ok = ending.Written written.Output
 ending_of ended.Usage = ending.Written written.Usage

@@ -28,9 +28,11 @@ required kind at field d = tests.required kind (field_name field) (bad_input at 
 abbrev pub size_of : Data → Option (ℕ × ℕ)
 size_of d = pair_of (within 12 200) (within 5 100) d
 
+-- a size as its columns and rows
 abbrev pub size_data : Size → ℕ × ℕ
 size_data size = (size.width, size.height)
 
+-- the size of the screen, or what is refused of it
 unfoldable pub screen_size_of : Data → Result (ℕ × ℕ) BadInput
 screen_size_of d = do
   width ← required (within 12 200) None fields.Width d
@@ -49,9 +51,11 @@ abbrev call_or_size : Option Key → Data → Option Call
 call_or_size (Some key) d = Some (press key)
 call_or_size None d = option_map (λ size. resize size.0 size.1) (size_of d)
 
+-- a key by its name, or another size
 abbrev pub call_of : Data → Option Call
 call_of d = call_or_size (named_of keys d) d
 
+-- a step of the code as the call that it makes
 abbrev pub called : Step → Call
 called (step.Press key) = press key
 called (step.Resize size) = resize size.width size.height
@@ -66,6 +70,7 @@ pub record InputData : Type 0 where
   pub entries : List EntryData
   pub calls : List Call
 
+-- what is read, as plain data
 abbrev pub input_data : Input → InputData
 input_data input = record {
   size = size_data input.size;
@@ -73,6 +78,7 @@ input_data input = record {
   calls = map called input.steps.items;
 }
 
+-- the whole input, or what is refused of it
 unfoldable pub input_of : Data → Result InputData BadInput
 input_of d = do
   size ← screen_size_of d

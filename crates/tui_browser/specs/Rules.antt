@@ -18,5 +18,6 @@ Names c words = AreTexts [] words
 abbrev pub pager_reading : PagerCommand → Reading BadInput
 pager_reading c = record { Input = InputData; input_of = input_of; line = refusal_line; due = IsWritten; part = λ input. nothing }
 
+-- the rules of the one command
 abbrev pub pager_rules : Rules PagerCommand BadInput
 pager_rules = reading_rules Names pager_reading

@@ -9,6 +9,7 @@ use Rattle.tui_browser.specs.Input.{InputData}
 abbrev pub first_of : InputData → PagerData
 first_of input = pager_of input.entries input.size.0 input.size.1
 
+-- the pager after all keys
 abbrev pub last_of : InputData → PagerData
 last_of input = after_calls (first_of input) input.calls
 

@@ -32,6 +32,7 @@ with_date = insert_entry (λ a b. int_cmp (day_number a) (day_number b))
 abbrev pub style_or_none : DatedStyles → DateData → Style
 style_or_none dates d = unwrap_or (style_among dates d) no_style
 
+-- the dates and their styles, in the store's order
 abbrev pub dated_styles : CalendarEventStore → DatedStyles
 dated_styles store = map (λ e. (date_data e.0, e.1)) store.styles.entries
 

@@ -26,14 +26,17 @@ use Rattle.jiff.specs.Words.{IsEpochDay, days_in_month}
 use Rattle.jiff_core.specs.Calendar.{IsCivilDate, days_from_civil, weekday_number}
 use Rattle.jiff_core.specs.declared.civil.date.Date.{Date as Plain}
 
+-- a date as plain data
 pub record DateData : Type 0 where
   pub year : ℤ
   pub month : ℕ
   pub day : ℕ
 
+-- a date of the code as plain data
 abbrev pub date_data : Plain → DateData
 date_data d = record { year = d.year; month = d.month; day = d.day }
 
+-- a date by its year, month and day
 abbrev pub date_of : ℤ → ℕ → ℕ → DateData
 date_of year month day = record { year = year; month = month; day = day }
 

@@ -19,6 +19,7 @@ pub record MonthlyData : Type 0 where
   pub surrounding : Option Style
   pub default_style : Style
 
+-- a month of the code as plain data
 abbrev pub monthly_data : {DS : Type 0} → Monthly DS → MonthlyData
 monthly_data m = record {
   block = option_map block_data m.block;
@@ -42,14 +43,17 @@ rows_of (Some _) = 1
 abbrev pub monthly_width : MonthlyData → ℕ
 monthly_width m = min (beside 21 (option_map columns_around m.block)) 65535
 
+-- likewise the rows
 abbrev pub monthly_height : MonthlyData → ℕ
 monthly_height m = min (beside (weeks_of m.date + (rows_of m.month_header + rows_of m.weekdays_header)) (option_map rows_around m.block)) 65535
 
+-- the names of the months, January first
 abbrev pub month_names : List (List ℕ)
 month_names =
     codes "January" ∷ codes "February" ∷ codes "March" ∷ codes "April" ∷ codes "May" ∷ codes "June" ∷ codes "July" ∷ codes "August"
     ∷ codes "September" ∷ codes "October" ∷ codes "November" ∷ codes "December" ∷ []
 
+-- the name of month 1 to 12
 abbrev pub month_name : ℕ → List ℕ
 month_name month = get_or month_names (month - 1) []
 
@@ -57,6 +61,7 @@ month_name month = get_or month_names (month - 1) []
 unfoldable pub heading_text : DateData → List ℕ
 heading_text d = month_name d.month ++ (codes " " ++ signed_decimal d.year)
 
+-- the days of the week, a blank before each
 abbrev pub weekdays_text : List ℕ
 weekdays_text = codes " Su Mo Tu We Th Fr Sa"
 
@@ -69,6 +74,7 @@ pub record SlotData : Type 0 where
   pub text : List ℕ
   pub style : Style
 
+-- what a place of the code shows, as plain data
 abbrev pub slot_data : Slot → SlotData
 slot_data s = record { text = s.text.bytes; style = s.style }
 
@@ -76,6 +82,7 @@ slot_data s = record { text = s.text.bytes; style = s.style }
 abbrev pub background : Style → Style
 background s = record no_style { bg = s.bg }
 
+-- a place without a date
 abbrev pub blanks : MonthlyData → SlotData
 blanks m = record { text = codes "  "; style = background m.default_style }
 

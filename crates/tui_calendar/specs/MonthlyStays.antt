@@ -1,4 +1,4 @@
--- The strokes of a month stay inside its block.
+-- A law that the drawing of a month carries: its strokes stay inside its block.
 use Rattle.std.specs.Prelude.{ℕ, zero, suc, ◌+◌, min, Option, None, Some, [], ◌∷◌}
 use Rattle.tui_cells.specs.declared.rect.Rect.{Rect}
 use Rattle.tui_cells.specs.declared.style.Style.{Style}
@@ -48,6 +48,7 @@ unfolding weekdays_layers
 weekdays_stay inner rest None = StayIn-none
 weekdays_stay inner rest (Some style) = set_stays inner _ _ _
 
+-- a month changes cells inside its block alone
 pub monthly_stays : (style_of : DateData → Style) (m : MonthlyData) (inner : Rect) → StayIn (covers inner) (monthly_layers style_of m inner)
 monthly_stays style_of m inner =
     StayIn-append (month_stays m inner m.month_header)

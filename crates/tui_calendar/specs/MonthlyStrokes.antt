@@ -13,6 +13,7 @@ use Rattle.tui_text.specs.declared.alignment.Alignment.TheVariants.{Center}
 use Rattle.tui_calendar.specs.Month.{DateData, place_of, weeks_of}
 use Rattle.tui_calendar.specs.Monthly.{MonthlyData, SlotData, gap_style, heading_text, slot_of, weekdays_text}
 
+-- a position by its column and row
 abbrev pub place_at : ℕ → ℕ → Position
 place_at x y = record { x = x; y = y }
 

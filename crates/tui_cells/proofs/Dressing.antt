@@ -1,12 +1,11 @@
 -- Styles that set nothing.
-use Rattle.std.proofs.Common.{◌≡◌, ℕ, Bool, true, false, List, [], ◌∷◌, Option, Some, None, option_map, if◌then◌else◌, refl, ◌∙◌, ap, sym}
+use Rattle.std.proofs.Common.{◌≡◌, ℕ, Bool, true, false, Option, Some, None, option_map, if◌then◌else◌, refl, ◌∙◌, ap, sym}
 use Rattle.std.specs.Int.Bits.{bit_or, or_zero_r, xor_zero_r}
 use Rattle.tui_cells.specs.declared.style.Style.{Style}
 use Rattle.tui_cells.specs.Buffer.{Screen, cell_at}
-use Rattle.tui_cells.specs.Cell.{Look, dress, dressed, edited, put}
-use Rattle.tui_cells.specs.Layers.{Painted, over, stroke}
+use Rattle.tui_cells.specs.Cell.{Look, dress, dressed}
+use Rattle.tui_cells.specs.Layers.{Painted, stroke}
 use Rattle.tui_cells.specs.Style.{no_style}
-use Rattle.tui_cells.proofs.Painting.{Painted-same}
 
 -- a style that sets nothing leaves a cell as it is
 undressed : (s : Style) (c : Look) → s ≡ no_style → dressed s c ≡ c
@@ -21,12 +20,3 @@ nothing_set R s b e = record { area = refl; cells = λ x y. same_cell (R x y) (c
     same_cell r None = refl
     same_cell true (Some c) = ap Some (sym (undressed s c e))
     same_cell false (Some c) = refl
-
--- a symbol put with it is the symbol alone
-pub put_alone : (R : ℕ → ℕ → Bool) (text : List ℕ) (a b : Screen) → Painted (over R (put text ∷ dress no_style ∷ [])) a b → Painted (stroke R (put text)) a b
-put_alone R text a b p = Painted-same (λ x y c. same_cell (R x y) c) p
-  where
-    same_cell : (r : Bool) (c : Look) →
-        (if r then dressed no_style (if r then edited (put text) c else c) else (if r then edited (put text) c else c)) ≡ (if r then edited (put text) c else c)
-    same_cell true c = undressed no_style (edited (put text) c) refl
-    same_cell false c = refl

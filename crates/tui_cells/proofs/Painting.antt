@@ -6,30 +6,11 @@ use Rattle.tui_cells.specs.Rect.{covers, is_empty}
 use Rattle.tui_cells.specs.Layers.{StayIn}
 use Rattle.tui_cells.specs.Cell.{Look, Edit, edited}
 use Rattle.tui_cells.specs.Buffer.{Screen, cell_at, look_at}
-use Rattle.tui_cells.specs.Layers.{Painted, KeptOutside, SameCells, Layer, stroke, layers_at, over, edits}
+use Rattle.tui_cells.specs.Layers.{Painted, KeptOutside, SameCells, Layer, layers_at, over, edits}
 
 -- at one place, the third region is the first two together, which do not meet
 abbrev pub Joins : (r s t : Bool) → Type 0
 Joins r s t = ((r && s) ≡ false) × (t ≡ (r || s))
-
--- two strokes of one change over one cell, not both there
-join_at : (e : Edit) (r s t : Bool) (o : Option Look) → Joins r s t →
-    option_map (λ c. if s then edited e c else c) (option_map (λ c. if r then edited e c else c) o)
-    ≡ option_map (λ c. if t then edited e c else c) o
-join_at e r s t None j = refl
-join_at e true true t (Some c) j = cc
-join_at e true false t (Some c) j = rw j.1 refl
-join_at e false true t (Some c) j = rw j.1 refl
-join_at e false false t (Some c) j = rw j.1 refl
-
--- two strokes of one change over regions that do not meet are one
-pub Painted-join : (R S T : ℕ → ℕ → Bool) (e : Edit) (a b c : Screen) →
-    Painted (stroke R e) a b → Painted (stroke S e) b c →
-    ((x y : ℕ) → Joins (R x y) (S x y) (T x y)) → Painted (stroke T e) a c
-Painted-join R S T e a b c p q j = record {
-  area = q.area ∙ p.area;
-  cells = λ x y. q.cells x y ∙ (ap (option_map (layers_at (stroke S e) x y)) (p.cells x y) ∙ join_at e (R x y) (S x y) (T x y) (cell_at a x y) (j x y));
-}
 
 -- the layers of two lists in turn
 pub layers_at-append : (ls ms : List Layer) (x y : ℕ) (c : Look) → layers_at (ls ++ ms) x y c ≡ layers_at ms x y (layers_at ls x y c)

@@ -20,6 +20,7 @@ use Rattle.tui_demo.specs.Text.{demo_text, letter}
 abbrev pub item_lines : ℕ → ℕ
 item_lines i = 1 + i % 3
 
+-- item i: its letter in each of its lines
 abbrev pub demo_item : ℕ → ListItemData
 demo_item i = record { content = record empty_text { lines = repeat (item_lines i) (raw_line (letter i ∷ []) ∷ []) }; style = no_style }
 
@@ -27,6 +28,7 @@ demo_item i = record { content = record empty_text { lines = repeat (item_lines 
 abbrev pub demo_items : ℕ → List ListItemData
 demo_items n = map demo_item (range_with_len 0 n)
 
+-- the heights of n items
 abbrev pub demo_heights : ℕ → List ℕ
 demo_heights n = map item_lines (range_with_len 0 n)
 
@@ -34,6 +36,7 @@ demo_heights n = map item_lines (range_with_len 0 n)
 abbrev pub demo_list : ℕ → ListData
 demo_list n = record (list_of (demo_items n)) { padding = 1 }
 
+-- the item in the middle is selected
 abbrev pub demo_state : ℕ → ListState
 demo_state n = record { offset = 0; selected = Some (n / 2) }
 

@@ -10,6 +10,7 @@ letter i = 97 + i % 26
 abbrev pub times : ℕ → ℕ → ℕ
 times n i = 1 + (7 * i + n) % 9
 
+-- word i of n: its letter, so many times
 abbrev pub word : ℕ → ℕ → List ℕ
 word n i = repeat (times n i) (letter i ∷ [])
 

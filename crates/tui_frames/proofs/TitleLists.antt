@@ -32,13 +32,6 @@ one_there b p t e = one_if (is_in b p t) t e
     one_if true t e = refl
     one_if false t e = cc
 
-pub none_there : (b : BlockData) (p : Place) (t : TitleData) → is_in b p t ≡ false → titles_in b p (t ∷ []) ≡ []
-none_there b p t e = none_if (is_in b p t) t e
-  where
-    none_if : (here : Bool) (t : TitleData) → here ≡ false → map (λ (u : TitleData). u.line) (cond here (t ∷ []) []) ≡ []
-    none_if true t e = cc
-    none_if false t e = refl
-
 -- those from one on are that one, if it stands there, and the others
 pub titles_in-from : (b : BlockData) (p : Place) (xs : List Title) (i : ℕ) (x d : Title) → i < length xs → x ≡ get_or xs i d →
     titles_in b p (map title_data (drop i xs)) ≡ titles_in b p (title_data x ∷ []) ++ titles_in b p (map title_data (drop (i + 1) xs))

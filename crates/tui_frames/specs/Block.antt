@@ -23,6 +23,7 @@ pub record TitleData : Type 0 where
   pub line : LineData
   pub position : Option TitlePosition
 
+-- a block as plain data
 pub record BlockData : Type 0 where
   pub titles : List TitleData
   pub title_style : Style
@@ -36,9 +37,11 @@ pub record BlockData : Type 0 where
   pub strategy : MergeStrategy
   pub shadow : Option ShadowData
 
+-- a title of the code as plain data
 abbrev pub title_data : Title → TitleData
 title_data t = record { line = line_data t.line; position = t.position }
 
+-- a block of the code as plain data
 abbrev pub block_data : Block → BlockData
 block_data b = record {
   titles = map title_data b.titles.items;

@@ -16,6 +16,7 @@ bottom = 4
 abbrev pub left : ℕ
 left = 8
 
+-- a set by its bits
 abbrev pub borders_of : ℕ → Borders
 borders_of bits = record { bits = bits }
 
@@ -32,15 +33,16 @@ abbrev named : Bool → String → List (List ℕ)
 named is_set name = if is_set then codes name ∷ [] else []
 
 -- names with a bar between two
-abbrev joined : List (List ℕ) → List ℕ
-joined [] = []
-joined (name ∷ []) = name
-joined (name ∷ next ∷ names) = name ++ (codes " | " ++ joined (next ∷ names))
+abbrev joined_names : List (List ℕ) → List ℕ
+joined_names [] = []
+joined_names (name ∷ []) = name
+joined_names (name ∷ next ∷ names) = name ++ (codes " | " ++ joined_names (next ∷ names))
 
+-- the names of the sides that are set, as they are written
 abbrev pub sides_text : (top right bottom left : Bool) → List ℕ
 sides_text false false false false = codes "NONE"
 sides_text true true true true = codes "ALL"
-sides_text t r b l = joined (named t "TOP" ++ named r "RIGHT" ++ named b "BOTTOM" ++ named l "LEFT")
+sides_text t r b l = joined_names (named t "TOP" ++ named r "RIGHT" ++ named b "BOTTOM" ++ named l "LEFT")
 
 -- a set as it is written
 abbrev pub debug_text : Borders → List ℕ

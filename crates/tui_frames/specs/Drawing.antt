@@ -24,6 +24,7 @@ shadow_drawing s = record {
   nowhere = shadow_nowhere s;
 }
 
+-- what a block is to those who place it
 abbrev pub block_drawing : BlockData → Drawing
 block_drawing b = record {
   layers = block_layers b;

@@ -10,6 +10,7 @@ abbrev pub footprint_of : Option ShadowData → Rect → ℕ → ℕ → Bool
 footprint_of None clip = covers clip
 footprint_of (Some s) clip = shadow_footprint s clip
 
+-- the positions that a block may change
 abbrev pub block_footprint : BlockData → Rect → ℕ → ℕ → Bool
 block_footprint b = footprint_of b.shadow
 

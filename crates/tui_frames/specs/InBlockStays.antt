@@ -1,4 +1,4 @@
--- The strokes of a widget with a block stay in its footprint.
+-- Laws that the drawing of a widget with a block carries: its strokes stay in its footprint.
 use Rattle.std.specs.Prelude.{◌≡◌, ℕ, true, false, Option, None, Some, List}
 use Rattle.std.proofs.Common.{arith}
 use Rattle.std.proofs.lemmas.Bool.Decides.{nat_tests}
@@ -42,9 +42,11 @@ pub block_stays_if : (o : Option BlockData) (clip : Rect) → StayIn (footprint_
 block_stays_if None clip = StayIn-none
 block_stays_if (Some b) clip = block_stays b clip
 
+-- strokes in the clip of a widget stay in its footprint
 pub clip_stays : (o : Option BlockData) (clip : Rect) {ls : List Layer} → StayIn (covers clip) ls → StayIn (footprint_if o clip) ls
 clip_stays o clip s = StayIn-wider (λ x y out. clip_out o clip x y out) s
 
+-- so do strokes in the area inside its block
 pub inner_stays : (o : Option BlockData) (clip : Rect) {ls : List Layer} → StayIn (covers (inner_of o clip)) ls → StayIn (footprint_if o clip) ls
 inner_stays o clip s = StayIn-wider (λ x y out. inner_out o clip x y (clip_out o clip x y out)) s
 

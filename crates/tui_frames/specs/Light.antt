@@ -25,6 +25,7 @@ pub record AreLightBorders (b : BlockData) : Type 0 where
 abbrev pub AreLightTitles : List TitleData → Type 0
 AreLightTitles titles = All (λ t. AreLight t.line.spans) titles
 
+-- no shadow, or one that takes no memory
 abbrev pub IsLightShadow : Option ShadowData → Type 0
 IsLightShadow None = ⊤
 IsLightShadow (Some s) = IsLightKind s.kind
@@ -34,6 +35,7 @@ pub record IsLightFrame (b : BlockData) : Type 0 where
   pub borders : AreLightBorders b
   pub titles : AreLightTitles b.titles
 
+-- a block that takes no memory
 pub record IsLightBlock (b : BlockData) : Type 0 where
   pub frame : IsLightFrame b
   pub shadow : IsLightShadow b.shadow

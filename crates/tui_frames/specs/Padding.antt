@@ -2,8 +2,10 @@
 use Rattle.std.specs.Prelude.{ℕ}
 use Rattle.tui_frames.specs.declared.padding.Padding.{Padding}
 
+-- the rows and columns around what is inside
 abbrev pub padding : (left right top bottom : ℕ) → Padding
 padding left right top bottom = record { left = left; right = right; top = top; bottom = bottom }
 
+-- none on any side
 abbrev pub no_padding : Padding
 no_padding = padding 0 0 0 0

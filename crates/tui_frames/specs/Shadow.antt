@@ -17,16 +17,19 @@ pub data KindData : Type 0 where
   symbol : List ℕ → KindData
   dimmed : KindData
 
+-- a shadow as plain data: its kind, its style, and how far it is moved
 pub record ShadowData : Type 0 where
   pub kind : KindData
   pub style : Style
   pub offset : Offset
 
+-- a kind of the code as plain data
 abbrev pub kind_data : ShadowKind → KindData
 kind_data kinds.Overlay = overlay
 kind_data (kinds.Symbol text) = symbol text.now
 kind_data kinds.Dimmed = dimmed
 
+-- a shadow of the code as plain data
 abbrev pub shadow_data : Shadow → ShadowData
 shadow_data s = record { kind = kind_data s.kind; style = s.style; offset = s.offset }
 

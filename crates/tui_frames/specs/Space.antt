@@ -42,6 +42,7 @@ inner b area = record {
 abbrev pub rows_around : BlockData → ℕ
 rows_around b = min (b.padding.top + top_edge b) 65535 + min (b.padding.bottom + bottom_edge b) 65535
 
+-- likewise for columns
 abbrev pub columns_around : BlockData → ℕ
 columns_around b = min (b.padding.left + left_edge b) 65535 + min (b.padding.right + right_edge b) 65535
 

@@ -1,4 +1,4 @@
--- The strokes of blocks and shadows stay in their footprints.
+-- Laws that drawings carry: the strokes of blocks and shadows stay in their footprints.
 use Rattle.std.specs.Prelude.{◌≡◌, ℕ, ◌+◌, ◌-◌, ◌/◌, min, Bool, true, false, List, [], ◌∷◌, ◌++◌, Option, Some, None, nat_le, if◌then◌else◌}
 use Rattle.tui_cells.specs.declared.rect.Rect.{Rect}
 use Rattle.tui_cells.specs.Cell.{dress, merge}
@@ -105,9 +105,11 @@ stays_by b None c = StayIn-append (frame_stays b c) StayIn-none
 stays_by b (Some s) c =
     StayIn-append (StayIn-wider (λ x y out. first_out (covers (shadow_area s c) x y) (covers c x y) out) (frame_stays b c)) (shadow_stays s c)
 
+-- a block changes cells of its footprint alone
 pub block_stays : (b : BlockData) (c : Rect) → StayIn (block_footprint b c) (block_layers b c)
 block_stays b c = stays_by b b.shadow c
 
+-- over an empty clip nothing has a footprint
 pub footprint_nowhere : (s : Option ShadowData) (c : Rect) → is_empty c ≡ true → (x y : ℕ) → footprint_of s c x y ≡ false
 footprint_nowhere None c e x y = covers_nowhere c e x y
 footprint_nowhere (Some s) c e x y = shadow_nowhere s c e x y

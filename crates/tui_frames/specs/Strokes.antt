@@ -28,6 +28,7 @@ last_column c = right_of c - 1
 abbrev pub last_row : Rect → ℕ
 last_row c = bottom_of c - 1
 
+-- whether a strategy joins symbols
 abbrev pub joins : MergeStrategy → Bool
 joins Replace = false
 joins Exact = true
@@ -56,6 +57,7 @@ abbrev pub border_layers : BlockData → Rect → Bool → Rect → List ℕ →
 border_layers b c is_set part symbol =
     if is_set then over (covers (intersection_of c part)) (merge b.strategy symbol ∷ dress b.border_style ∷ []) else []
 
+-- the sides: left, top, right, bottom
 unfoldable pub sides_layers : BlockData → Rect → List Layer
 sides_layers b c =
     border_layers b c (has b.borders left) (column_side b c c.x) b.symbols.vertical_left
@@ -67,6 +69,7 @@ sides_layers b c =
 abbrev pub corner_layers : BlockData → Rect → ℕ → ℕ → ℕ → ℕ → List ℕ → List Layer
 corner_layers b c side other x y symbol = border_layers b c (has b.borders side && has b.borders other) (cells_at x y 1) symbol
 
+-- the corners: first those at the bottom, and of each two the right one first
 unfoldable pub corners_layers : BlockData → Rect → List Layer
 corners_layers b c =
     corner_layers b c bottom right (last_column c) (last_row c) b.symbols.bottom_right
@@ -81,6 +84,7 @@ abbrev pub row_at : Rect → TitlePosition → ℕ
 row_at c Top = c.y
 row_at c Bottom = last_row c
 
+-- the part of that row in which titles stand
 abbrev pub strip_of : BlockData → Rect → TitlePosition → Rect
 strip_of b c position = columns_from (row_of c (row_at c position)) (left_edge b) (c.width - (left_edge b + right_edge b))
 
@@ -117,6 +121,7 @@ titles_in_middle b c strip ts =
     if nat_le (total ts) strip.width then titles_from b c strip ((strip.width - total ts) / 2) ts
     else titles_cut b c strip ((total ts - strip.width) / 2) 0 ts
 
+-- a side, and where on it
 abbrev pub place_of : TitlePosition → Alignment → Place
 place_of position alignment = record { position = position; alignment = alignment }
 
@@ -138,5 +143,6 @@ abbrev pub shadow_layers_if : Option ShadowData → Rect → List Layer
 shadow_layers_if None c = []
 shadow_layers_if (Some s) c = shadow_layers s c
 
+-- a block with its shadow
 abbrev pub block_layers : BlockData → Rect → List Layer
 block_layers b c = frame_layers b c ++ shadow_layers_if b.shadow c

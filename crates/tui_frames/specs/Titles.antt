@@ -10,11 +10,13 @@ use Rattle.tui_frames.specs.declared.block.title.Place.{Place}
 use Rattle.tui_frames.specs.declared.title_position.TitlePosition.{TitlePosition}
 use Rattle.tui_frames.specs.declared.title_position.TitlePosition.TheVariants.{Top, Bottom}
 
+-- whether two sides are the same
 abbrev pub same_position : TitlePosition → TitlePosition → Bool
 same_position Top Top = true
 same_position Bottom Bottom = true
 same_position _ _ = false
 
+-- whether two alignments are the same
 abbrev pub same_alignment : Alignment → Alignment → Bool
 same_alignment Left Left = true
 same_alignment Center Center = true

@@ -18,6 +18,7 @@ member_or {A = A} kind name d other = by_member (get name d)
 abbrev of_u16 : (ℕ → Constraint) → Data → Option Constraint
 of_u16 make d = option_map make (u16_of d)
 
+-- an array of two numbers as a ratio
 abbrev pub ratio_of : Data → Option Constraint
 ratio_of d = option_map (λ p. Ratio p.0 p.1) (pair_of u32_of u32_of d)
 

@@ -9,6 +9,7 @@ infixl 10 ◌>>=◌
 abbrev pub ◌>>=◌ : {A B : Type 0} → Option A → (A → Option B) → Option B
 o >>= f = option_and_then f o
 
+-- a value that is not null
 abbrev pub unless_null : Data → Option Data
 unless_null null = None
 unless_null (boolean b) = Some (boolean b)
@@ -17,6 +18,7 @@ unless_null (string s) = Some (string s)
 unless_null (array ds) = Some (array ds)
 unless_null (object ms) = Some (object ms)
 
+-- nothing, or a value of a kind
 abbrev pub if_any : {A : Type 0} → (Data → Option A) → Option Data → Option (Option A)
 if_any kind None = Some None
 if_any kind (Some d) = option_map Some (kind d)
@@ -49,6 +51,7 @@ each_of kind (item d ds) = do
 unfoldable pub list_of : {A : Type 0} → (Data → Option A) → Data → Option (List A)
 list_of kind d = option_and_then (each_of kind) (as_array d)
 
+-- values, if there are at least and at most so many
 abbrev pub if_counted : ℕ → ℕ → Items → Option Items
 if_counted least most ds = if nat_le least (items_len ds) && nat_le (items_len ds) most then Some ds else None
 
@@ -56,6 +59,7 @@ if_counted least most ds = if nat_le least (items_len ds) && nat_le (items_len d
 unfoldable pub elements_within : ℕ → ℕ → Data → Option Items
 elements_within least most d = option_and_then (if_counted least most) (as_array d)
 
+-- two values, each of its kind
 abbrev pub pair_in : {A B : Type 0} → (Data → Option A) → (Data → Option B) → Items → Option (A × B)
 pair_in first second (item a (item b no_items)) = do
   x ← first a

@@ -1,4 +1,4 @@
--- Enums, by the names of their variants.
+-- Enums, by the names of their variants, and the law that these names read as the variants.
 use Rattle.std.specs.Prelude.{◌≡◌, ◌≢◌, ℕ, List, [], ◌∷◌, map, Bool, true, false, Option, Some, None, option_and_then, Result, Ok, Err, refl}
 use Rattle.std.specs.Result.{result_ok}
 use Rattle.std.specs.Str.{bytes_eq}

@@ -14,6 +14,7 @@ use Rattle.tui_layout.specs.declared.highlight_spacing.HighlightSpacing.{Highlig
 use Rattle.tui_layout.specs.declared.highlight_spacing.HighlightSpacing.TheVariants.{Always, WhenSelected, Never}
 use Rattle.tui_json.specs.Named.{Names}
 
+-- each table: the names, all values, and that none is left out
 abbrev pub merge_strategies : Names MergeStrategy
 merge_strategies = record {
   name = strategy.name_of;

@@ -7,6 +7,7 @@ use Rattle.serde_json.specs.Find.{as_i64, as_number, as_u64}
 abbrev pub u64_of : Data → Option ℕ
 u64_of d = option_and_then as_u64 (as_number d)
 
+-- a number below a limit
 abbrev pub below : ℕ → ℕ → Option ℕ
 below limit n = if nat_lt n limit then Some n else None
 
@@ -18,6 +19,7 @@ u16_of d = option_and_then (below 65536) (u64_of d)
 unfoldable pub u32_of : Data → Option ℕ
 u32_of d = option_and_then (below (2 ^ 32)) (u64_of d)
 
+-- a number in a range, both ends in it
 abbrev pub between : ℕ → ℕ → ℕ → Option ℕ
 between low high n = if nat_le low n && nat_le n high then Some n else None
 
@@ -30,6 +32,7 @@ abbrev pub in_signed : ℕ → ℤ → Option ℤ
 in_signed limit (pos n) = if nat_lt n limit then Some (pos n) else None
 in_signed limit (negsuc n) = if nat_lt n limit then Some (negsuc n) else None
 
+-- a whole number from -limit up to limit - 1
 abbrev pub signed_of : ℕ → Data → Option ℤ
 signed_of limit d = option_and_then (in_signed limit) (option_and_then as_i64 (as_number d))
 

@@ -13,6 +13,7 @@ abbrev pub ◌>>=◌ : {A B R : Type 0} → Result A R → (A → Result B R) �
 (Ok x) >>= f = f x
 (Err e) >>= f = Err e
 
+-- the tests refuse what an error refuses
 abbrev pub Refuses : {Y R : Type 0} → Option R → Result Y R → Type 0
 Refuses None tests = Unit {0}
 Refuses (Some refusal) tests = tests ≡ Err refusal
@@ -32,6 +33,7 @@ abbrev pub unless_memory : {R : Type 0} → KindError → R → Option R
 unless_memory kinds.WrongKind refusal = Some refusal
 unless_memory kinds.NoMemory refusal = None
 
+-- a value that is given, or else the refusal
 abbrev pub or_refuse : {A R : Type 0} → R → Option A → Result A R
 or_refuse refusal None = Err refusal
 or_refuse refusal (Some x) = Ok x

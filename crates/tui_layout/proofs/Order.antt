@@ -8,7 +8,7 @@ use Rattle.std.proofs.lemmas.List.Sums.{sum_by-take-le, sum_by_more}
 use Rattle.std.specs.List.{sum_by}
 use Rattle.tui_layout.specs.Constraint.{wanted}
 use Rattle.tui_layout.specs.Sharing.{weight}
-use Rattle.tui_layout.specs.Columns.{AreInOrder, IsBefore, column_at, columns_in, last_share, moved, part, plan_of, share, shift, width_at, widths_of}
+use Rattle.tui_layout.specs.Columns.{AreInOrder, IsBefore, column_at, columns_in, last_share, flex_shift, part, plan_of, share, shift, width_at, widths_of}
 use Rattle.tui_layout.specs.declared.constraint.Constraint.{Constraint}
 use Rattle.tui_layout.specs.declared.constraint.Constraint.TheVariants.{Length}
 use Rattle.tui_layout.specs.declared.flex.Flex.{Flex}
@@ -27,7 +27,7 @@ pub zero_test : (n : ℕ) → ((n == 0) ≡ true) × (n ≡ 0) ⊎ ((n == 0) ≡
 zero_test zero = inl (refl, refl)
 zero_test (suc n) = inr (grind (arith, nat_tests), omega arith)
 
-moves_small : (flex : Flex) (plan : Plan) (i : ℕ) → i < plan.count → last_share flex plan i + moved flex plan i ≤ plan.rest
+moves_small : (flex : Flex) (plan : Plan) (i : ℕ) → i < plan.count → last_share flex plan i + flex_shift flex plan i ≤ plan.rest
 moves_small Legacy plan i h = grind (arith, common_steps)
 moves_small Start plan i h = omega arith
 moves_small End plan i h = omega arith
@@ -43,7 +43,7 @@ between_grows rest i j count le h = elim (cases_lt 1 count) [
   | inr one ↦ grind (arith, common_steps)
 ]
 
-moves_grow : (flex : Flex) (plan : Plan) (i j : ℕ) → i ≤ j → j < plan.count → moved flex plan i ≤ moved flex plan j
+moves_grow : (flex : Flex) (plan : Plan) (i j : ℕ) → i ≤ j → j < plan.count → flex_shift flex plan i ≤ flex_shift flex plan j
 moves_grow Legacy plan i j le h = omega arith
 moves_grow Start plan i j le h = omega arith
 moves_grow End plan i j le h = omega arith

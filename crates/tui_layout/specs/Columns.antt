@@ -51,8 +51,8 @@ plan_of size spacing cs flex =
     }
 
 -- behind the columns `before` a column takes the smaller of what it asks for and what they left
-abbrev pub taken : Plan → List Constraint → Constraint → ℕ
-taken plan before c = min (wanted plan.length c) (plan.space - sum_by (wanted plan.length) before)
+abbrev pub taken_width : Plan → List Constraint → Constraint → ℕ
+taken_width plan before c = min (wanted plan.length c) (plan.space - sum_by (wanted plan.length) before)
 
 -- how much of the rest columns get that weigh so much together
 abbrev pub part : Plan → ℕ → ℕ
@@ -68,22 +68,24 @@ unfoldable pub share : Plan → ℕ → ℕ → ℕ → ℕ
 share plan i before w = if plan.weights == 0 then last_share plan.flex plan i else part plan (before + w) - part plan before
 
 -- how far a flex moves column i, where nobody shares the rest
-abbrev pub moved : Flex → Plan → ℕ → ℕ
-moved Legacy plan i = 0
-moved Start plan i = 0
-moved End plan i = plan.rest
-moved Center plan i = plan.rest / 2
-moved SpaceBetween plan i = if plan.count == 1 then 0 else plan.rest * i / (plan.count - 1)
-moved SpaceEvenly plan i = plan.rest * (i + 1) / (plan.count + 1)
-moved SpaceAround plan i = plan.rest * (2 * i + 1) / (2 * plan.count)
+abbrev pub flex_shift : Flex → Plan → ℕ → ℕ
+flex_shift Legacy plan i = 0
+flex_shift Start plan i = 0
+flex_shift End plan i = plan.rest
+flex_shift Center plan i = plan.rest / 2
+flex_shift SpaceBetween plan i = if plan.count == 1 then 0 else plan.rest * i / (plan.count - 1)
+flex_shift SpaceEvenly plan i = plan.rest * (i + 1) / (plan.count + 1)
+flex_shift SpaceAround plan i = plan.rest * (2 * i + 1) / (2 * plan.count)
 
+-- how far column i is moved
 unfoldable pub shift : Plan → ℕ → ℕ
-shift plan i = if plan.weights == 0 then moved plan.flex plan i else 0
+shift plan i = if plan.weights == 0 then flex_shift plan.flex plan i else 0
 
 -- column i is as wide as what it takes and its share of the rest
 abbrev pub width_at : Plan → List Constraint → ℕ → Constraint → ℕ
-width_at plan cs i c = taken plan (take i cs) c + share plan i (sum_by (weight plan.sharing) (take i cs)) (weight plan.sharing c)
+width_at plan cs i c = taken_width plan (take i cs) c + share plan i (sum_by (weight plan.sharing) (take i cs)) (weight plan.sharing c)
 
+-- the widths of all columns
 abbrev pub widths_of : Plan → List Constraint → List ℕ
 widths_of plan cs = map (λ (i, c). width_at plan cs i c) (enumerate_from 0 cs)
 
@@ -94,9 +96,11 @@ column_at plan cs i c = record {
   width = min (width_at plan cs i c) plan.length;
 }
 
+-- all columns, in order
 abbrev pub columns_in : Plan → List Constraint → List Segment
 columns_in plan cs = map (λ (i, c). column_at plan cs i c) (enumerate_from 0 cs)
 
+-- the columns of a length: its size, the spacing between two, their constraints and the flex
 unfoldable pub columns_of : ℕ → ℕ → List Constraint → Flex → List Segment
 columns_of size spacing cs flex = columns_in (plan_of size spacing cs flex) cs
 

@@ -24,6 +24,7 @@ pub record IsMost (heights : List ℕ) (reach : Reach) (height least most m : �
   pub fits : sum_at heights reach m ≤ height
   pub greatest : (q : ℕ) → least ≤ q → q ≤ most → sum_at heights reach q ≤ height → q ≤ m
 
+-- the lowest offset that serves
 pub record IsLowest (heights : List ℕ) (height s p lowest : ℕ) : Type 0 where
   pub serves : Serves heights height s p lowest
   pub least : (offset : ℕ) → Serves heights height s p offset → lowest ≤ offset

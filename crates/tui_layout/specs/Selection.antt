@@ -19,5 +19,6 @@ previous_of (Some place) = place - 1
 abbrev pub forward_by : Option ℕ → ℕ → ℕ
 forward_by selected amount = min (unwrap_or selected 0 + amount) greatest
 
+-- likewise back, at least to the first one
 abbrev pub back_by : Option ℕ → ℕ → ℕ
 back_by selected amount = unwrap_or selected 0 - amount

@@ -23,6 +23,7 @@ pub record Serves (heights : List ℕ) (height s p offset : ℕ) : Type 0 where
   pub before : offset ≤ s - p
   pub fits : total heights offset (end_around heights s p) ≤ height
 
+-- how far two places lie apart
 abbrev pub distance : ℕ → ℕ → ℕ
 distance a b = (a - b) + (b - a)
 
@@ -52,6 +53,7 @@ pub record IsEnd (heights : List ℕ) (height first last : ℕ) : Type 0 where
   pub fits : total heights first last ≤ height
   pub greatest : (m : ℕ) → m ≤ length heights → total heights first m ≤ height → m ≤ last
 
+-- the items that are shown: the first one, and the place after the last
 pub record IsWindow (heights : List ℕ) (height offset : ℕ) (selected : Option ℕ) (asked : ℕ) (w : Window) : Type 0 where
   pub begins : IsFirst heights height offset selected asked w.first
   pub ends : IsEnd heights height w.first w.end

@@ -27,4 +27,4 @@ pub use laws::window_laws;
 pub use segment::Segment;
 pub use steps::Steps;
 pub use sums::Sums;
-pub use window::{Window, scroll_window, uncounted_window};
+pub use window::{Window, scroll_window, window_of};

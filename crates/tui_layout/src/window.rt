@@ -50,8 +50,8 @@ pub fn scroll_window<L: Ledger>(
     }
 }
 
-/// `scroll_window` for callers that count no steps.
-pub fn uncounted_window(
+/// The window of a list with these item heights over `height` rows, found as by `scroll_window`, whose steps are not counted.
+pub fn window_of(
     sums: &Sums,
     height: u64,
     offset: usize,

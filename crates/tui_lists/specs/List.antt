@@ -20,6 +20,7 @@ use Rattle.tui_lists.specs.declared.list.List as widget
 use Rattle.tui_lists.specs.declared.list.state.ListState.{ListState}
 use Rattle.tui_text.specs.Line.{LineData, line_data}
 
+-- a list as plain data
 pub record ListData : Type 0 where
   pub block : Option BlockData
   pub items : List ListItemData
@@ -31,6 +32,7 @@ pub record ListData : Type 0 where
   pub direction : ListDirection
   pub padding : ℕ
 
+-- a list of the code as plain data
 abbrev pub list_data : widget.List → ListData
 list_data l = record {
   block = option_map block_data l.block;
@@ -62,6 +64,7 @@ list_of items = record {
 abbrev pub list_window : ListData → ℕ → ListState → Window
 list_window l room s = window_of (heights_of l.items) room s.offset s.selected l.padding
 
+-- the state after a drawing in so many rows
 abbrev pub list_moved : ListData → ℕ → ListState → ListState
 list_moved l room s = record { offset = (list_window l room s).first; selected = cut_selection (heights_of l.items) s.selected }
 

@@ -21,6 +21,7 @@ abbrev pub IsLightSymbol : Option LineData → Type 0
 IsLightSymbol None = ⊤
 IsLightSymbol (Some symbol) = AreLight symbol.spans
 
+-- an item that takes no memory
 abbrev pub IsLightItem : ListItemData → Type 0
 IsLightItem item = All (λ line. AreLight line.spans) item.content.lines
 

@@ -1,4 +1,4 @@
--- The state that a drawing of a list leaves stays in the next one.
+-- Laws that the drawing of a list carries: the state that it leaves stays in the next one.
 use Rattle.std.specs.Prelude.{◌≡◌, ℕ, ◌==◌, Bool, true, false, length, Option, if◌then◌else◌}
 use Rattle.std.proofs.Common.{refl, ap, ◌∙◌}
 use Rattle.tui_cells.specs.declared.rect.Rect.{Rect}
@@ -34,10 +34,12 @@ settled : (l : ListData) (inner : Rect) (s : ListState) (empty : Bool) →
 settled l inner s true = refl
 settled l inner s false = shown_again l inner.height s (length l.items == 0)
 
+-- the state that a drawing leaves stays in the next one
 pub list_settles : (l : ListData) (s : ListState) (inner : Rect) → list_after l inner (list_after l inner s) ≡ list_after l inner s
 unfolding list_after
 list_settles l s inner = settled l inner s (is_empty inner)
 
+-- over an empty area the state rests
 pub list_rests : (l : ListData) (s : ListState) (inner : Rect) → is_empty inner ≡ true → list_after l inner s ≡ s
 unfolding list_after
 list_rests l s inner e = rw e refl

@@ -9,9 +9,11 @@ use Rattle.tui_lists.specs.contracts.list.state.ListState.{the_row}
 abbrev pub at_rest : ListState
 at_rest = record { offset = 0; selected = None }
 
+-- the state with another offset
 abbrev pub with_offset : ListState → ℕ → ListState
 with_offset s offset = record s { offset = offset }
 
+-- the state with another selection
 abbrev pub with_selected : ListState → Option ℕ → ListState
 with_selected s selected = record s { selected = selected }
 
@@ -19,5 +21,6 @@ with_selected s selected = record s { selected = selected }
 abbrev pub LendsOffset : MutBor ListState → MutBor ℕ → Fml
 LendsOffset s r = Lends the_row usize s r (with_offset s.now)
 
+-- what is written through the reference becomes the selection
 abbrev pub LendsSelected : MutBor ListState → MutBor (Option ℕ) → Fml
 LendsSelected s r = Lends the_row (OptionOf usize) s r (with_selected s.now)

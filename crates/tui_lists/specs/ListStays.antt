@@ -1,4 +1,4 @@
--- The strokes of a list stay in its footprint.
+-- Laws that the drawing of a list carries: its strokes stay in its footprint.
 use Rattle.std.specs.Prelude.{
   ℕ,
   zero,
@@ -48,6 +48,7 @@ use Rattle.tui_text.proofs.RowStays.{row_stays, text_stays}
 pub in_rows : (area : Rect) (from count : ℕ) {ls : List Layer} → StayIn (covers (rows_from area from count)) ls → StayIn (covers area) ls
 in_rows area from count s = StayIn-wider (λ x y out. rows_out area from count x y out) s
 
+-- likewise for columns
 pub in_columns : (area : Rect) (from count : ℕ) {ls : List Layer} → StayIn (covers (columns_from area from count)) ls → StayIn (covers area) ls
 in_columns area from count s = StayIn-wider (λ x y out. columns_out area from count x y out) s
 
@@ -59,6 +60,7 @@ mark_stays : (l : ListData) (is_marked : Bool) (row : Rect) → StayIn (covers r
 mark_stays l true row = symbol_stays l.symbol row
 mark_stays l false row = StayIn-over (covers row) (put space ∷ dress no_style ∷ [])
 
+-- the symbols beside an item stay in their columns
 pub gutter_stays : (l : ListData) (is_selected : Bool) (gutter : Rect) (j n : ℕ) → StayIn (covers gutter) (gutter_layers l is_selected gutter j n)
 unfolding gutter_layers
 gutter_stays l is_selected gutter j zero = StayIn-none
@@ -66,6 +68,7 @@ gutter_stays l is_selected gutter j (suc n) =
     StayIn-append (in_rows gutter j 1 (mark_stays l (is_selected && ((j == 0) || l.repeats)) (rows_from gutter j 1)))
     (gutter_stays l is_selected gutter (j + 1) n)
 
+-- an item stays in its rows
 pub item_stays : (l : ListData) (g : ℕ) (rows : Rect) (is_selected : Bool) (item : ListItemData) → StayIn (covers rows) (item_layers l g rows is_selected item)
 unfolding item_layers
 item_stays l g rows is_selected item =
@@ -93,10 +96,12 @@ part_stays l inner s false =
     let w = list_window l inner.height s in
     items_stay l inner (cut_selection (heights_of l.items) s.selected) w.first 0 (max (w.end - w.first) 1) (drop w.first l.items)
 
+-- what stands inside the block stays there
 pub content_stays : (l : ListData) (inner : Rect) (s : ListState) → StayIn (covers inner) (content_layers l inner s)
 unfolding content_layers
 content_stays l inner s = part_stays l inner s (length l.items == 0)
 
+-- a list changes cells of its footprint alone
 pub list_stays : (l : ListData) (s : ListState) (clip : Rect) → StayIn (footprint_if l.block clip) (list_layers l s clip)
 list_stays l s clip =
     StayIn-append (clip_stays l.block clip (dress_stays clip l.style))

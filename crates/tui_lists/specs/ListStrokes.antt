@@ -62,6 +62,7 @@ abbrev pub symbol_layers : Option LineData → Rect → List Layer
 symbol_layers None row = []
 symbol_layers (Some symbol) row = row_layers row (unwrap_or symbol.alignment Left) symbol
 
+-- the symbol in a row that is marked, blanks in any other
 abbrev pub mark_layers : ListData → Bool → Rect → List Layer
 mark_layers l is_marked row = if is_marked then symbol_layers l.symbol row else blank_layers row
 

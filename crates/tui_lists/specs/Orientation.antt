@@ -13,6 +13,7 @@ name_of VerticalLeft = codes "VerticalLeft"
 name_of HorizontalBottom = codes "HorizontalBottom"
 name_of HorizontalTop = codes "HorizontalTop"
 
+-- whether the bar stands upright
 abbrev pub is_vertical : ScrollbarOrientation → Bool
 is_vertical VerticalRight = true
 is_vertical VerticalLeft = true

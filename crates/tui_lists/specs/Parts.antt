@@ -15,6 +15,7 @@ abbrev pub start_of : ℕ → ℕ → ℕ → ℕ → ℕ
 start_of track viewport content position =
     min (rounded (min position (content - 1) * track) (content - 1 + viewport)) (track - thumb_of track viewport content)
 
+-- the track's parts: where the thumb starts, how long it is, and what is left behind it
 unfoldable pub parts_of : ℕ → ℕ → ℕ → ℕ → Parts
 parts_of track viewport content position = record {
   start = start_of track viewport content position;
@@ -36,5 +37,6 @@ pub record ThumbFollows (track size viewport content : ℕ) : Type 0 where
       (parts_of track (viewport_in size viewport) content position).start ≤ (parts_of track (viewport_in size viewport) content later).start
   pub last : (position : ℕ) → content ≤ position + 1 → let p = parts_of track (viewport_in size viewport) content position in p.start + p.thumb ≡ track
 
+-- the laws of the thumb, for each track
 abbrev pub ThumbLaws : Type 0
 ThumbLaws = (track size viewport content : ℕ) → 0 < track → track ≤ size → 0 < content → ThumbFollows track size viewport content

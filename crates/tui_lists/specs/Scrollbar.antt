@@ -8,6 +8,7 @@ use Rattle.tui_lists.specs.Orientation as sides
 use Rattle.tui_lists.specs.declared.scrollbar.Scrollbar.{Scrollbar}
 use Rattle.tui_lists.specs.declared.scrollbar.orientation.ScrollbarOrientation.{ScrollbarOrientation}
 
+-- a scrollbar as plain data
 pub record ScrollbarData : Type 0 where
   pub orientation : ScrollbarOrientation
   pub thumb : List ℕ
@@ -19,6 +20,7 @@ pub record ScrollbarData : Type 0 where
   pub end : Option (List ℕ)
   pub end_style : Style
 
+-- a scrollbar of the code as plain data
 abbrev pub scrollbar_data : Scrollbar → ScrollbarData
 scrollbar_data s = record {
   orientation = s.orientation;

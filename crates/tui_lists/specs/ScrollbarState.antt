@@ -5,6 +5,7 @@ use Rattle.tui_lists.specs.declared.scrollbar.direction.ScrollDirection.TheVaria
 use Rattle.tui_lists.specs.declared.scrollbar.state.ScrollbarState.{ScrollbarState}
 use Rattle.tui_text.specs.Width.{saturated}
 
+-- one place on or back, within the content
 abbrev pub scrolled : ScrollDirection → ScrollbarState → ScrollbarState
 scrolled Forward s = record s { position = min (saturated (s.position + 1)) (s.content_length - 1) }
 scrolled Backward s = record s { position = s.position - 1 }

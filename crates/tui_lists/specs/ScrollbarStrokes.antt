@@ -1,4 +1,4 @@
--- The strokes of a scrollbar.
+-- The strokes of a scrollbar; at the end the law that they stay in its clip.
 use Rattle.std.specs.Prelude.{⊤, ◌≡◌, All, ℕ, zero, suc, ◌+◌, ◌-◌, ◌==◌, ◌||◌, Bool, true, false, List, [], ◌++◌, Option, None, Some, if◌then◌else◌}
 use Rattle.std.proofs.Common.{refl}
 use Rattle.tui_cells.specs.declared.position.Position.{Position}
@@ -27,6 +27,7 @@ abbrev pub symbol_width : Option (List ℕ) → ℕ
 symbol_width None = 0
 symbol_width (Some text) = width_of text
 
+-- 1 for a symbol that is there, 0 for none
 abbrev pub places : Option (List ℕ) → ℕ
 places None = 0
 places (Some _) = 1
@@ -59,6 +60,7 @@ bar_layers s c p =
     ++ (run_layers s.orientation c s.track s.track_style rest p.end
     ++ run_layers s.orientation c s.end s.end_style end (places s.end))))
 
+-- the parts of the track over a clip
 abbrev pub parts_in : ScrollbarData → Rect → ScrollbarState → Parts
 parts_in s c state =
     parts_of (track_of s c) (viewport_in (length_along s.orientation c) state.viewport_content_length) state.content_length state.position
@@ -93,6 +95,7 @@ chosen_stays : (c : Rect) {ls : List Layer} (none : Bool) → StayIn (covers c) 
 chosen_stays c true stays = StayIn-none
 chosen_stays c false stays = stays
 
+-- a scrollbar changes cells of its clip alone
 pub scrollbar_stays : (s : ScrollbarData) (state : ScrollbarState) (c : Rect) → StayIn (covers c) (scrollbar_layers s state c)
 scrollbar_stays s state c = chosen_stays c ((state.content_length == 0) || (track_of s c == 0)) (bar_stays s c (parts_in s c state))
 

@@ -1,4 +1,4 @@
--- The selected one of several things.
+-- The selected one of several things, and the law that its style stays in its area.
 use Rattle.std.specs.Prelude.{ℕ, ◌==◌, Bool, true, false, [], Option, None, Some, if◌then◌else◌}
 use Rattle.tui_cells.specs.declared.rect.Rect.{Rect}
 use Rattle.tui_cells.specs.declared.style.Style.{Style}
@@ -12,9 +12,11 @@ abbrev pub is_at : Option ℕ → ℕ → Bool
 is_at None i = false
 is_at (Some s) i = s == i
 
+-- a style over an area stays there
 pub dress_stays : (area : Rect) (style : Style) → StayIn (covers area) (stroke (covers area) (dress style))
 dress_stays area style = StayIn-stroke (covers area) (dress style) (λ x y out. out)
 
+-- so does a style that the selected thing alone has
 pub highlight_stays : (area : Rect) (style : Style) (is_selected : Bool) → StayIn (covers area) (if is_selected then stroke (covers area) (dress style) else [])
 highlight_stays area style true = dress_stays area style
 highlight_stays area style false = StayIn-none

@@ -10,6 +10,7 @@ use Rattle.tui_text.specs.Line.{LineData, line_data, raw_line}
 use Rattle.tui_text.specs.Span.{SpanData, raw_span, span_data}
 use Rattle.tui_text.specs.Width.{line_width, span_width}
 
+-- tabs as plain data
 pub record TabsData : Type 0 where
   pub block : Option BlockData
   pub titles : List LineData
@@ -20,6 +21,7 @@ pub record TabsData : Type 0 where
   pub highlight_style : Style
   pub divider : SpanData
 
+-- tabs of the code as plain data
 abbrev pub tabs_data : widget.Tabs → TabsData
 tabs_data t = record {
   block = option_map block_data t.block;

@@ -17,6 +17,7 @@ pub record IsLightTabs (t : TabsData) : Type 0 where
   pub padding_right : AreLight t.padding_right.spans
   pub divider : AreLight (t.divider ∷ [])
 
+-- tabs as a drawing
 abbrev pub tabs_drawing : TabsData → Drawing
 tabs_drawing t = record {
   layers = tabs_layers t;

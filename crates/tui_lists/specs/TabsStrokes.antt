@@ -1,4 +1,5 @@
--- The strokes of tabs. Where no column is left, nothing more is set, since no text is set outside the area.
+-- The strokes of tabs; at the end the law that they stay in their footprint. Where no column is left, nothing more is set,
+-- since no text is set outside the area.
 use Rattle.std.specs.Prelude.{ℕ, ◌+◌, ◌-◌, ◌==◌, Bool, true, false, List, [], ◌∷◌, ◌++◌, if◌then◌else◌}
 use Rattle.tui_cells.specs.declared.position.Position.{Position}
 use Rattle.tui_cells.specs.declared.rect.Rect.{Rect}
@@ -30,9 +31,11 @@ used_columns inner start end = intersection_of inner (cells_at start inner.y (en
 abbrev pub title_start : TabsData → Rect → ℕ → ℕ
 title_start t inner x = set_column inner (in_first_row inner x) (line_spans t.padding_left) inner.width
 
+-- the column behind the title
 abbrev pub title_end : TabsData → Rect → ℕ → LineData → ℕ
 title_end t inner x title = set_column inner (in_first_row inner (title_start t inner x)) (line_spans title) inner.width
 
+-- the column behind the padding at its right
 unfoldable pub tab_end : TabsData → Rect → ℕ → LineData → ℕ
 tab_end t inner x title = set_column inner (in_first_row inner (title_end t inner x title)) (line_spans t.padding_right) inner.width
 
@@ -50,6 +53,7 @@ tab_layers t inner x is_selected title =
 unfoldable pub divider_layers : TabsData → Rect → ℕ → ℕ → List Layer
 divider_layers t inner x i = if i == 0 then [] else set_layers inner (in_first_row inner x) (t.divider ∷ []) inner.width
 
+-- the column behind the divider, which stands before all tabs but the first
 unfoldable pub divider_end : TabsData → Rect → ℕ → ℕ → ℕ
 divider_end t inner x i = if i == 0 then x else set_column inner (in_first_row inner x) (t.divider ∷ []) inner.width
 
@@ -74,6 +78,7 @@ used_stays inner start end style is_selected =
     (λ x y out. outside_both inner (cells_at start inner.y (end - start)) x y out)
     (highlight_stays (used_columns inner start end) style is_selected)
 
+-- a tab stays in the area
 pub tab_stays : (t : TabsData) (inner : Rect) (x : ℕ) (is_selected : Bool) (title : LineData) → StayIn (covers inner) (tab_layers t inner x is_selected title)
 unfolding tab_layers
 tab_stays t inner x is_selected title =
@@ -93,6 +98,7 @@ divider_stays : (t : TabsData) (inner : Rect) (x i : ℕ) → StayIn (covers inn
 unfolding divider_layers
 divider_stays t inner x i = between_stays t inner x (i == 0)
 
+-- so do all of them
 pub titles_stay : (t : TabsData) (inner : Rect) (i x : ℕ) (titles : List LineData) → StayIn (covers inner) (titles_layers t inner i x titles)
 unfolding titles_layers
 titles_stay t inner i x [] = StayIn-none
@@ -101,6 +107,7 @@ titles_stay t inner i x (title ∷ titles) =
     StayIn-append (divider_stays t inner x i)
     (StayIn-append (tab_stays t inner start (is_at t.selected i) title) (titles_stay t inner (i + 1) (tab_end t inner start title) titles))
 
+-- tabs change cells of their footprint alone
 pub tabs_stay : (t : TabsData) (clip : Rect) → StayIn (footprint_if t.block clip) (tabs_layers t clip)
 tabs_stay t clip =
     let inner = inner_of t.block clip in

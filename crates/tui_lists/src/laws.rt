@@ -1,4 +1,4 @@
-//! What holds of all drawings.
+//! What holds of all lists and scrollbars.
 
 ghost use Rattle.tui_lists.specs.Laws.{InsideIsDressed, SelectedIsShown, StrokesStay};
 ghost use Rattle.tui_lists.specs.Parts.{ThumbLaws};

@@ -8,7 +8,7 @@ use Rattle.tui_text.specs.declared.grapheme.StyledGrapheme.{StyledGrapheme}
 use Rattle.tui_para.specs.Hyphenation.{after_hyphen, after_letter, behind, behind_all, behind_other, marked_from}
 use Rattle.tui_para.specs.Hyphens.{is_hyphen, is_letter}
 use Rattle.tui_para.specs.Mark.{AreMarks, mark_of}
-use Rattle.tui_para.specs.Marked.{HasKept, HasPut, cuts_of}
+use Rattle.tui_para.specs.Marked.{HasPut, cuts_of}
 use Rattle.tui_para.specs.Wrapped.{kept}
 use Rattle.tui_para.specs.declared.wrapping.hyphenation.Hyphenation.{Hyphenation}
 use Rattle.tui_para.specs.declared.wrapping.hyphenation.Hyphenation.TheVariants.{Off, Apart, Letter, Hyphen}
@@ -46,17 +46,6 @@ HasPut-then w xs ys old middle new a b =
       behind = subst (λ k. cuts_of new ≡ cuts_of old ++ marked_from Off (kept glyph_width w k)) both
           (marked_then w w Off Off (map glyph_of xs) (map glyph_of ys) refl off (cuts_of old) (cuts_of middle) (cuts_of new) a.behind b.behind);
       same = b.same ∙ a.same;
-    }
-
--- they are kept once it is told where their words are cut
-pub told_kept : (w : ℕ) (taken : List StyledGrapheme) (old middle new : Marked) → HasPut w taken old middle →
-    (cuts_of new ≡ cuts_of old ++ marked_from middle.hyphenation (kept glyph_width w (map glyph_of taken))) × (new.hyphenation ≡ behind_all middle.hyphenation (kept glyph_width w (map glyph_of taken))) →
-    HasKept w taken old new
-told_kept w taken old middle new put (cuts, goes) =
-    let glyphs = kept glyph_width w (map glyph_of taken) in
-    record {
-      behind = subst (λ h. cuts_of new ≡ cuts_of old ++ marked_from h glyphs) put.same cuts;
-      goes_on = subst (λ h. new.hyphenation ≡ behind_all h glyphs) put.same goes;
     }
 
 -- the marks of graphemes behind others

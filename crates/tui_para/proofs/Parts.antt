@@ -3,11 +3,10 @@ use Rattle.std.proofs.Common.{◌≡◌, ℕ, ◌+◌, ◌-◌, ◌<◌, ◌≤�
 use Rattle.std.specs.Prelude.{◌≢◌, sum_by}
 use Rattle.std.specs.List.{between}
 use Rattle.std.proofs.lemmas.List.{drop-drop, drop-map, take-map, take_rest}
-use Rattle.std.proofs.lemmas.List.Elements.{All-map, All-drop, All-from_recursion}
+use Rattle.std.proofs.lemmas.List.Elements.{All-map, All-drop}
 use Rattle.tui_para.specs.Rule.{Rule}
-use Rattle.tui_para.specs.Wrapped.{HasLines, WrapsKept, kept}
+use Rattle.tui_para.specs.Wrapped.{HasLines, WrapsKept}
 use Rattle.tui_para.proofs.Filled.{no_cons}
-use Rattle.tui_para.proofs.Greedy.{all_fit-kept}
 use Rattle.tui_para.proofs.Mapped.{sum_by-map}
 
 pub between-map : {A B : Type 0} (f : A → B) (start end : ℕ) (xs : List A) → between start end (map f xs) ≡ map f (between start end xs)
@@ -42,9 +41,6 @@ module _ {A B : Type 0} (f : A → B) (xs : List A) (ys : List B) (place : ℕ) 
   seen_width size start end n e =
       e ∙ (ap (λ t. sum_by size (between start end t)) (sym seen_from) ∙ (ap (sum_by size) (between-map f start end (drop place xs))
       ∙ (sum_by-map f (λ y. true) (λ y. true) size (between start end (drop place xs)) ∙ ap (sum_by (λ x. size (f x))) (between-drop place start end xs))))
-
-pub all_kept : {A : Type 0} (size : A → ℕ) (w : ℕ) (xs ys : List A) → ys ≡ kept size w xs → All (λ x. size x ≤ w) ys
-all_kept size w xs ys e = subst (All (λ x. size x ≤ w)) (sym e) (All-from_recursion (λ x. size x ≤ w) (kept size w xs) (all_fit-kept size w xs))
 
 -- a text line has a line
 pub wraps_some : {A : Type 0} (rule : Rule A) (xs : List A) → WrapsKept rule xs [] → ⊥

@@ -1,5 +1,6 @@
 -- What may come, and what comes in any case: of iterators, and so of what is made from them.
 
+-- which answers may come, and which come in any case
 pub record Answers (X : Type 0) : Type 1 where
   pub may : X → Type 0
   pub will : X → Type 0

@@ -30,6 +30,7 @@ take_word_along c = record c { lines = c.lines + 1; some = true; begun = false; 
 abbrev pub add_blank : Counter → ℕ → Counter
 add_blank c s = record c { some = true; blanks = c.blanks + s }
 
+-- a blank is read, and nothing is kept of it
 abbrev pub skip_blank : Counter → Counter
 skip_blank c = record c { some = true }
 
@@ -63,6 +64,7 @@ step w trim c s ends blank =
     let d = cond ends (after_word c) c in
     cond blank (on_blank w trim d s) (add_letter (hard w (soft w d s) s) s)
 
+-- all graphemes of a list, one by one
 abbrev pub steps : {A : Type 0} → Rule A → Counter → List A → Counter
 steps rule c [] = c
 steps rule c (x ∷ xs) = steps rule (step rule.width rule.trim c (rule.size x) (ends_piece rule x) (rule.blank x)) xs

@@ -19,6 +19,7 @@ abbrev pub WillGive : {S A B : Type 0} → (S → Option A → S → Type 0) →
 WillGive {S} {A} gives R s [] = (x : A) (t : S) → gives s (Some x) t → ⊥
 WillGive {S} {A} gives R s (y ∷ ys) = ((t : S) → gives s None t → ⊥) × ((x : A) (t : S) → gives s (Some x) t → R x y × WillGive gives R t ys)
 
+-- a grapheme of the code as plain data
 abbrev pub IsGlyph : StyledGrapheme → Glyph → Type 0
 IsGlyph g glyph = glyph_of g ≡ glyph
 
@@ -34,6 +35,7 @@ WillBe gives x line = WillGive gives IsGlyph x.0 line.glyphs × (x.1 ≡ line.al
 abbrev pub SourceGives : {I : Type 0} → (I → List Glyph → Type 0) → Option I → List Glyph → Type 0
 SourceGives gives source glyphs = MatchOption source (glyphs ≡ []) (λ i. gives i glyphs)
 
+-- the graphemes that an iterator may give, and those that it gives in any case
 abbrev pub source_answers : {I : Type 0} → (I → Option StyledGrapheme → I → Type 0) → Option I → Answers (List Glyph)
 source_answers gives source = record { may = SourceGives (MayGive gives IsGlyph) source; will = SourceGives (WillGive gives IsGlyph) source }
 

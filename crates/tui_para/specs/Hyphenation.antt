@@ -23,9 +23,11 @@ behind_other blank Apart = cond blank Apart Letter
 behind_other blank Letter = cond blank Apart Letter
 behind_other blank Hyphen = cond blank Apart Letter
 
+-- what stands before the next grapheme, once one more is read
 abbrev pub behind : Hyphenation → Glyph → Hyphenation
 behind before g = cond (is_hyphen g) (behind_hyphen before) (behind_other (glyph_blank g) before)
 
+-- likewise after a whole list
 abbrev pub behind_all : Hyphenation → List Glyph → Hyphenation
 behind_all before [] = before
 behind_all before (g ∷ gs) = behind_all (behind before g) gs
@@ -37,6 +39,7 @@ after_hyphen Apart = false
 after_hyphen Letter = false
 after_hyphen Hyphen = true
 
+-- whether a letter stands directly before
 abbrev pub after_letter : Hyphenation → Bool
 after_letter Off = false
 after_letter Apart = false

@@ -15,6 +15,7 @@ at_blanks trim = record { trim = trim; hyphens = false }
 unfoldable pub is_hyphen_text : List ℕ → Bool
 is_hyphen_text text = pointwise nat_eq text (45 ∷ [])
 
+-- whether a grapheme is a hyphen
 abbrev pub is_hyphen : Glyph → Bool
 is_hyphen g = is_hyphen_text g.text
 

@@ -6,6 +6,7 @@ use Rattle.tui_para.specs.Answers.{Answers}
 use Rattle.tui_para.specs.Lines.{GlyphLine, IsFirst}
 use Rattle.tui_para.specs.declared.composer.WrappedLine.{WrappedLine}
 
+-- a line that is lent, as plain data
 abbrev pub glyph_line_of : WrappedLine → GlyphLine
 glyph_line_of line = record { glyphs = map glyph_of line.graphemes.now; alignment = line.alignment }
 

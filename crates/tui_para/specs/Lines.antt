@@ -13,6 +13,7 @@ pub record GlyphLine : Type 0 where
   pub glyphs : List Glyph
   pub alignment : Alignment
 
+-- a line of graphemes in an alignment
 abbrev pub glyph_line : Alignment → List Glyph → GlyphLine
 glyph_line alignment glyphs = record { glyphs = glyphs; alignment = alignment }
 
@@ -30,6 +31,7 @@ cut_all f ts = flat_map (λ t. map (glyph_line t.alignment) (f t)) ts
 abbrev pub WrapsLine : ℕ → Wrap → GlyphLine → List (List Glyph) → Type 0
 WrapsLine w wrap t parts = Wrapped w wrap t.glyphs parts
 
+-- whether a line begins at the left
 abbrev pub is_left : Alignment → Bool
 is_left Left = true
 is_left Center = false

@@ -12,10 +12,12 @@ use Rattle.tui_text.proofs.RowStays.{text_stays}
 use Rattle.tui_para.specs.declared.size.Size.{Size}
 use Rattle.tui_para.specs.declared.size.Size.TheVariants.{Tiny, Small}
 
+-- the upper one of the two lines
 abbrev pub upper_line : Size → List ℕ
 upper_line Tiny = utf8 "▛▚▗▀▖▜▘▞▚▝▛▐ ▌▌"
 upper_line Small = utf8 "█▀▀▄ ▄▀▀▄▝▜▛▘▄▀▀▄▝▜▛▘█  █ █"
 
+-- the lower one
 abbrev pub lower_line : Size → List ℕ
 lower_line Tiny = utf8 "▛▚▐▀▌▐ ▛▜ ▌▝▄▘▌"
 lower_line Small = utf8 "█▀▀▄ █▀▀█ ▐▌ █▀▀█ ▐▌ ▀▄▄▀ █"
@@ -24,6 +26,7 @@ lower_line Small = utf8 "█▀▀▄ █▀▀█ ▐▌ █▀▀█ ▐▌ �
 abbrev pub logo_text : Size → TextData
 logo_text size = record empty_text { lines = raw_line (upper_line size) ∷ raw_line (lower_line size) ∷ [] }
 
+-- the two lines in the clip
 abbrev pub logo_layers : Size → Rect → List Layer
 logo_layers size clip = text_layers clip (logo_text size)
 

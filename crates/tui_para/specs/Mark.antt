@@ -11,6 +11,7 @@ use Rattle.tui_para.specs.declared.wrapping.mark.Mark.{Mark}
 abbrev pub mark_of : Glyph × Bool → Mark
 mark_of p = record { width = glyph_width p.0; blank = glyph_blank p.0; cut = p.1 }
 
+-- whether the grapheme is blank
 abbrev pub is_blank : Mark → Bool
 is_blank m = m.blank
 
@@ -22,9 +23,11 @@ is_cut m = m.cut
 abbrev pub ends_before : Mark → Bool
 ends_before m = m.cut || m.blank
 
+-- its columns
 abbrev pub size_of : Mark → ℕ
 size_of m = m.width
 
+-- the rule by which marks are wrapped
 abbrev pub mark_rule : ℕ → Wrap → Rule Mark
 mark_rule w wrap = record { blank = is_blank; cut = is_cut; size = size_of; width = w; trim = wrap.trim }
 

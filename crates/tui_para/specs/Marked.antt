@@ -15,6 +15,7 @@ use Rattle.tui_para.specs.declared.wrapping.part.Part.{Part}
 abbrev pub cuts_of : Marked → List (Glyph × Bool)
 cuts_of m = zip (map glyph_of m.graphemes.items) (map is_cut m.marks.items)
 
+-- the graphemes alone
 abbrev pub glyphs_of : Marked → List Glyph
 glyphs_of m = map (λ p. p.0) (cuts_of m)
 

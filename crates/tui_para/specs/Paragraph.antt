@@ -10,6 +10,7 @@ use Rattle.tui_text.specs.Text.{TextData, text_data}
 use Rattle.tui_text.specs.declared.alignment.Alignment.{Alignment}
 use Rattle.tui_text.specs.declared.alignment.Alignment.TheVariants.{Left}
 
+-- a paragraph as plain data
 pub record ParagraphData : Type 0 where
   pub block : Option BlockData
   pub text : TextData
@@ -19,6 +20,7 @@ pub record ParagraphData : Type 0 where
   pub scroll_x : ℕ
   pub alignment : Alignment
 
+-- a paragraph of the code as plain data
 abbrev pub paragraph_data : Paragraph → ParagraphData
 paragraph_data p = record {
   block = option_map block_data p.block;
@@ -34,6 +36,7 @@ paragraph_data p = record {
 abbrev pub block_rows : ParagraphData → Option ℕ
 block_rows p = option_map rows_around p.block
 
+-- the columns that the block takes, if there is one
 abbrev pub block_columns : ParagraphData → Option ℕ
 block_columns p = option_map columns_around p.block
 

@@ -1,4 +1,4 @@
--- The strokes of a paragraph stay in its clip.
+-- Laws that the drawing of a paragraph carries: its strokes stay in its footprint.
 use Rattle.std.specs.Prelude.{Option, None, Some, ◌≡◌, ℕ, ◌+◌, Bool, true, false, List, [], ◌∷◌, ◌++◌, ◌&&◌, ◌==◌, nat_lt, if◌then◌else◌, drop, sum_by}
 use Rattle.std.proofs.Common.{◌∙◌, ap, refl, sym}
 use Rattle.std.proofs.lemmas.Bool.{eqb-true, and_parts, false_from_ne_true, false≢true}
@@ -46,6 +46,7 @@ glyph_lines_stay : (rect : Rect) (y : ℕ) (ss : List GlyphLine) → StayIn (cov
 glyph_lines_stay rect y [] = StayIn-none
 glyph_lines_stay rect y (s ∷ ss) = StayIn-append (glyph_line_stays rect y s) (glyph_lines_stay rect (y + 1) ss)
 
+-- what stands inside the block stays there
 pub content_stays : (p : ParagraphData) (rect : Rect) → StayIn (covers rect) (content_layers p rect)
 unfolding content_layers
 content_stays p rect =
@@ -56,5 +57,6 @@ under_stays : (o : Option BlockData) (style : Style) (clip : Rect) → StayIn (f
 under_stays None style clip = StayIn-none
 under_stays (Some b) style clip = StayIn-append (clip_stays (Some b) clip (StayIn-stroke (covers clip) (dress style) (λ x y out. out))) (block_stays b clip)
 
+-- a paragraph changes cells of its footprint alone
 pub paragraph_stays : (p : ParagraphData) (clip : Rect) → StayIn (footprint_if p.block clip) (paragraph_layers p clip)
 paragraph_stays p clip = StayIn-append (under_stays p.block p.style clip) (inner_stays p.block clip (content_stays p (inner_of p.block clip)))

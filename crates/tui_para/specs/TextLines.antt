@@ -15,6 +15,7 @@ use Rattle.tui_para.specs.declared.text_lines.TextLines.{TextLines}
 abbrev pub glyph_line_left : Graphemes × Alignment → GlyphLine
 glyph_line_left x = glyph_line x.1 (glyphs_left x.0)
 
+-- the lines that are still to come
 abbrev pub glyph_lines_left : TextLines → List GlyphLine
 glyph_lines_left s = map (text_glyph_line s.style s.alignment) (map line_data (drop s.place s.lines.now))
 
@@ -22,5 +23,6 @@ glyph_lines_left s = map (text_glyph_line s.style s.alignment) (map line_data (d
 abbrev pub gives_lines : TextLines → Option (Graphemes × Alignment) → TextLines → Type 0
 gives_lines = YieldsFirstBy glyph_line_left glyph_lines_left
 
+-- a call of the iterator gives the first grapheme that is left, if there is one
 abbrev pub gives_graphemes : Graphemes → Option StyledGrapheme → Graphemes → Type 0
 gives_graphemes = YieldsFirstBy glyph_of glyphs_left

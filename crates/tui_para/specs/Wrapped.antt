@@ -23,6 +23,7 @@ after_break rule room [] = []
 after_break rule room (x ∷ xs) =
     cond (rule.blank x) (cond (nat_le (rule.size x) room) (after_break rule (room - rule.size x) xs) xs) (x ∷ xs)
 
+-- what is not blank
 abbrev pub no_blank : {A : Type 0} → (A → Bool) → A → Bool
 no_blank blank x = not (blank x)
 
@@ -52,6 +53,7 @@ pub record BreaksBefore {A : Type 0} (rule : Rule A) (test : A → Bool) (room :
 abbrev pub IsSoftBreak : {A : Type 0} → Rule A → ℕ → List A → List A → Type 0
 IsSoftBreak rule room line after = BreaksBefore rule rule.blank room line after
 
+-- a line is broken where a word may be cut
 abbrev pub IsHyphenBreak : {A : Type 0} → Rule A → ℕ → List A → List A → Type 0
 IsHyphenBreak rule room line after = BreaksBefore rule rule.cut room line after
 

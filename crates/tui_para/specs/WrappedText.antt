@@ -17,6 +17,7 @@ use Rattle.tui_text.specs.declared.alignment.Alignment.{Alignment}
 abbrev pub text_glyph_line : Style → Alignment → LineData → GlyphLine
 text_glyph_line style alignment line = glyph_line (unwrap_or line.alignment alignment) (line_graphemes style line)
 
+-- the lines of a text as graphemes
 abbrev pub text_glyph_lines : TextData → Alignment → List GlyphLine
 text_glyph_lines text alignment = map (text_glyph_line text.style alignment) text.lines
 
@@ -32,6 +33,7 @@ TruncatedText w offset alignment text lines = CutAll (TruncatesLine w offset) (t
 abbrev pub wrap_text : ℕ → Wrap → Alignment → TextData → List GlyphLine
 wrap_text w way alignment text = cut_all (λ t. wrap w way t.glyphs) (text_glyph_lines text alignment)
 
+-- the lines of a text that is not wrapped, each cut at the width
 abbrev pub truncate_text : ℕ → ℕ → Alignment → TextData → List GlyphLine
 truncate_text w offset alignment text = cut_all (λ t. truncate glyph_width w (is_left t.alignment) offset t.glyphs ∷ []) (text_glyph_lines text alignment)
 

@@ -32,6 +32,7 @@ LinesOfRest is_new w wrap glyphs parts = ((is_new ≡ true) × WrapsKept (glyph_
 abbrev pub CutPartsWith : {I : Type 0} → TextLine I → List Glyph → List (List (Glyph × Bool)) → Type 0
 CutPartsWith s glyphs = LinesOfRest s.is_new s.width s.wrap (glyphs_from s s.place glyphs)
 
+-- likewise as graphemes alone
 abbrev pub PartsWith : {I : Type 0} → TextLine I → List Glyph → List (List Glyph) → Type 0
 PartsWith s glyphs = Uncut (CutPartsWith s glyphs)
 

@@ -8,7 +8,7 @@ use Rattle.std.proofs.lemmas.Str.{IsCharBoundary-at_seam, IsCharBoundary-start}
 use Rattle.std.proofs.Math.Seq.{drop-append_seam}
 use Rattle.tui_cells.specs.Style.{no_style}
 use Rattle.tui_text.specs.declared.alignment.Alignment.TheVariants.{Left}
-use Rattle.tui_places.specs.AfterLine.{ArePlaces, HasAtMost, HasLineCount, IsFromLine, IsPlace, wrapped_lines}
+use Rattle.tui_places.specs.AfterLine.{HasAtMost, HasLineCount, IsFromLine, IsPlace, wrapped_lines}
 use Rattle.tui_places.specs.Reading.{HasPassed, Passes}
 use Rattle.tui_places.proofs.AfterLine.{has_line, shorter}
 
@@ -100,10 +100,4 @@ first_place w trim text u = record {
   each = λ k less.
       let first : 0 ≡ k = omega arith in
       subst (λ n. IsPlace w trim text n (slice_index (0 ∷ []) n)) first (record { boundary = IsCharBoundary-start text u; from = from_first w trim text });
-}
-
-pub all_places : (w : ℕ) (trim : Bool) (text places rest : List ℕ) → HasPassed w trim text places rest → HasLineCount w trim rest 1 → ArePlaces w trim text places
-all_places w trim text places rest h one = record {
-  count = subst (HasLineCount w trim text) (sym h.many) (count_from w trim text h.passed rest h.passes.from 1 (omega arith) one);
-  each = h.each;
 }

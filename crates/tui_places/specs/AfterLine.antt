@@ -16,9 +16,11 @@ wrapped_lines style alignment w trim text = wrap_text w (at_blanks trim) alignme
 abbrev pub HasLineCount : ℕ → Bool → List ℕ → ℕ → Type 0
 HasLineCount w trim text n = (style : Style) (alignment : Alignment) → length (wrapped_lines style alignment w trim text) ≡ n
 
+-- a text that is wrapped into one line
 abbrev pub IsOneLine : ℕ → Bool → List ℕ → Type 0
 IsOneLine w trim text = HasLineCount w trim text 1
 
+-- a text that is wrapped into at most so many lines
 abbrev pub HasAtMost : ℕ → Bool → List ℕ → ℕ → Type 0
 HasAtMost w trim text n = (style : Style) (alignment : Alignment) → length (wrapped_lines style alignment w trim text) ≤ n
 

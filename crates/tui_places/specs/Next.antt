@@ -29,6 +29,7 @@ pub record IsOver (w : ℕ) (text rest : List ℕ) : Type 0 where
   pub shown : shown_in w text ≡ []
   pub behind : behind_line text ≡ rest
 
+-- a grapheme that shows, or the end of the line with what stands behind it
 abbrev pub IsNextOf : ℕ → List ℕ → Next → Type 0
 IsNextOf w text (next.Grapheme g) = IsShown w text g.width g.blank g.behind.now
 IsNextOf w text (next.Over rest) = IsOver w text rest.now

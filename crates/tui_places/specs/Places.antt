@@ -16,6 +16,7 @@ abbrev pub line_part : List (List ℕ) → List (List ℕ)
 line_part [] = []
 line_part (c ∷ cs) = cond (is_newline c) [] (c ∷ line_part cs)
 
+-- the clusters behind the first newline
 abbrev pub behind_part : List (List ℕ) → List (List ℕ)
 behind_part [] = []
 behind_part (c ∷ cs) = cond (is_newline c) cs (behind_part cs)

@@ -30,12 +30,6 @@ lines_more (p ∷ pieces) (suc i) d h =
     let more = lines_more pieces i d (omega arith) in
     subst (λ k. lines_on (take k (p ∷ pieces)) ≡ lines_on (take (suc i) (p ∷ pieces)) + size_of (get_or pieces i d)) n (omega arith)
 
--- no part of a page has more lines than the page
-pub lines_part : (pieces : List Piece) (n : ℕ) → lines_on (take n pieces) ≤ lines_on pieces
-lines_part pieces zero = omega arith
-lines_part [] (suc n) = omega arith
-lines_part (p ∷ pieces) (suc n) = omega (arith, sum_by-cons size_of p (take n pieces), sum_by-cons size_of p pieces, lines_part pieces n)
-
 pub pieces_more : (buffer page rows : Rect) (places : List Segment) (records : List Record) (entry : Record) (row size from : ℕ)
     (pieces : List Piece) (i : ℕ) (d : Piece) (a b c : Screen) → i < length pieces → a.area ≡ buffer →
     (get_or pieces i d).place < length records → entry ≡ get_or records (get_or pieces i d).place entry →

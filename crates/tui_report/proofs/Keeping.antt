@@ -1,8 +1,7 @@
 -- Pages as one list of pieces and the places of their ends.
 use Rattle.std.proofs.Common.{◌≡◌, ℕ, zero, suc, ◌+◌, ◌-◌, ◌<◌, ◌≤◌, min, List, [], ◌∷◌, ◌++◌, length, get_or, take, drop, refl, sym, ap, ◌∙◌, subst, arith, inl, inr}
 use Rattle.std.specs.Prelude.{slice_get, slice_range, Some, Result, Ok, Err, IfOk}
-use Rattle.std.proofs.lemmas.List.{append_assoc, length-append, take_rest, drop-append-le, take-append-le, length-drop, drop_more, get_or_default}
-use Rattle.std.proofs.lemmas.List.Sums.{sum_by_push}
+use Rattle.std.proofs.lemmas.List.{append_assoc, take_rest, drop-append-le, take-append-le, length-drop, drop_more, get_or_default}
 use Rattle.std.proofs.lemmas.Bool.{cases_lt, cond-true, cond-false}
 use Rattle.tui_report.specs.declared.piece.Piece.{Piece}
 use Rattle.tui_report.specs.Pages.{size_of, lines_on}
@@ -77,19 +76,6 @@ ended_is pieces ends new start count e h n c = record {
   inside = omega arith;
   lines = ap lines_on (sym (ap (λ k. drop k pieces) c ∙ drop_none pieces));
 }
-
--- a piece is put on the page
-pub put_is : (pieces new : List Piece) (ends : List ℕ) (start used size : ℕ) (p : Piece) → IsDraft pieces ends start used
-    → new ≡ pieces ++ p ∷ [] → size ≡ size_of p
-    → IsDraft new ends start (used + size)
-put_is pieces new ends start used size p d n s =
-    let inside = d.inside in
-    let lines = d.lines in
-    record {
-      in_order = d.in_order;
-      inside = omega (arith, ap length n, length-append pieces (p ∷ []));
-      lines = omega (arith, lines, s, ap (λ ps. lines_on (drop start ps)) n, ap lines_on (drop-append-le start pieces (p ∷ []) inside), sum_by_push size_of (drop start pieces) p);
-    }
 
 put_on : (pieces new : List Piece) (ends : List ℕ) (start used : ℕ) (p : Piece) → IsDraft pieces ends start used
     → new ≡ pieces ++ p ∷ []

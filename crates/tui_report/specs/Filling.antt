@@ -39,6 +39,7 @@ fill room page [] = page ∷ []
 fill room page (p ∷ ps) =
     if nat_le (lines_on page + size_of p) room then fill room (page ++ p ∷ []) ps else page ∷ fill room (p ∷ []) ps
 
+-- the pages of records of these heights
 unfoldable pub pages_of : List ℕ → ℕ → List (List Piece)
 pages_of heights room = fill room [] (pieces_from room 0 heights)
 
@@ -47,9 +48,11 @@ pub record Draft : Type 0 where
   pub ended : List (List Piece)
   pub current : List Piece
 
+-- no page, and nothing on the one under way
 abbrev pub blank : Draft
 blank = record { ended = []; current = [] }
 
+-- a piece on the page under way, or on a new one where it does not fit
 abbrev pub with_piece : ℕ → Draft → Piece → Draft
 with_piece room d p =
     if nat_le (lines_on d.current + size_of p) room
@@ -70,6 +73,7 @@ abbrev pub EndAt : ℕ → List ℕ → ℕ → Type 0
 EndAt start [] last = start ≡ last
 EndAt start (stop ∷ stops) last = (start ≤ stop) × EndAt stop stops last
 
+-- how pages under way are kept: all pieces in one list, where each full page ends, and the lines that are used
 pub record IsDraft (pieces : List Piece) (ends : List ℕ) (start used : ℕ) : Type 0 where
   pub in_order : EndAt 0 ends start
   pub inside : start ≤ length pieces

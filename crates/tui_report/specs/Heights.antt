@@ -14,6 +14,7 @@ line_count width text = if width == 0 then 0 else length (wrap_text width (at_bl
 abbrev pub record_height : List Segment → List (List ℕ) → ℕ
 record_height places cells = fold max 1 (map (λ (place, cell). line_count place.width cell) (zip places cells))
 
+-- the heights of all records
 abbrev pub heights_of : List Segment → List (List (List ℕ)) → List ℕ
 heights_of places records = map (record_height places) records
 

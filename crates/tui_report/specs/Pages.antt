@@ -7,6 +7,7 @@ use Rattle.tui_report.specs.declared.piece.Piece.{Piece}
 abbrev pub size_of : Piece → ℕ
 size_of p = p.to - p.from
 
+-- the lines of a page
 abbrev pub lines_on : List Piece → ℕ
 lines_on page = sum_by size_of page
 
@@ -20,6 +21,7 @@ wholes_from place [] = []
 wholes_from place (height ∷ heights) =
     record { place = place; from = 0; to = height } ∷ wholes_from (place + 1) heights
 
+-- each record in one piece
 abbrev pub wholes : List ℕ → List Piece
 wholes heights = wholes_from 0 heights
 

@@ -10,10 +10,12 @@ use Rattle.tui_report.specs.declared.column.Column.{Column}
 use Rattle.tui_report.specs.declared.piece.Piece.{Piece}
 use Rattle.tui_report.specs.declared.records.Record.{Record}
 
+-- a column as plain data
 pub record ColumnData : Type 0 where
   pub name : List ℕ
   pub size : Constraint
 
+-- a column of the code as plain data
 abbrev pub column_data : Column → ColumnData
 column_data c = record { name = c.name.now; size = c.size }
 
@@ -21,6 +23,7 @@ column_data c = record { name = c.name.now; size = c.size }
 abbrev pub cells_of : Record → List (List ℕ)
 cells_of r = map (λ cell. cell.now) r.cells.items
 
+-- a report as plain data
 pub record ReportData : Type 0 where
   pub width : ℕ
   pub height : ℕ

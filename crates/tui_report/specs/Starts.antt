@@ -43,6 +43,7 @@ pub record GoesOn (width line : ℕ) (cell : List ℕ) (start : ℕ) : Type 0 wh
 abbrev pub first_piece : List (List Piece) → ℕ → Option Piece
 first_piece pages at = slice_get (slice_index_or pages at []) 0
 
+-- the text of a record in a column, if there is one
 abbrev pub cell_at : List (List (List ℕ)) → ℕ → ℕ → Option (List ℕ)
 cell_at records place i = option_and_then (λ cells. slice_get cells i) (slice_get records place)
 

@@ -26,6 +26,7 @@ cell_from line cell = record (plain cell) { wrap = Some (at_blanks true); scroll
 abbrev pub number_of : ℕ → ℕ → List ℕ
 number_of at count = decimal (at + 1) ++ (codes "/" ++ decimal count)
 
+-- the number of a page, at the right
 abbrev pub number_paragraph : ℕ → ℕ → ParagraphData
 number_paragraph at count = record (plain (number_of at count)) { alignment = Right }
 

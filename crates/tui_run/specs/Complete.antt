@@ -38,6 +38,7 @@ abbrev pub IsCompleteTelling : {R : Type 0} → Call → Ending R → Type 0
 IsCompleteTelling call e =
     (Rose call.sink.faults call.sink_then.faults → ⊥) → e ≢ ending.Broken broken.NoMemory → e ≡ ending.Written written.Output
 
+-- likewise for each task: one that reads, and one that only tells
 abbrev pub IsCompleteBy : {R : Type 0} → Task R → Call → Ending R → Type 0
 IsCompleteBy (reads r) call e = IsCompleteReading r call e
 IsCompleteBy (tells due) call e = IsCompleteTelling call e

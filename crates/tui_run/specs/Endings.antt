@@ -26,6 +26,7 @@ no_refusal x = ⊥
 abbrev pub IsOutput : {R : Type 0} → Reading R → Data → List ℕ → Type 0
 IsOutput r d text = (input : r.Input) × (r.input_of d ≡ Ok input) × r.due input text
 
+-- a text that a run may have written where memory ended
 abbrev pub IsPart : {R : Type 0} → Reading R → Data → List ℕ → Type 0
 IsPart r d text = (input : r.Input) × (r.input_of d ≡ Ok input) × r.part input text
 

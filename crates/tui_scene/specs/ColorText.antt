@@ -7,6 +7,7 @@ use Rattle.tui_cells.specs.declared.color.Color.TheVariants as colors
 abbrev pub hex_digit : ℕ → ℕ
 hex_digit n = slice_index_or (codes "0123456789abcdef") n 0
 
+-- a byte as two hexadecimal digits
 abbrev pub hex_byte : ℕ → List ℕ
 hex_byte n = hex_digit (n / 16) ∷ hex_digit (n % 16) ∷ []
 

@@ -1,4 +1,4 @@
--- The widgets of a scene: what each is to the scene, and where.
+-- The widgets of a scene: what each is to the scene, and where; and the law that their states last.
 use Rattle.std.specs.Prelude.{◌≡◌, refl, ℕ, Bool, true, false, List}
 use Rattle.std.proofs.Common.{ap}
 use Rattle.tui_cells.specs.declared.rect.Rect.{Rect}
@@ -59,6 +59,7 @@ pub data ItemData : Type 0 where
   table : TableData → TableState → ItemData
   scrollbar : ScrollbarData → ScrollbarState → ItemData
 
+-- a widget of the code with its state, as plain data
 abbrev pub item_data : Item → ItemData
 item_data (items.Clear _) = still clear
 item_data (items.Fill f) = still (fill (fill_data f))
@@ -90,6 +91,7 @@ abbrev pub with_scrollbar_state : ScrollbarState → ItemData → ItemData
 with_scrollbar_state after (scrollbar b s) = scrollbar b after
 with_scrollbar_state after item = item
 
+-- what a widget without a state is to those who place it
 abbrev pub still_drawing : StillData → Drawing
 still_drawing clear = clear_drawing
 still_drawing (fill f) = fill_drawing f
@@ -139,6 +141,7 @@ with_state {S = S} item m s = record {
   nowhere = m.nowhere;
 }
 
+-- what a widget is to a scene, with its state if it has one
 abbrev pub item_drawing : ItemData → ItemDrawing
 item_drawing (still w) = without_state (still w) (still_drawing w)
 item_drawing (list l s) = with_state (list l) (list_moving l) s
@@ -150,6 +153,7 @@ pub record Lasts (item : ItemData) (clip : Rect) : Type 0 where
   pub rests : is_empty clip ≡ true → (item_drawing item).after clip ≡ item
   pub settles : (item_drawing ((item_drawing item).after clip)).after clip ≡ (item_drawing item).after clip
 
+-- a state rests over an empty clip, and that which a drawing leaves stays in the next one
 pub item_lasts : (item : ItemData) (clip : Rect) → Lasts item clip
 item_lasts (still w) clip = record { rests = λ e. refl; settles = refl }
 item_lasts (list l s) clip = record {
@@ -167,6 +171,7 @@ pub record PlacedData : Type 0 where
   pub area : Rect
   pub item : ItemData
 
+-- a widget of the code and its area, as plain data
 abbrev pub placed_data : Placed → PlacedData
 placed_data p = record { area = p.area; item = item_data p.item }
 
@@ -174,9 +179,11 @@ placed_data p = record { area = p.area; item = item_data p.item }
 abbrev pub placed_layers : Rect → PlacedData → List Layer
 placed_layers area p = (item_drawing p.item).layers (intersection_of p.area area)
 
+-- the positions that it may change in an area
 abbrev pub placed_footprint : Rect → PlacedData → ℕ → ℕ → Bool
 placed_footprint area p = (item_drawing p.item).footprint (intersection_of p.area area)
 
+-- the same widget with the state that a drawing leaves
 abbrev pub placed_after : Rect → PlacedData → PlacedData
 placed_after area p = record { area = p.area; item = (item_drawing p.item).after (intersection_of p.area area) }
 

@@ -25,6 +25,7 @@ use Rattle.tui_scene.specs.Item.{
   tabs,
 }
 
+-- the block of a widget without a state, if it has one
 abbrev pub still_block : StillData → Option BlockData
 still_block clear = None
 still_block (fill f) = None

@@ -1,5 +1,5 @@
 -- The first field whose test fails.
-use Rattle.std.specs.Prelude.{◌≡◌, ℕ, Option, Some, None, Result, Ok, Err}
+use Rattle.std.specs.Prelude.{ℕ, Option, Some, None, Result}
 use Rattle.serde_json.specs.Data.{Data}
 use Rattle.tui_json.specs.Refusals as tests
 use Rattle.tui_schema.specs.Field.{field_name}
@@ -12,6 +12,7 @@ pub record Refusal : Type 0 where
   pub item : Option ℕ
   pub field : Field
 
+-- a refusal by its item and field
 abbrev pub refusal : Option ℕ → Field → Refusal
 refusal i f = record { item = i; field = f }
 
@@ -19,9 +20,6 @@ refusal i f = record { item = i; field = f }
 abbrev pub refused : SceneError → Option Refusal
 refused errors.NoMemory = None
 refused (errors.BadField i f) = Some (refusal i f)
-
-abbrev pub Refuses : {Y : Type 0} → SceneError → Result Y Refusal → Type 0
-Refuses error read = tests.Refuses (refused error) read
 
 -- what a reader answers, seen by view, is what the tests give, unless memory ran out
 abbrev pub Gives : {X Y : Type 0} → (X → Y) → Result X SceneError → Result Y Refusal → Type 0

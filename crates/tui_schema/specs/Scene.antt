@@ -16,6 +16,7 @@ pub record SceneData : Type 0 where
   pub height : ℕ
   pub items : List PlacedData
 
+-- what is read, as plain data
 abbrev pub reading_data : Reading → SceneData
 reading_data r = record { width = r.width; height = r.height; items = r.scene }
 

@@ -10,6 +10,7 @@ use Rattle.tui_sheets.specs.declared.ended.PagesEnded.TheVariants as ended
 use Rattle.tui_sheets.specs.declared.refusal.PagesRefusal.{PagesRefusal}
 use Rattle.tui_sheets.specs.declared.refusal.PagesRefusal.TheVariants as refusals
 
+-- each ending of this program as one of every program's
 abbrev pub ending_of : PagesEnded → Ending PagesRefusal
 ending_of ended.Ok = ending.Written written.Output
 ending_of ended.Usage = ending.Written written.Usage

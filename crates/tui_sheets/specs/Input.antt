@@ -28,6 +28,7 @@ pub record SheetData : Type 0 where
   pub height : ℕ
   pub title : List ℕ
 
+-- the sheet of the code as plain data
 abbrev pub sheet_data : Sheet → SheetData
 sheet_data s = record { width = s.width; height = s.height; title = s.title.now }
 
@@ -60,6 +61,7 @@ pub record InputData : Type 0 where
   pub columns : List ColumnData
   pub records : List (List (List ℕ))
 
+-- what is read, as plain data
 abbrev pub input_data : Input → InputData
 input_data input = record {
   sheet = sheet_data input.sheet;
@@ -67,6 +69,7 @@ input_data input = record {
   records = map cells_of input.records.items;
 }
 
+-- the whole input, or what is refused of it
 unfoldable pub input_of : Data → Result InputData PagesRefusal
 input_of d = do
   sheet ← sheet_of d

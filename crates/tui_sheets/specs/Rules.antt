@@ -31,5 +31,6 @@ IsFirst command.Count r text = nothing text
 abbrev pub pages_reading : PagesCommand → Reading PagesRefusal
 pages_reading c = record { Input = ReportData; input_of = report_in; line = refusal_line; due = IsWritten c; part = IsFirst c }
 
+-- the rules of all commands
 abbrev pub pages_rules : Rules PagesCommand PagesRefusal
 pages_rules = reading_rules Names pages_reading

@@ -1,5 +1,5 @@
 -- The command that words name.
-use Rattle.std.proofs.Common.{◌≡◌, ℕ, List, [], ◌∷◌, String, Global, refl, sym, ap, ◌∙◌, arith}
+use Rattle.std.proofs.Common.{◌≡◌, ℕ, List, [], ◌∷◌, String, Global, sym, ap, ◌∙◌, arith}
 use Rattle.tui_run.specs.Endings.{NameNone}
 use Rattle.tui_run.specs.declared.broken.Broken.TheVariants as broken
 use Rattle.tui_run.specs.declared.ending.Ending.TheVariants as ending
@@ -18,10 +18,6 @@ not_both ws n scene demo = two_is_one (sym scene ∙ demo.1)
   where
     two_is_one : {v w x : List ℕ} → v ∷ [] ≡ w ∷ x ∷ [] → ⊥
     two_is_one e = cc
-
-pub only_scene : (ws : List (String Global)) → AreScene ws → (other : ShowCommand) → Names other ws → other ≡ command.Scene
-only_scene ws are command.Scene scene = refl
-only_scene ws are (command.Demo m) demo = absurd (not_both ws m are demo)
 
 pub only_demo : (ws : List (String Global)) (n : ℕ) → AreDemo n ws → ((m : ℕ) → AreDemo m ws → m ≡ n) → (other : ShowCommand) → Names other ws →
     other ≡ command.Demo n

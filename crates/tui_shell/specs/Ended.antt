@@ -9,6 +9,7 @@ use Rattle.tui_shell.specs.declared.bad_field.BadField.{BadField}
 use Rattle.tui_shell.specs.declared.ended.Ended.{Ended}
 use Rattle.tui_shell.specs.declared.ended.Ended.TheVariants as ended
 
+-- each ending of this program as one of every program's
 abbrev pub ending_of : Ended → Ending BadField
 ending_of ended.Ok = ending.Written written.Output
 ending_of ended.Usage = ending.Written written.Usage

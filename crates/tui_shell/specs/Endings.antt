@@ -37,6 +37,7 @@ abbrev pub show_task : ShowCommand → Task BadField
 show_task command.Scene = reads scene_reading
 show_task (command.Demo n) = tells (IsDemo n)
 
+-- the rules of both commands
 abbrev pub show_rules : Rules ShowCommand BadField
 show_rules = record { named = Names; task = show_task }
 

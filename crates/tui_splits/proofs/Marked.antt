@@ -5,7 +5,7 @@ use Rattle.std.specs.Prelude.{◌≢◌, ◌⊎◌, ◌↔◌, IsTrue, not, coun
 use Rattle.std.specs.List.{list_any}
 use Rattle.std.proofs.lemmas.List.Folds.{Any-from_list_any, list_any_at}
 use Rattle.std.proofs.lemmas.List.{get_or_default, get_or-set_other, get_or-set_same, length-set}
-use Rattle.std.proofs.lemmas.List.Elements.{All-get_or, All-more, All-nil}
+use Rattle.std.proofs.lemmas.List.Elements.{All-get_or, All-more}
 use Rattle.std.proofs.lemmas.List.Sums.{count_by_more_no, count_by_more_yes, sum_by-take-le}
 use Rattle.std.proofs.lemmas.Bool.{false≢true, cases_Bool, cases_eq, cond-true, cond-false}
 use Rattle.std.proofs.lemmas.Bool.Decides.{nat_tests}
@@ -17,13 +17,6 @@ eq_test a b h = grind (arith, nat_tests)
 
 ne_test : (a b : ℕ) → a ≢ b → (a == b) ≡ false
 ne_test a b h = grind (arith, nat_tests)
-
--- no number is marked
-pub none_marked : (marks : List Bool) (order : List ℕ) → All (λ m. m ≡ false) marks → AreMarked marks (take 0 order)
-none_marked marks order all = record {
-  below = All-nil (λ i. i < length marks);
-  often = λ i lt. sym (cond-false _ _ _ (All-get_or (λ m. m ≡ false) marks i false lt all));
-}
 
 -- one number more
 pub marked_more : (marks : List Bool) (order : List ℕ) (k leaf : ℕ) → k < length order → leaf ≡ get_or order k 0 → leaf < length marks →

@@ -10,6 +10,7 @@ use Rattle.tui_splits.specs.Panes.{PanesData}
 use Rattle.tui_splits.specs.declared.order_error.OrderError.{OrderError}
 use Rattle.tui_splits.specs.declared.order_error.OrderError.TheVariants.{NoMemory, NotOrder}
 
+-- no leaf has a shadow
 abbrev pub HaveNoShadow : List PlacedData → Type 0
 HaveNoShadow leaves = All (λ p. HasNoShadow p.item) leaves
 

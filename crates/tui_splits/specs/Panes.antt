@@ -10,9 +10,11 @@ pub record PanesData : Type 0 where
   pub area : Rect
   pub leaves : List PlacedData
 
+-- the leaves of a tree, each where it is placed in the area
 abbrev pub panes_of : Rect → PaneData → PanesData
 panes_of area pane = record { area = area; leaves = placed_of area pane }
 
+-- the areas of all leaves
 abbrev pub rects_of : List PlacedData → List Rect
 rects_of leaves = map (λ p. p.area) leaves
 

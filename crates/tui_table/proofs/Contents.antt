@@ -1,5 +1,5 @@
 -- The rows, the header and the footer of a table together.
-use Rattle.std.proofs.Common.{◌≡◌, ◌≤◌, ℕ, ◌+◌, min, ◌==◌, true, false, List, length, Option, ◌∙◌, ap, subst}
+use Rattle.std.proofs.Common.{◌≡◌, ◌≤◌, ℕ, ◌+◌, min, false, List, length, Option, ◌∙◌, ap, subst}
 use Rattle.tui_cells.specs.declared.rect.Rect.{Rect}
 use Rattle.tui_cells.specs.Buffer.{Screen}
 use Rattle.tui_cells.specs.declared.style.Style.{Style}
@@ -7,14 +7,14 @@ use Rattle.tui_cells.specs.Cell.{dress}
 use Rattle.tui_cells.specs.Layers.{KeptOutside, Painted, stroke}
 use Rattle.tui_cells.specs.Rect.{covers, is_empty}
 use Rattle.tui_cells.specs.Stays.{StayIn-stroke}
-use Rattle.tui_cells.proofs.Painting.{KeptOutside-weaker, Painted-kept, Painted-none, Painted-then}
+use Rattle.tui_cells.proofs.Painting.{KeptOutside-weaker, Painted-kept, Painted-then}
 use Rattle.tui_cells.proofs.Regions.{rows_out}
 use Rattle.tui_frames.specs.Block.{BlockData}
 use Rattle.tui_frames.specs.Footprint.{footprint_if}
 use Rattle.tui_frames.proofs.InBlock.{clip_kept}
 use Rattle.tui_layout.specs.declared.segment.Segment.{Segment}
 use Rattle.tui_layout.specs.declared.window.Window.{Window}
-use Rattle.tui_table.specs.Areas.{area_in, body_of, columns_in, gutter_of, height_if, room_of}
+use Rattle.tui_table.specs.Areas.{area_in, columns_in, gutter_of, height_if, room_of}
 use Rattle.tui_table.specs.Moves.{column_after, row_after, table_after, table_window}
 use Rattle.tui_table.specs.Row.{RowData}
 use Rattle.tui_table.specs.Strokes.{body_if, body_layers, content_layers, edge_layers, highlight_layers, rows_layers, selected_column, selected_row}
@@ -31,16 +31,6 @@ pub body_painted : (t : TableData) (body : Rect) (gutter : ℕ) (columns : List 
 unfolding body_layers
 body_painted t body gutter columns selected column first last end row place a b c le within e rs ps p q =
     Painted-then (rows_cut t body gutter columns selected first last end a b le within e p) (rw (← rs, ← ps) q)
-
-pub body_none : (t : TableData) (inner : Rect) (gutter : ℕ) (columns : List Segment) (s : TableState) (a : Screen) → (length t.rows == 0) ≡ true →
-    Painted (body_if t inner gutter columns s) a a
-body_none t inner gutter columns s a e = rw e (Painted-none a)
-
-pub body_some : (t : TableData) (inner body : Rect) (gutter : ℕ) (columns : List Segment) (s : TableState) (w : Window) (selected column : Option ℕ) (a b : Screen) →
-    (length t.rows == 0) ≡ false → body ≡ body_of t inner → w ≡ table_window t inner.height s → selected ≡ row_after t s → column ≡ column_after t s →
-    Painted (body_layers t body gutter columns selected column w.first w.end) a b → Painted (body_if t inner gutter columns s) a b
-body_some t inner body gutter columns s w selected column a b some bs ws ss cs p = rw (some, ← bs, ← ss, ← cs)
-    (subst (λ (k : Window). Painted (body_layers t body gutter columns selected column k.first k.end) a b) ws p)
 
 pub content_painted : (t : TableData) (inner : Rect) (s : TableState) (selected : Option ℕ) (gutter below : ℕ) (columns : List Segment) (a b c d : Screen) →
     is_empty inner ≡ false → selected ≡ row_after t s → gutter ≡ gutter_of t inner.width selected → columns ≡ columns_in t inner.width selected →

@@ -33,6 +33,7 @@ body_of t inner = rows_from inner (height_if t.header) (room_of t inner.height)
 unfoldable pub gutter_of : TableData → ℕ → Option ℕ → ℕ
 gutter_of t width selected = if should_add t.symbol_spacing (is_some selected) then min (text_width t.symbol) width else 0
 
+-- how many cells a row has, if there is one
 abbrev pub cells_if : Option RowData → ℕ
 cells_if None = 0
 cells_if (Some r) = length r.cells

@@ -23,6 +23,7 @@ cut_to count (Some place) = if count == 0 then None else Some (min place (count 
 abbrev pub row_after : TableData → TableState → Option ℕ
 row_after t s = cut_to (length t.rows) s.selected
 
+-- the selected column after a drawing
 abbrev pub column_after : TableData → TableState → Option ℕ
 column_after t s = cut_to (column_count t) s.selected_column
 

@@ -5,6 +5,7 @@ use Rattle.tui_cells.specs.declared.style.Style.{Style}
 use Rattle.tui_table.specs.Cell.{CellData, cell_data}
 use Rattle.tui_table.specs.declared.row.Row.{Row}
 
+-- a row as plain data
 pub record RowData : Type 0 where
   pub cells : List CellData
   pub height : ℕ
@@ -12,6 +13,7 @@ pub record RowData : Type 0 where
   pub bottom_margin : ℕ
   pub style : Style
 
+-- a row of the code as plain data
 abbrev pub row_data : Row → RowData
 row_data r = record {
   cells = map cell_data r.cells.items;
@@ -29,6 +31,7 @@ row_of cells = record { cells = cells; height = 1; top_margin = 0; bottom_margin
 abbrev pub row_height : RowData → ℕ
 row_height r = r.top_margin + r.height + r.bottom_margin
 
+-- the heights of all rows
 abbrev pub heights_of : List RowData → List ℕ
 heights_of rows = map row_height rows
 

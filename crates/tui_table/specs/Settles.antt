@@ -1,4 +1,4 @@
--- The state that a drawing of a table leaves stays in the next one, which draws the same strokes.
+-- Laws that the drawing of a table carries: the state that it leaves stays in the next one, which draws the same strokes.
 use Rattle.std.specs.Prelude.{◌≡◌, ℕ, ◌-◌, ◌==◌, Bool, true, false, List, length, Option, None, Some}
 use Rattle.std.proofs.Common.{refl, ap, sym, ◌∙◌}
 use Rattle.std.proofs.lemmas.List.{length-map}
@@ -19,10 +19,12 @@ use Rattle.tui_table.specs.declared.state.TableState.{TableState}
 abbrev pub shown : TableData → ℕ → TableState → TableState
 shown t height s = record { offset = (table_window t height s).first; selected = row_after t s; selected_column = column_after t s }
 
+-- the state after a drawing over an area that is not empty
 pub after_shown : (t : TableData) (inner : Rect) (s : TableState) → is_empty inner ≡ false → table_after t inner s ≡ shown t inner.height s
 unfolding table_after
 after_shown t inner s h = rw h refl
 
+-- over an empty area the state rests
 pub after_empty : (t : TableData) (inner : Rect) (s : TableState) → is_empty inner ≡ true → table_after t inner s ≡ s
 unfolding table_after
 after_empty t inner s h = rw h refl
@@ -32,9 +34,11 @@ cut_twice n None none e = refl
 cut_twice n (Some s) true e = rw e refl
 cut_twice n (Some s) false e = rw (e, e) (ap Some (cut_place s (n - 1)))
 
+-- a selected row is cut once
 pub row_again : (t : TableData) (s : TableState) → cut_to (length t.rows) (row_after t s) ≡ row_after t s
 row_again t s = cut_twice (length t.rows) s.selected (length t.rows == 0) refl
 
+-- so is a selected column
 pub column_again : (t : TableData) (s : TableState) → cut_to (column_count t) (column_after t s) ≡ column_after t s
 column_again t s = cut_twice (column_count t) s.selected_column (column_count t == 0) refl
 
@@ -56,6 +60,7 @@ window_by t height s false e =
     ap (λ c. window_of (heights_of t.rows) (room_of t height) (table_window t height s).first c 0) (same_cut t.rows s.selected e)
     ∙ window_settles (heights_of t.rows) (room_of t height) s.offset s.selected 0
 
+-- the rows that are shown stay in the next drawing
 pub window_again : (t : TableData) (height : ℕ) (s : TableState) → table_window t height (shown t height s) ≡ table_window t height s
 window_again t height s = window_by t height s (length t.rows == 0) refl
 
@@ -69,6 +74,7 @@ settled t inner s false h =
     ap (table_after t inner) (after_shown t inner s h)
     ∙ (after_shown t inner (shown t inner.height s) h ∙ (shown_again t inner.height s ∙ sym (after_shown t inner s h)))
 
+-- the state that a drawing leaves stays in the next one
 pub state_settles : (t : TableData) (inner : Rect) (s : TableState) → table_after t inner (table_after t inner s) ≡ table_after t inner s
 state_settles t inner s = settled t inner s (is_empty inner) refl
 
@@ -76,6 +82,7 @@ state_settles t inner s = settled t inner s (is_empty inner) refl
 pub table_rests : (t : TableData) (s : TableState) (clip : Rect) → is_empty clip ≡ true → table_after t (inner_of t.block clip) s ≡ s
 table_rests t s clip e = after_empty t (inner_of t.block clip) s (inner_empty t.block clip e)
 
+-- likewise inside the block
 pub table_settles : (t : TableData) (s : TableState) (clip : Rect) →
     table_after t (inner_of t.block clip) (table_after t (inner_of t.block clip) s) ≡ table_after t (inner_of t.block clip) s
 table_settles t s clip = state_settles t (inner_of t.block clip) s

@@ -14,10 +14,12 @@ abbrev pub row_of_cell : Option (ℕ × ℕ) → Option ℕ
 row_of_cell None = None
 row_of_cell (Some cell) = Some cell.0
 
+-- the column of a selected cell
 abbrev pub column_of_cell : Option (ℕ × ℕ) → Option ℕ
 column_of_cell None = None
 column_of_cell (Some cell) = Some cell.1
 
+-- a selected row and a selected column as a cell
 abbrev pub selected_cell : Option ℕ → Option ℕ → Option (ℕ × ℕ)
 selected_cell (Some row) (Some column) = Some (row, column)
 selected_cell _ _ = None
@@ -26,8 +28,10 @@ selected_cell _ _ = None
 abbrev pub LendsOffset : MutBor TableState → MutBor ℕ → Fml
 LendsOffset s r = Lends the_row usize s r (λ offset. record s.now { offset = offset })
 
+-- what is written through the reference becomes the selected row
 abbrev pub LendsSelected : MutBor TableState → MutBor (Option ℕ) → Fml
 LendsSelected s r = Lends the_row (OptionOf usize) s r (λ selected. record s.now { selected = selected })
 
+-- what is written through the reference becomes the selected column
 abbrev pub LendsColumn : MutBor TableState → MutBor (Option ℕ) → Fml
 LendsColumn s r = Lends the_row (OptionOf usize) s r (λ column. record s.now { selected_column = column })

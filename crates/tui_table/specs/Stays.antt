@@ -1,4 +1,4 @@
--- The strokes of a table stay in its footprint.
+-- Laws that the drawing of a table carries: its strokes stay in its footprint.
 use Rattle.std.specs.Prelude.{
   ◌≡◌,
   ℕ,
@@ -76,6 +76,7 @@ in_columns r from count s = StayIn-wider (λ x y out. columns_out r from count x
 dress_stays : (area : Rect) (style : Style) → StayIn (covers area) (dress_if style (Some area))
 dress_stays area style = StayIn-stroke (covers area) (dress style) (λ x y out. out)
 
+-- a text over an area stays there
 pub over_stays : (area : Rect) (style : Style) (text : TextData) → StayIn (covers area) (text_over area style text)
 unfolding text_over
 over_stays area style text = StayIn-append (dress_stays area style) (text_stays area text)
@@ -160,6 +161,7 @@ highlights_stay t body row column p q =
     StayIn-append (dress_if_stays body t.row_style row p)
     (StayIn-append (dress_if_stays body t.column_style column q) (dress_if_stays body t.cell_style (both_areas row column) (both_out body row column p)))
 
+-- the rows stay in the body
 pub body_stays : (t : TableData) (body : Rect) (gutter : ℕ) (columns : List Segment) (selected column : Option ℕ) (first last : ℕ) →
     StayIn (covers body) (body_layers t body gutter columns selected column first last)
 unfolding body_layers
@@ -183,10 +185,12 @@ parts_stay t inner gutter columns s false =
     StayIn-append (edge_stays t inner gutter columns 0 t.header)
     (StayIn-append (body_if_stays t inner gutter columns s (length t.rows == 0)) (edge_stays t inner gutter columns _ t.footer))
 
+-- what stands inside the block stays there
 pub content_stays : (t : TableData) (inner : Rect) (s : TableState) → StayIn (covers inner) (content_layers t inner s)
 unfolding content_layers
 content_stays t inner s = parts_stay t inner (gutter_of t inner.width (row_after t s)) (columns_in t inner.width (row_after t s)) s (is_empty inner)
 
+-- a table changes cells of its footprint alone
 pub table_stays : (t : TableData) (s : TableState) (clip : Rect) → StayIn (footprint_if t.block clip) (table_layers t s clip)
 table_stays t s clip =
     StayIn-append (clip_stays t.block clip (StayIn-stroke (covers clip) (dress t.style) (λ x y out. out)))

@@ -81,10 +81,12 @@ edge_layers t inner gutter columns from (Some r) = row_layers t gutter columns t
 abbrev pub row_area : TableData → Rect → ℕ → ℕ → RowData → Rect
 row_area t body first i r = area_in body (total (heights_of t.rows) first i) r
 
+-- whether the selected one is number i
 abbrev pub is_at : Option ℕ → ℕ → Bool
 is_at None i = false
 is_at (Some s) i = s == i
 
+-- a row of the body, by its number
 abbrev pub row_in : TableData → Rect → ℕ → List Segment → Option ℕ → ℕ → ℕ × RowData → List Layer
 row_in t body gutter columns selected first (i, r) = row_layers t gutter columns false (is_at selected i) (row_area t body first i r) r
 
@@ -98,14 +100,17 @@ abbrev pub selected_row : TableData → Rect → ℕ → Option ℕ → Option R
 selected_row t body first None = None
 selected_row t body first (Some s) = option_map (row_area t body first s) (slice_get t.rows s)
 
+-- the area of the selected column, if there is one
 abbrev pub selected_column : Rect → ℕ → List Segment → Option ℕ → Option Rect
 selected_column body gutter columns None = None
 selected_column body gutter columns (Some s) = option_map (λ k. columns_from body (gutter + k.start) k.width) (slice_get columns s)
 
+-- the area that two have in common, if both are there
 abbrev pub both_areas : Option Rect → Option Rect → Option Rect
 both_areas (Some a) (Some b) = Some (intersection_of a b)
 both_areas _ _ = None
 
+-- a style over an area, if there is one
 abbrev pub dress_if : Style → Option Rect → List Layer
 dress_if style None = []
 dress_if style (Some area) = stroke (covers area) (dress style)

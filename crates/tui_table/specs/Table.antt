@@ -12,6 +12,7 @@ use Rattle.tui_table.specs.Row.{RowData, row_data}
 use Rattle.tui_table.specs.declared.table.Table.{Table}
 use Rattle.tui_text.specs.Text.{TextData, empty_text, text_data}
 
+-- a table as plain data
 pub record TableData : Type 0 where
   pub rows : List RowData
   pub header : Option RowData
@@ -27,6 +28,7 @@ pub record TableData : Type 0 where
   pub symbol_spacing : HighlightSpacing
   pub flex : Flex
 
+-- a table of the code as plain data
 abbrev pub table_data : Table → TableData
 table_data t = record {
   rows = map row_data t.rows;

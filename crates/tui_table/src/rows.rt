@@ -15,7 +15,7 @@ use std::fmt;
 use std::hash::{Hash, Hasher};
 use std::marker::Model;
 use tui_cells::Mem;
-use tui_layout::{Sums, Window, uncounted_window};
+use tui_layout::{Sums, Window, window_of};
 
 /// Rows, the sums of their heights, and the most cells of any of them. The last two follow from the rows, so they count neither in
 /// a comparison nor in a hash, and `Debug` leaves them out.
@@ -82,7 +82,7 @@ impl<'a> Rows<'a> {
         ensures found { result ≡ window_of (heights_of (map row_data self.now)) room offset selected 0 }
         ensures order { (result.first ≤ result.end) × (result.end ≤ length self.now) }
     {
-        uncounted_window(&self.heights, u64::from(room), offset, selected, 0)
+        window_of(&self.heights, u64::from(room), offset, selected, 0)
     }
 
     /// Equal rows of their own. `NoMemory` where there is none for them.

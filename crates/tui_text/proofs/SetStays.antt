@@ -11,7 +11,7 @@ use Rattle.tui_cells.proofs.Regions.{StayIn-wider}
 use Rattle.tui_text.specs.Grapheme.{width_of}
 use Rattle.tui_text.specs.Graphemes.{clusters, glyph_in}
 use Rattle.tui_text.specs.Painting.{cells_at, glyph_at}
-use Rattle.tui_text.specs.Setting.{room_in, set_cluster, set_clusters, set_column, set_end, set_layers, spans_end, spans_layers}
+use Rattle.tui_text.specs.Setting.{room_in, set_cluster, set_clusters, set_end, set_layers, spans_layers}
 use Rattle.tui_text.specs.Span.{SpanData}
 use Rattle.tui_text.proofs.RowStays.{glyph_stays}
 
@@ -32,27 +32,6 @@ set_end_within x room [] = (omega arith, omega arith)
 set_end_within x room (c ∷ cs) =
     let next = set_end_within (x + width_of c) (room - width_of c) cs in
     end_from x room (width_of c) (nat_le (width_of c) room) (set_end (x + width_of c) (room - width_of c) cs) refl next.0 next.1
-
-pub spans_end_within : (x room : ℕ) (spans : List SpanData) → (x ≤ spans_end x room spans) × (spans_end x room spans ≤ x + room)
-unfolding spans_end
-spans_end_within x room [] = (omega arith, omega arith)
-spans_end_within x room (s ∷ ss) =
-    let end = set_end_within x room (clusters s.content) in
-    let next = set_end x room (clusters s.content) in
-    let rest = spans_end_within next (room - (next - x)) ss in
-    (omega (arith, end.0, rest.0), omega (arith, end.0, end.1, rest.1))
-
-column_from : (clip : Rect) (at : Position) (spans : List SpanData) (room : ℕ) (inside : Bool) → covers clip at.x at.y ≡ inside → at.x ≤ right_of clip
-    → (at.x ≤ (if inside then spans_end at.x (room_in clip at.x room) spans else at.x)) × ((if inside then spans_end at.x (room_in clip at.x room) spans else at.x) ≤ right_of clip)
-column_from clip at spans room true e le =
-    let end = spans_end_within at.x (room_in clip at.x room) spans in
-    (end.0, omega (arith, end.1))
-column_from clip at spans room false e le = (omega arith, le)
-
--- what is set before the right edge of a clip ends there at the latest
-pub set_column_within : (clip : Rect) (at : Position) (spans : List SpanData) (room : ℕ) → at.x ≤ right_of clip
-    → (at.x ≤ set_column clip at spans room) × (set_column clip at spans room ≤ right_of clip)
-set_column_within clip at spans room le = column_from clip at spans room (covers clip at.x at.y) refl le
 
 first_inside : (row : Rect) (x room w : ℕ) → Inside row x room → w ≤ room → nat_lt 0 w ≡ true → covers row x row.y ≡ true
 first_inside row x room w i le e = let p = i.left in let q = i.right in let h = i.high in grind (arith, nat_tests)

@@ -62,6 +62,7 @@ column_at row skip place width =
     let x = row.x + (place - skip) in
     if nat_lt 0 width && (nat_le skip place && (covers row x row.y && covers row (x + (width - 1)) row.y)) then Some x else None
 
+-- a grapheme at a place, if it lies whole inside the row
 abbrev pub shown_glyph : Rect → ℕ → ℕ → Glyph → List Layer
 shown_glyph row skip place g = option_map_or (λ x. glyph_at x row.y g) (column_at row skip place (glyph_width g)) []
 

@@ -39,6 +39,7 @@ spans_layers x y room (s ∷ ss) =
     let next = set_end x room (clusters s.content) in
     set_clusters x y room s.style (clusters s.content) ++ spans_layers next y (room - (next - x)) ss
 
+-- the column after the last one that spans use
 unfoldable pub spans_end : ℕ → ℕ → List SpanData → ℕ
 spans_end x room [] = x
 spans_end x room (s ∷ ss) = let next = set_end x room (clusters s.content) in spans_end next (room - (next - x)) ss
@@ -67,6 +68,7 @@ styled_text text style = record { content = text; style = style } ∷ []
 abbrev pub in_line : Style → SpanData → SpanData
 in_line style span = record { content = span.content; style = patched style span.style }
 
+-- the spans of a line in their styles over the line's
 abbrev pub line_spans : LineData → List SpanData
 line_spans line = map (in_line line.style) line.spans
 

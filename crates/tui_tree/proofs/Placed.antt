@@ -60,17 +60,6 @@ pub near_fits : (direction : Direction) (area : Rect) (side : ℕ) (column : Seg
 near_fits Horizontal area side column e h a b = omega arith
 near_fits Vertical area side column e h a b = omega arith
 
-part_of_fits : (direction : Direction) (area : Rect) (side : ℕ) (column : Segment) → side ≡ side_of direction area → column.start + column.width ≤ side
-    → area.x + area.width ≤ 65535 → area.y + area.height ≤ 65535
-    → ((part_of direction area column).x + (part_of direction area column).width ≤ 65535) × ((part_of direction area column).y + (part_of direction area column).height ≤ 65535)
-part_of_fits Horizontal area side column e h a b = (omega arith, omega arith)
-part_of_fits Vertical area side column e h a b = (omega arith, omega arith)
-
-pub part_fits : (direction : Direction) (area r : Rect) (side : ℕ) (column : Segment) → r ≡ part_of direction area column → side ≡ side_of direction area → column.start + column.width ≤ side
-    → area.x + area.width ≤ 65535 → area.y + area.height ≤ 65535 → (r.x + r.width ≤ 65535) × (r.y + r.height ≤ 65535)
-part_fits direction area r side column is e h a b =
-    subst (λ (q : Rect). (q.x + q.width ≤ 65535) × (q.y + q.height ≤ 65535)) (sym is) (part_of_fits direction area side column e h a b)
-
 -- a leaf
 pub leaf_placed : {T E : Type 0} (result : Result T E) (area : Rect) (pane : Pane) (item : Item) (old new : List PlacedData) → pane ≡ Leaf item
     → OnOk result (new ≡ old ++ record { area = area; item = item_data item } ∷ []) → OnOk result (new ≡ old ++ place_in area (pane_data pane))

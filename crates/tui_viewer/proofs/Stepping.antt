@@ -1,5 +1,5 @@
 -- What is shown next.
-use Rattle.std.proofs.Common.{◌≡◌, ℕ, ◌-◌, ◌==◌, min, List, length, sym, ap, ◌∙◌, subst, Option, None, Some, Result, IfOk}
+use Rattle.std.proofs.Common.{◌≡◌, ℕ, ◌-◌, ◌==◌, List, length, sym, ap, ◌∙◌, subst, Option, None, Some, Result, IfOk}
 use Rattle.std.specs.Prelude.{map, if◌then◌else◌}
 use Rattle.tui_lists.specs.ListItem.{heights_of}
 use Rattle.tui_viewer.specs.Entry.{EntryData}
@@ -7,8 +7,7 @@ use Rattle.tui_viewer.specs.Laws.{IsPlace, IsSound}
 use Rattle.tui_viewer.specs.Lines.{HavePlaces}
 use Rattle.tui_viewer.specs.Screen.{body_lines, sizes_of, title_item}
 use Rattle.tui_viewer.specs.Shown.{pager_data}
-use Rattle.tui_viewer.specs.Steps.{lines_at, most_in, most_of, moved_by, pressed, resized, settled, started}
-use Rattle.tui_viewer.specs.declared.key.Key.{Key}
+use Rattle.tui_viewer.specs.Steps.{lines_at, most_in, most_of, settled, started}
 use Rattle.tui_viewer.specs.declared.shown.Shown.{Shown}
 use Rattle.tui_viewer.specs.declared.state.PagerState.{PagerState}
 use Rattle.tui_viewer.proofs.Sound.{count_heights}
@@ -29,25 +28,6 @@ start_is entries width height count place s c p e =
     let there : place ≡ (if length (heights_of (map title_item entries)) == 0 then None else Some 0) =
     p ∙ ap (λ n. if n == 0 then None else Some 0) (c ∙ sym (count_heights entries)) in
     e ∙ ap (λ o. settled (heights_of (map title_item entries)) (height - 3) (record { selected = o; offset = 0; line = 0 })) there
-
-pub pressed_is : (entries : List EntryData) (width height count most : ℕ) (key : Key) (s m t : PagerState) → count ≡ length entries →
-    most ≡ most_of (sizes_of entries width height) s.selected →
-    m ≡ moved_by (height - 3) count most key s →
-    t ≡ settled (heights_of (map title_item entries)) (height - 3) m →
-    t ≡ pressed (sizes_of entries width height) key s
-pressed_is entries width height count most key s m t c k a b =
-    let heights = heights_of (map title_item entries) in
-    b ∙ ap (settled heights (height - 3)) (a
-    ∙ (ap (λ n. moved_by (height - 3) n most key s) (c ∙ sym (count_heights entries))
-    ∙ ap (λ n. moved_by (height - 3) (length heights) n key s) k))
-
-pub resized_is : (entries : List EntryData) (width height most line : ℕ) (s t : PagerState) →
-    most ≡ most_of (sizes_of entries width height) s.selected → line ≡ min s.line most →
-    t ≡ settled (heights_of (map title_item entries)) (height - 3) (record { selected = s.selected; offset = s.offset; line = line }) →
-    t ≡ resized (sizes_of entries width height) s
-resized_is entries width height most line s t k l b =
-    b ∙ ap (λ n. settled (heights_of (map title_item entries)) (height - 3) (record { selected = s.selected; offset = s.offset; line = n }))
-    (l ∙ ap (min s.line) k)
 
 -- a state that is the one of a sound pager is sound
 pub sound_as : (entries : List EntryData) (width height : ℕ) (s t : PagerState) → s ≡ t → IsSound (sizes_of entries width height) t →

@@ -27,6 +27,7 @@ pager_of entries width height = record {
   state = started (sizes_of entries width height);
 }
 
+-- the pager after a key, or with another size
 abbrev pub after_call : PagerData → Call → PagerData
 after_call p (press key) = record p { state = pressed (sizes_of p.entries p.width p.height) key p.state }
 after_call p (resize width height) = record p {
@@ -51,6 +52,7 @@ pub record IsSound (z : Sizes) (s : PagerState) : Type 0 where
   pub line : s.line ≤ most_of z s.selected
   pub follows : s.offset ≡ (window_of z.heights z.rows s.offset s.selected 1).first
 
+-- a pager whose state is sound
 abbrev pub IsSoundPager : PagerData → Type 0
 IsSoundPager p = IsSound (sizes_of p.entries p.width p.height) p.state
 

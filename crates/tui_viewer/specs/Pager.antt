@@ -3,6 +3,7 @@ use Rattle.std.specs.Prelude.{ℕ, List}
 use Rattle.tui_viewer.specs.Entry.{EntryData}
 use Rattle.tui_viewer.specs.declared.state.PagerState.{PagerState}
 
+-- a pager as plain data
 pub record PagerData : Type 0 where
   pub width : ℕ
   pub height : ℕ

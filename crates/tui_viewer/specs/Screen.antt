@@ -51,15 +51,19 @@ use Rattle.tui_viewer.specs.declared.state.PagerState.{PagerState}
 abbrev pub page_area : ℕ → ℕ → Rect
 page_area width height = record { x = 0; y = 0; width = width; height = height }
 
+-- the left third but for the last row
 abbrev pub titles_area : ℕ → ℕ → Rect
 titles_area width height = record { x = 0; y = 0; width = width / 3; height = height - 1 }
 
+-- what is right of it
 abbrev pub body_area : ℕ → ℕ → Rect
 body_area width height = record { x = width / 3; y = 0; width = width - width / 3; height = height - 1 }
 
+-- the last column between the corners of the body's block
 abbrev pub bar_area : ℕ → ℕ → Rect
 bar_area width height = record { x = width - 1; y = 1; width = 1; height = height - 3 }
 
+-- the row below both
 abbrev pub last_row : ℕ → ℕ → Rect
 last_row width height = record { x = 0; y = height - 1; width = width; height = 1 }
 
@@ -67,9 +71,11 @@ last_row width height = record { x = 0; y = height - 1; width = width; height = 
 abbrev pub title_item : EntryData → ListItemData
 title_item e = record { content = raw_text e.title; style = no_style }
 
+-- the block around the titles
 abbrev pub titles_block : BlockData
 titles_block = record (block_of 15) { titles = record { line = raw_line (codes "Entries"); position = None } ∷ [] }
 
+-- a list of items inside it
 abbrev pub list_over : List ListItemData → ListData
 list_over items = record (list_of items) {
   block = Some titles_block;
@@ -78,9 +84,11 @@ list_over items = record (list_of items) {
   padding = 1;
 }
 
+-- the list of the titles
 abbrev pub titles_list : List EntryData → ListData
 titles_list entries = list_over (map title_item entries)
 
+-- the state of that list
 abbrev pub list_state : PagerState → ListState
 list_state s = record { offset = s.offset; selected = s.selected }
 
@@ -89,9 +97,11 @@ abbrev pub body_of : List EntryData → Option ℕ → List ℕ
 body_of entries None = []
 body_of entries (Some place) = (slice_index_or entries place (record { title = []; body = [] })).body
 
+-- the body from a line on, without its block
 abbrev pub unframed : List ℕ → ℕ → ParagraphData
 unframed body line = record (paragraph_of (raw_text body)) { wrap = Some (at_blanks true); scroll_y = line }
 
+-- the body inside its block
 abbrev pub body_paragraph : List ℕ → ℕ → ParagraphData
 body_paragraph body line = record (unframed body line) { block = Some (block_of 15) }
 
@@ -99,6 +109,7 @@ body_paragraph body line = record (unframed body line) { block = Some (block_of 
 abbrev pub bar : ScrollbarData
 bar = record (scrollbar_of VerticalRight) { begin = None; end = None }
 
+-- the scrollbar's state: as many places as there are lines to begin at
 abbrev pub bar_state : ℕ → ℕ → ℕ → ScrollbarState
 bar_state rows most line = record { content_length = most + 1; position = line; viewport_content_length = rows }
 
@@ -106,9 +117,11 @@ bar_state rows most line = record { content_length = most + 1; position = line; 
 abbrev pub line_count : ℕ → List ℕ → ℕ
 line_count width body = length (wrap_text width (at_blanks true) Left (raw_text body))
 
+-- how many lines each body has
 abbrev pub body_lines : List EntryData → ℕ → List ℕ
 body_lines entries width = map (λ e. line_count (width - width / 3 - 2) e.body) entries
 
+-- what the steps need to know of a pager
 abbrev pub sizes_of : List EntryData → ℕ → ℕ → Sizes
 sizes_of entries width height = record {
   rows = height - 3;
@@ -121,6 +134,7 @@ abbrev pub number_of : Option ℕ → ℕ
 number_of None = 0
 number_of (Some place) = place + 1
 
+-- the number of the selected entry and that of all
 abbrev pub place_text : Option ℕ → ℕ → List ℕ
 place_text selected count = decimal (number_of selected) ++ (codes "/" ++ decimal count)
 

@@ -7,6 +7,7 @@ use Rattle.tui_viewer.specs.Pager.{PagerData}
 use Rattle.tui_viewer.specs.Screen.{IsDrawn, page_area, pager_layers}
 use Rattle.tui_viewer.specs.declared.shown.Shown.{Shown}
 
+-- what is kept, with its entries, as plain data
 abbrev pub pager_data : List EntryData → Shown → PagerData
 pager_data entries s = record { width = s.width; height = s.height; entries = entries; state = s.state }
 

@@ -20,6 +20,7 @@ abbrev pub lines_at : List ℕ → Option ℕ → ℕ
 lines_at lines None = 0
 lines_at lines (Some place) = slice_index lines place
 
+-- the greatest line from which the selected body is shown
 abbrev pub most_of : Sizes → Option ℕ → ℕ
 most_of z selected = most_in z.rows (lines_at z.lines selected)
 
@@ -33,6 +34,7 @@ selected_by rows count First place = 0
 selected_by rows count Last place = count - 1
 selected_by rows count _ place = place
 
+-- the line after a key that moves the body
 abbrev pub line_by : ℕ → Key → ℕ → ℕ
 line_by most LineUp line = line - 1
 line_by most LineDown line = min (line + 1) most
@@ -40,6 +42,7 @@ line_by most BodyTop line = 0
 line_by most BodyEnd line = most
 line_by most _ line = line
 
+-- the state after a key, before the list is scrolled; nothing moves without entries
 abbrev pub moved_from : ℕ → ℕ → ℕ → Key → PagerState → Option ℕ → PagerState
 moved_from rows count most key s None = s
 moved_from rows count most key s (Some place) = record {
@@ -64,8 +67,10 @@ first_place heights = if length heights == 0 then None else Some 0
 abbrev pub started : Sizes → PagerState
 started z = settled z.heights z.rows (record { selected = first_place z.heights; offset = 0; line = 0 })
 
+-- the state after a key
 abbrev pub pressed : Sizes → Key → PagerState → PagerState
 pressed z key s = settled z.heights z.rows (moved_by z.rows (length z.heights) (most_of z s.selected) key s)
 
+-- the state at another size
 abbrev pub resized : Sizes → PagerState → PagerState
 resized z s = settled z.heights z.rows (record { selected = s.selected; offset = s.offset; line = min s.line (most_of z s.selected) })

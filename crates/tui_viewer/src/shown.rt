@@ -155,7 +155,8 @@ impl Shown {
         requires sound { IsSoundPager (record { width = self.old.width; height = height; entries = contents.now; state = state }) }
         requires places { HavePlaces contents.now self.old.width state.selected self.old.places.items }
         ensures up_to_date { OnOk result (IsUpToDate contents.now self.new) }
-        ensures is { OnOk result (pager_data contents.now self.new ≡ record { width = self.old.width; height = height; entries = contents.now; state = state }) }
+        ensures is { OnOk result (pager_data contents.now self.new
+            ≡ record { width = self.old.width; height = height; entries = contents.now; state = state }) }
         ensures err { OnErr result (self.new ≡ self.old) }
     {
         let screen = contents.draw(alloc, self.width, height, state, &self.places)?;

@@ -5,7 +5,7 @@ ghost use Rattle.tui_viewer.specs.Steps.{line_by, most_in, moved_by, selected_by
 
 use crate::key::Key;
 use crate::state::PagerState;
-use tui_layout::{Sums, uncounted_window};
+use tui_layout::{Sums, window_of};
 
 /// The greatest line that a body of so many lines may begin with.
 pub(crate) fn greatest_line(lines: usize, rows: u16) -> u16
@@ -65,7 +65,7 @@ fn moved_line(most: u16, key: Key, line: u16) -> u16
 pub(crate) fn follow(titles: &Sums, rows: u16, state: PagerState) -> PagerState
     ensures { result ≡ settled titles.now rows state }
 {
-    let window = uncounted_window(titles, u64::from(rows), state.offset, state.selected, 1);
+    let window = window_of(titles, u64::from(rows), state.offset, state.selected, 1);
     PagerState {
         offset: window.first,
         ..state

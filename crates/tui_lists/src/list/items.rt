@@ -15,7 +15,7 @@ use std::alloc::Global;
 use std::fmt;
 use std::hash::{Hash, Hasher};
 use tui_cells::Mem;
-use tui_layout::{Sums, Window, uncounted_window};
+use tui_layout::{Sums, Window, window_of};
 
 /// Items with the sums of their heights, which are made once and serve every drawing.
 #[derive(Drop)]
@@ -60,7 +60,7 @@ impl<'a> Items<'a> {
         ensures order { (result.first ≤ result.end) × (result.end ≤ length (items_data self.now)) }
         ensures first { 0 < length (items_data self.now) → result.first < length (items_data self.now) }
     {
-        uncounted_window(&self.heights, u64::from(room), offset, selected, padding)
+        window_of(&self.heights, u64::from(room), offset, selected, padding)
     }
 
     /// Equal items of their own. `NoMemory` where there is none for them or for the sums.

@@ -19,6 +19,7 @@ use Rattle.tui_schema.specs.Kinds.Symbol.{symbol_of}
 use Rattle.tui_json.specs.Refusals.{◌>>=◌}
 use Rattle.tui_schema.specs.Refusals.{Refusal, required, optional}
 
+-- a chart with its groups
 unfoldable pub chart_with_groups : Option ℕ → Data → Result BarChartData Refusal
 chart_with_groups i d = do
   block ← optional block_of i fields.Block d
@@ -55,12 +56,14 @@ dressed_chart c i d = do
     direction = unwrap_or direction Vertical;
   })
 
+-- all fields of a bar chart
 unfoldable pub shown_chart : Option ℕ → Data → Result BarChartData Refusal
 shown_chart i d = do
   with_groups ← chart_with_groups i d
   spaced ← spaced_chart with_groups i d
   dressed_chart spaced i d
 
+-- a sparkline with its bars
 unfoldable pub sparkline_with_bars : Option ℕ → Data → Result SparklineData Refusal
 sparkline_with_bars i d = do
   block ← optional block_of i fields.Block d
@@ -83,6 +86,7 @@ drawn_sparkline s i d = do
     direction = unwrap_or direction LeftToRight;
   })
 
+-- all fields of a sparkline
 unfoldable pub shown_sparkline : Option ℕ → Data → Result SparklineData Refusal
 shown_sparkline i d = do
   with_bars ← sparkline_with_bars i d

@@ -32,6 +32,7 @@ abbrev pub gauge_with_ratio : Option ℕ → GaugeData → Option Fraction → R
 gauge_with_ratio i g None = Ok g
 gauge_with_ratio i g (Some f) = if_holds (is_share f) i fields.Ratio (record g { num = f.num; den = f.den })
 
+-- a gauge with a percentage, if one is given
 abbrev pub gauge_with_percent : Option ℕ → GaugeData → Option ℕ → Result GaugeData Refusal
 gauge_with_percent i g None = Ok g
 gauge_with_percent i g (Some percent) = if_holds (nat_le percent 100) i fields.Percent (record g { num = percent; den = 100 })
@@ -64,6 +65,7 @@ filled_gauge g i d = do
     use_unicode = unwrap_or use_unicode false;
   })
 
+-- all fields of a gauge
 unfoldable pub shown_gauge : Option ℕ → Data → Result GaugeData Refusal
 shown_gauge i d = do
   framed ← framed_gauge i d
@@ -74,6 +76,7 @@ abbrev pub line_with_ratio : Option ℕ → LineGaugeData → Option Fraction �
 line_with_ratio i g None = Ok g
 line_with_ratio i g (Some f) = if_holds (is_share f) i fields.Ratio (record g { num = f.num; den = f.den })
 
+-- a line gauge with its share
 unfoldable pub shared_line : Option ℕ → Data → Result LineGaugeData Refusal
 shared_line i d = do
   ratio ← optional fraction_of i fields.Ratio d
@@ -106,6 +109,7 @@ framed_line i d = do
     style = unwrap_or style no_style;
   })
 
+-- all fields of a line gauge
 unfoldable pub shown_line_gauge : Option ℕ → Data → Result LineGaugeData Refusal
 shown_line_gauge i d = do
   framed ← framed_line i d

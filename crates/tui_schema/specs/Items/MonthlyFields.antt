@@ -44,6 +44,7 @@ dressed_month m i d = do
     },
   )
 
+-- all fields of a month, with the styles of its dates
 unfoldable pub shown_monthly : Option ℕ → Data → Result (DatedStyles × MonthlyData) Refusal
 shown_monthly i d = do
   month ← month_with_events i d

@@ -6,6 +6,7 @@ use Rattle.tui_schema.specs.declared.items.widget.Widget.{Widget}
 use Rattle.tui_schema.specs.declared.items.widget.Widget.TheVariants as widgets
 use Rattle.tui_json.specs.Members.{named}
 
+-- each widget by its name
 abbrev pub widget_names : List (List ℕ × Widget)
 widget_names = (codes "clear", widgets.Clear) ∷ (codes "fill", widgets.Fill) ∷ (codes "block", widgets.Block)
     ∷ (codes "paragraph", widgets.Paragraph) ∷ (codes "list", widgets.List) ∷ (codes "table", widgets.Table) ∷ (codes "tabs", widgets.Tabs)

@@ -43,6 +43,7 @@ spaced_tabs t i d = do
     padding_right = raw_line (unwrap_or right space);
   })
 
+-- all fields of tabs
 unfoldable pub shown_tabs : Option ℕ → Data → Result TabsData Refusal
 shown_tabs i d = do
   with_titles ← tabs_with_titles i d

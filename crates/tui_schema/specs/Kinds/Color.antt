@@ -26,12 +26,14 @@ digit_of b =
     else (if nat_le 97 b && nat_le b 102 then Some (b - 87)
     else (if nat_le 65 b && nat_le b 70 then Some (b - 55) else None))
 
+-- a byte by its two hexadecimal digits
 abbrev pub byte_of : ℕ → ℕ → Option ℕ
 byte_of high low = do
   h ← digit_of high
   l ← digit_of low
   Some (16 * h + l)
 
+-- a colour by `#` and six hexadecimal digits
 unfoldable pub color_of_hex : List ℕ → Option Color
 color_of_hex (mark ∷ r ∷ r' ∷ g ∷ g' ∷ b ∷ b' ∷ []) = if mark == 35 then (do
   red ← byte_of r r'
@@ -40,9 +42,11 @@ color_of_hex (mark ∷ r ∷ r' ∷ g ∷ g' ∷ b ∷ b' ∷ []) = if mark == 3
   Some (colors.Rgb red green blue)) else None
 color_of_hex _ = None
 
+-- a colour by its place in the palette
 abbrev pub indexed : ℕ → Option Color
 indexed n = if nat_lt n 256 then Some (colors.Indexed n) else None
 
+-- a colour by a text or by a number
 unfoldable pub color_of : Data → Option Color
 color_of (string s) = option_or (color_named s) (color_of_hex s)
 color_of (number n) = option_and_then indexed (as_u64 n)

@@ -17,6 +17,7 @@ effect_names =
     (codes "overlay", overlay) ∷ (codes "dimmed", dimmed) ∷ (codes "block", symbol (utf8 "█")) ∷ (codes "light_shade", symbol (utf8 "░"))
     ∷ (codes "medium_shade", symbol (utf8 "▒")) ∷ (codes "dark_shade", symbol (utf8 "▓")) ∷ []
 
+-- an effect by its name; a symbol has a member of its own
 abbrev pub effect_by : List ℕ → Data → Option KindData
 effect_by name d =
     if bytes_eq name (codes "symbol") then (do

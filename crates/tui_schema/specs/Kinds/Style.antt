@@ -10,6 +10,7 @@ use Rattle.tui_json.specs.Members.{◌>>=◌, optional_member}
 use Rattle.tui_schema.specs.Kinds.Color.{color_of}
 use Rattle.tui_schema.specs.Kinds.Modifier.{modifiers_of}
 
+-- no modifier where none is given
 abbrev pub modifiers_or_none : Option Modifier → Modifier
 modifiers_or_none None = no_modifier
 modifiers_or_none (Some modifiers) = modifiers

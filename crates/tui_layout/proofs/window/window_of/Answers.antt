@@ -1,6 +1,6 @@
 use Rattle.tui_layout.proofs.Found.{is_found}
 use Rattle.tui_layout.proofs.Settling.{begins_within, ends_in_order}
-use Rattle.tui_layout.proofs.window.uncounted_window.Goals as goal
+use Rattle.tui_layout.proofs.window.window_of.Goals as goal
 
 pub returns-clause-found : goal.returns-clause-found
 returns-clause-found c = is_found _ _ _ _ _ _ c.window_with.ensures
