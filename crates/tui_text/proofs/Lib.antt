@@ -1,7 +1,10 @@
 pub mod EmptyText
 pub mod OneByte
 pub mod PartClusters
+pub mod PlainChars
+pub mod PlainParts
 pub mod LightTexts
+pub mod LoneChars
 pub mod Seams
 pub mod Texts
 pub mod RowStays

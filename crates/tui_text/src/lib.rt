@@ -7,6 +7,7 @@ pub mod grapheme;
 pub mod graphemes;
 pub mod line;
 pub mod painting;
+mod plain;
 mod printable;
 pub mod setting;
 pub mod span;

@@ -1,0 +1,43 @@
+-- Characters that no rule on grapheme clusters joins with one another.
+use Rattle.std.specs.Prelude.{◌≡◌, ℕ, Bool, true, List, [], ◌∷◌, ◌++◌, take, drop, encode_utf8, encode_utf8_all, chars}
+use Rattle.std.specs.Str.{IsCharBoundary}
+use Rattle.ucd_table.specs.Rows.{Range, in_ranges}
+
+-- ranges without controls, marks, jamo, prepended characters, flags, and consonants and linkers of conjuncts, and with no white
+-- space but U+0020: most of Latin, Greek, Cyrillic and CJK, their punctuation, and symbols
+abbrev pub plain_ranges : List Range
+plain_ranges =
+    (0x0020, 0x007E)
+    ∷ (0x00AE, 0x02FF)
+    ∷ (0x0370, 0x0482)
+    ∷ (0x048A, 0x0590)
+    ∷ (0x1E00, 0x1FFF)
+    ∷ (0x2010, 0x2027)
+    ∷ (0x20F1, 0x2CEE)
+    ∷ (0x3001, 0x3029)
+    ∷ (0x3030, 0x3098)
+    ∷ (0x309B, 0xA66E)
+    ∷ (0xFF00, 0xFF9D)
+    ∷ []
+
+unfoldable pub is_plain : ℕ → Bool
+is_plain c = in_ranges plain_ranges c
+
+-- the text is one plain character
+pub record IsPlainChar (text : List ℕ) : Type 0 where
+  pub char : ℕ
+  pub spelt : text ≡ encode_utf8 char
+  pub is : chars text ≡ char ∷ []
+  pub plain : is_plain char ≡ true
+
+-- a plain character stands on either side of the place
+pub record IsPlainSeam (text : List ℕ) (place : ℕ) : Type 0 where
+  pub boundary : IsCharBoundary text place
+  pub front : List ℕ
+  pub last : ℕ
+  pub next : ℕ
+  pub back : List ℕ
+  pub before : take place text ≡ encode_utf8_all (front ++ last ∷ [])
+  pub after : drop place text ≡ encode_utf8 next ++ back
+  pub last_plain : is_plain last ≡ true
+  pub next_plain : is_plain next ≡ true

@@ -1,0 +1,86 @@
+//! Plain characters: no rule on grapheme clusters joins one with another.
+
+ghost use Rattle.std.specs.Prelude.{◌≡◌, ◌<◌, ◌≤◌, ◌&&◌, nat_le, [], ◌∷◌, ◌++◌, chars, length, encode_utf8, IfSome, IsTrue};
+ghost use Rattle.std.specs.Str.{IsUtf8};
+ghost use Rattle.tui_text.specs.Plain.{is_plain, IsPlainChar};
+
+/// Whether the character is a plain one.
+#[inline]
+pub(crate) fn is_plain(c: char) -> bool
+    ensures { result ≡ is_plain c }
+{
+    let code = c as u32;
+    if code < 0x2028 {
+        is_low_plain(code)
+    } else {
+        is_high_plain(code)
+    }
+}
+
+#[inline]
+#[tactic(auto, unfolding(crate::specs::Plain::is_plain))]
+fn is_low_plain(code: u32) -> bool
+    ensures { code < 0x2028 → result ≡ is_plain code }
+{
+    is_within(code, 0x20, 0x7e)
+        | is_within(code, 0xae, 0x2ff)
+        | is_within(code, 0x370, 0x482)
+        | is_within(code, 0x48a, 0x590)
+        | is_within(code, 0x1e00, 0x1fff)
+        | is_within(code, 0x2010, 0x2027)
+}
+
+#[inline]
+#[tactic(auto, unfolding(crate::specs::Plain::is_plain))]
+fn is_high_plain(code: u32) -> bool
+    ensures { 0x2028 ≤ code → result ≡ is_plain code }
+{
+    is_within(code, 0x20f1, 0x2cee)
+        | is_within(code, 0x3001, 0x3029)
+        | is_within(code, 0x3030, 0x3098)
+        | is_within(code, 0x309b, 0xa66e)
+        | is_within(code, 0xff00, 0xff9d)
+}
+
+#[inline]
+fn is_within(code: u32, low: u32, high: u32) -> bool
+    ensures { result ≡ (nat_le low code && nat_le code high) }
+{
+    low <= code && code <= high
+}
+
+/// A text's first character, and the text behind it.
+#[inline]
+pub(crate) fn split_first(text: &str) -> Option<(char, &str)>
+    ensures split { IfSome result (λ (c, rest). text.now ≡ encode_utf8 c ++ rest.now) }
+    ensures utf8 { IfSome result (λ (c, rest). IsUtf8 rest.now) }
+    ensures shorter { IfSome result (λ (c, rest). length rest.now < length text.now) }
+{
+    let mut chars = text.chars();
+    match chars.next() {
+        Some(c) => Some((c, chars.as_str())),
+        None => None,
+    }
+}
+
+/// Whether the text is one plain character. Never inlined, so that printable bytes, which are told before, cost no call.
+#[inline(never)]
+pub(crate) fn is_plain_char(text: &str) -> bool
+    ensures { IsTrue result → IsPlainChar text.now }
+{
+    match split_first(text) {
+        Some((c, rest)) => rest.is_empty() && is_plain(c),
+        None => false,
+    }
+}
+
+/// The character of a text that is a single one above U+00A0.
+#[inline]
+pub(crate) fn high_char(text: &str) -> Option<char>
+    ensures { IfSome result (λ c. (chars text.now ≡ c ∷ []) × (0xA0 < c)) }
+{
+    match split_first(text) {
+        Some((c, rest)) if rest.is_empty() && c as u32 > 0xa0 => Some(c),
+        _ => None,
+    }
+}
