@@ -3,6 +3,8 @@ pub mod OneByte
 pub mod PartClusters
 pub mod PlainChars
 pub mod PlainParts
+pub mod Ideographs
+pub mod Leads
 pub mod LightTexts
 pub mod LoneChars
 pub mod Seams

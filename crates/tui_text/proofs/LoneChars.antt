@@ -23,7 +23,7 @@ step_high false c h = grind (arith, nat_tests)
 is_high : (c : ℕ) → 0xA0 < c → nat_lt 0xA0 c ≡ true
 is_high c h = grind (arith, nat_tests)
 
-lone_width : (cjk : Bool) (c : ℕ) → 0xA0 < c → str_width cjk (c ∷ []) ≡ unwrap_or (char_width cjk c) 0
+pub lone_width : (cjk : Bool) (c : ℕ) → 0xA0 < c → str_width cjk (c ∷ []) ≡ unwrap_or (char_width cjk c) 0
 unfolding str_width
 lone_width cjk c h = ap (λ r. r.0) (step_high cjk c (is_high c h)) ∙ zero-add (unwrap_or (char_width cjk c) 0)
 

@@ -1,5 +1,5 @@
 -- Characters that no rule on grapheme clusters joins with one another.
-use Rattle.std.specs.Prelude.{◌≡◌, ℕ, Bool, true, List, [], ◌∷◌, ◌++◌, take, drop, encode_utf8, encode_utf8_all, chars}
+use Rattle.std.specs.Prelude.{◌≡◌, ℕ, ◌≤◌, Bool, true, List, [], ◌∷◌, ◌++◌, take, drop, encode_utf8, encode_utf8_all, chars}
 use Rattle.std.specs.Str.{IsCharBoundary}
 use Rattle.ucd_table.specs.Rows.{Range, in_ranges}
 
@@ -41,3 +41,10 @@ pub record IsPlainSeam (text : List ℕ) (place : ℕ) : Type 0 where
   pub after : drop place text ≡ encode_utf8 next ++ back
   pub last_plain : is_plain last ≡ true
   pub next_plain : is_plain next ≡ true
+
+-- the text is one ideograph: U+4000 to U+9FFF
+pub record IsIdeograph (text : List ℕ) : Type 0 where
+  pub char : ℕ
+  pub is : chars text ≡ char ∷ []
+  pub low : 0x4000 ≤ char
+  pub high : char ≤ 0x9FFF

@@ -2,7 +2,7 @@
 
 ghost use Rattle.std.specs.Prelude.{◌≡◌, ◌<◌, ◌≤◌, ◌&&◌, nat_le, [], ◌∷◌, ◌++◌, chars, length, encode_utf8, IfSome, IsTrue};
 ghost use Rattle.std.specs.Str.{IsUtf8};
-ghost use Rattle.tui_text.specs.Plain.{is_plain, IsPlainChar};
+ghost use Rattle.tui_text.specs.Plain.{is_plain, IsIdeograph, IsPlainChar};
 
 /// Whether the character is a plain one.
 #[inline]
@@ -83,4 +83,16 @@ pub(crate) fn high_char(text: &str) -> Option<char>
         Some((c, rest)) if rest.is_empty() && c as u32 > 0xa0 => Some(c),
         _ => None,
     }
+}
+
+/// Whether the text is one ideograph, which its length and its first byte tell.
+#[inline(always)]
+pub(crate) fn is_ideograph(text: &str) -> bool
+    ensures { IsTrue result → IsIdeograph text.now }
+{
+    let bytes = text.as_bytes();
+    if bytes.len() != 3 {
+        return false;
+    }
+    is_within(bytes[0] as u32, 0xe4, 0xe9)
 }
