@@ -37,7 +37,7 @@ use Rattle.std.proofs.lemmas.Bool.Decides.{nat_tests}
 use Rattle.std.specs.Cmp.Lexicographic.{pointwise}
 use Rattle.std.specs.List.{list_all}
 use Rattle.std.specs.Option.{option_or}
-use Rattle.tui_cells.specs.Arms.{agree, all_agree, has_arm, joined, joined_arm, lightened, lightened_arm, same_arms, weight}
+use Rattle.tui_cells.specs.Arms.{agree, all_agree, has_arm, joined_arms, joined_arm, lightened_arms, lightened_arm, same_arms, weight}
 use Rattle.tui_cells.specs.BoxDrawing.{Entry, arms_in, known_arms, other_table, plain_arms, plain_table, plain_with, symbol_in}
 use Rattle.tui_cells.specs.Cell.{IsLight}
 use Rattle.tui_cells.specs.Merging.{EitherOrderJoins, EveryJoinExists, FuzzyAlwaysJoins, PlainSymbolsJoin, UnknownGivesNew, both_arms, exact, exact_for, fuzzy, fuzzy_for, merged}
@@ -113,7 +113,7 @@ exact_short (Some a) new h = short_in plain_table a new plain_short h
 fuzzy_short : (o : Option Arms) (new : List ℕ) → length new ≤ 8 → length (fuzzy_for o new) ≤ 8
 fuzzy_short None new h = h
 fuzzy_short (Some a) new h =
-    short_or (plain_with a) (plain_with (lightened a)) new (short_in plain_table a new plain_short h) (short_in plain_table (lightened a) new plain_short h)
+    short_or (plain_with a) (plain_with (lightened_arms a)) new (short_in plain_table a new plain_short h) (short_in plain_table (lightened_arms a) new plain_short h)
 
 -- a symbol that is joined takes no memory where the new one takes none
 pub merged_light : (s : MergeStrategy) (old new : List ℕ) → IsLight new → IsLight (merged s old new)
@@ -174,7 +174,7 @@ some_arm a b c d p q r s e = grind arith
 
 pub fuzzy_always_joins : FuzzyAlwaysJoins
 fuzzy_always_joins old new a b e f =
-    every_join_exists (lightened (joined a b))
+    every_join_exists (lightened_arms (joined_arms a b))
     (rw (lit a.up b.up, lit a.right b.right, lit a.down b.down, lit a.left b.left)
     (some_arm (weight b.up == 0) (weight b.right == 0) (weight b.down == 0) (weight b.left == 0)
     (weight a.up == 0) (weight a.right == 0) (weight a.down == 0) (weight a.left == 0) (known_armed new b f)))
@@ -224,7 +224,7 @@ same_join Double Light e = cc
 same_join Double Heavy e = cc
 same_join Double Double e = refl
 
-same_joined : (a b : Arms) → all_agree a b ≡ true → joined b a ≡ joined a b
+same_joined : (a b : Arms) → all_agree a b ≡ true → joined_arms b a ≡ joined_arms a b
 same_joined a b e =
     let left = and_parts _ _ e in
     let down = and_parts _ _ left.0 in

@@ -4,12 +4,14 @@ use Rattle.tui_cells.specs.declared.arms.Arm.{Arm}
 use Rattle.tui_cells.specs.declared.arms.Arm.TheVariants.{Empty, Light, Heavy, Double}
 use Rattle.tui_cells.specs.declared.arms.Arms.{Arms}
 
+-- the number of an arm, by which arms are compared
 abbrev pub weight : Arm → ℕ
 weight Empty = 0
 weight Light = 1
 weight Heavy = 2
 weight Double = 3
 
+-- the same arm in each direction
 abbrev pub same_arms : Arms → Arms → Bool
 same_arms a b = (weight a.up == weight b.up) && (weight a.right == weight b.right) && (weight a.down == weight b.down) && (weight a.left == weight b.left)
 
@@ -20,8 +22,9 @@ joined_arm old Light = Light
 joined_arm old Heavy = Heavy
 joined_arm old Double = Double
 
-abbrev pub joined : Arms → Arms → Arms
-joined old new = record {
+-- the new arm in each direction that has one, else the old one
+abbrev pub joined_arms : Arms → Arms → Arms
+joined_arms old new = record {
   up = joined_arm old.up new.up;
   right = joined_arm old.right new.right;
   down = joined_arm old.down new.down;
@@ -35,17 +38,20 @@ lightened_arm Light = Light
 lightened_arm Heavy = Heavy
 lightened_arm Double = Light
 
-abbrev pub lightened : Arms → Arms
-lightened a = record {
+-- each double arm made light
+abbrev pub lightened_arms : Arms → Arms
+lightened_arms a = record {
   up = lightened_arm a.up;
   right = lightened_arm a.right;
   down = lightened_arm a.down;
   left = lightened_arm a.left;
 }
 
+-- an arm in some direction
 abbrev pub has_arm : Arms → Bool
 has_arm a = not ((weight a.up == 0) && (weight a.right == 0) && (weight a.down == 0) && (weight a.left == 0))
 
+-- a double arm in some direction
 abbrev pub has_double : Arms → Bool
 has_double a = (weight a.up == 3) || (weight a.right == 3) || (weight a.down == 3) || (weight a.left == 3)
 

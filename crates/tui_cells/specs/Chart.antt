@@ -8,11 +8,13 @@ use Rattle.tui_cells.specs.declared.box_drawing.Drawn.TheVariants.{Plain, Alike,
 use Rattle.tui_cells.specs.Arms.{weight}
 use Rattle.tui_cells.specs.BoxDrawing.{plain_with}
 
+-- the arms of a plain symbol
 abbrev pub plain_drawn : Drawn → Option Arms
 plain_drawn (Plain arms) = Some arms
 plain_drawn (Alike arms) = None
 plain_drawn Other = None
 
+-- the arms of a symbol, or those of the plain one that it counts as
 abbrev pub drawn_arms : Drawn → Option Arms
 drawn_arms (Plain arms) = Some arms
 drawn_arms (Alike arms) = Some arms
@@ -31,6 +33,7 @@ place_in_chart _ = None
 abbrev pub arms_number : Arms → ℕ
 arms_number a = weight a.up * 64 + weight a.right * 16 + weight a.down * 4 + weight a.left
 
+-- the arms by their weights
 abbrev pub four_arms : List Arm
 four_arms = Empty ∷ Light ∷ Heavy ∷ Double ∷ []
 

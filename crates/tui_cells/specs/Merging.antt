@@ -4,12 +4,12 @@ use Rattle.std.specs.Option.{option_or}
 use Rattle.tui_cells.specs.declared.arms.Arms.{Arms}
 use Rattle.tui_cells.specs.declared.merge_strategy.MergeStrategy.{MergeStrategy}
 use Rattle.tui_cells.specs.declared.merge_strategy.MergeStrategy.TheVariants.{Replace, Exact, Fuzzy}
-use Rattle.tui_cells.specs.Arms.{all_agree, has_arm, has_double, joined, lightened}
+use Rattle.tui_cells.specs.Arms.{all_agree, has_arm, has_double, joined_arms, lightened_arms}
 use Rattle.tui_cells.specs.BoxDrawing.{known_arms, plain_arms, plain_with}
 
 -- the arms of both together, if both are given
 abbrev pub both_arms : Option Arms → Option Arms → Option Arms
-both_arms (Some old) (Some new) = Some (joined old new)
+both_arms (Some old) (Some new) = Some (joined_arms old new)
 both_arms None new = None
 both_arms (Some old) None = None
 
@@ -20,7 +20,7 @@ exact_for None new = new
 
 -- likewise, and if there is none, the plain symbol with light arms for double ones
 abbrev pub fuzzy_for : Option Arms → List ℕ → List ℕ
-fuzzy_for (Some arms) new = unwrap_or (option_or (plain_with arms) (plain_with (lightened arms))) new
+fuzzy_for (Some arms) new = unwrap_or (option_or (plain_with arms) (plain_with (lightened_arms arms))) new
 fuzzy_for None new = new
 
 -- plain symbols alone are joined
@@ -44,7 +44,7 @@ EveryJoinExists = (a : Arms) → has_arm a ≡ true → has_double a ≡ false �
 -- so two symbols that have arms always join to a plain one, once double arms are made light
 abbrev pub FuzzyAlwaysJoins : Type 0
 FuzzyAlwaysJoins = (old new : List ℕ) (a b : Arms) → known_arms old ≡ Some a → known_arms new ≡ Some b →
-    IsSome (plain_with (lightened (joined a b)))
+    IsSome (plain_with (lightened_arms (joined_arms a b)))
 
 -- a symbol without arms, old or new, leaves the new symbol
 abbrev pub UnknownGivesNew : Type 0
@@ -58,9 +58,9 @@ JoinTo old new symbol = (merged Exact old new ≡ symbol) × (merged Fuzzy old n
 -- two plain symbols give the plain symbol that has the joined arms, where there is one
 abbrev pub PlainSymbolsJoin : Type 0
 PlainSymbolsJoin = (old new symbol : List ℕ) (a b : Arms) → plain_arms old ≡ Some a → plain_arms new ≡ Some b →
-    plain_with (joined a b) ≡ Some symbol → JoinTo old new symbol
+    plain_with (joined_arms a b) ≡ Some symbol → JoinTo old new symbol
 
 -- and in the other order the same one, where no direction has two different arms
 abbrev pub EitherOrderJoins : Type 0
 EitherOrderJoins = (old new symbol : List ℕ) (a b : Arms) → plain_arms old ≡ Some a → plain_arms new ≡ Some b →
-    plain_with (joined a b) ≡ Some symbol → all_agree a b ≡ true → JoinTo new old symbol
+    plain_with (joined_arms a b) ≡ Some symbol → all_agree a b ≡ true → JoinTo new old symbol

@@ -22,6 +22,7 @@ pub record BorderData : Type 0 where
   pub horizontal_top : List ℕ
   pub horizontal_bottom : List ℕ
 
+-- a set of the code as plain data
 abbrev pub border_data : BorderSet → BorderData
 border_data s = record {
   top_left = s.top_left.now;
@@ -47,6 +48,7 @@ border top_left top_right bottom_left bottom_right vertical_left vertical_right 
   horizontal_bottom = utf8 horizontal_bottom;
 }
 
+-- the sets by their names
 abbrev pub plain_border : BorderData
 plain_border = border "┌" "┐" "└" "┘" "│" "│" "─" "─"
 
@@ -83,6 +85,7 @@ quadrant_inside_border = border "▗" "▖" "▝" "▘" "▐" "▌" "▄" "▀"
 abbrev pub quadrant_outside_border : BorderData
 quadrant_outside_border = border "▛" "▜" "▙" "▟" "▌" "▐" "▀" "▄"
 
+-- the sets in the order of the constants
 abbrev pub border_sets : List BorderData
 border_sets =
     plain_border ∷ rounded_border ∷ double_border ∷ thick_border ∷
@@ -95,15 +98,18 @@ pub record LineData : Type 0 where
   pub vertical : List ℕ
   pub horizontal : List ℕ
 
+-- a set of the code as plain data
 abbrev pub line_data : LineSet → LineData
 line_data s = record { vertical = s.vertical.now; horizontal = s.horizontal.now }
 
 abbrev line : (vertical horizontal : String) → LineData
 line vertical horizontal = record { vertical = utf8 vertical; horizontal = utf8 horizontal }
 
+-- the sets in the order of the constants
 abbrev pub line_sets : List LineData
 line_sets = line "│" "─" ∷ line "║" "═" ∷ line "┃" "━" ∷ []
 
+-- the two symbols of a light line, upright and lying
 abbrev pub line_symbols : List (List ℕ)
 line_symbols = utf8 "│" ∷ utf8 "─" ∷ []
 
@@ -127,6 +133,7 @@ pub record BarData : Type 0 where
   pub one_eighth : List ℕ
   pub empty : List ℕ
 
+-- a set of the code as plain data
 abbrev pub bar_data : BarSet → BarData
 bar_data s = record {
   full = s.full.now;
@@ -153,12 +160,15 @@ bar full seven_eighths three_quarters five_eighths half three_eighths one_quarte
   empty = utf8 empty;
 }
 
+-- a symbol of its own for each eighth
 abbrev pub nine_levels : BarData
 nine_levels = bar "█" "▇" "▆" "▅" "▄" "▃" "▂" "▁" " "
 
+-- full, half and empty alone
 abbrev pub three_levels : BarData
 three_levels = bar "█" "█" "▄" "▄" "▄" "▄" "▄" " " " "
 
+-- the sets in the order of the constants
 abbrev pub bar_sets : List BarData
 bar_sets = nine_levels ∷ three_levels ∷ []
 
@@ -169,12 +179,14 @@ pub record ScrollbarData : Type 0 where
   pub begin : List ℕ
   pub end : List ℕ
 
+-- a set of the code as plain data
 abbrev pub scrollbar_data : ScrollbarSet → ScrollbarData
 scrollbar_data s = record { track = s.track.now; thumb = s.thumb.now; begin = s.begin.now; end = s.end.now }
 
 abbrev scrollbar : (track thumb begin end : String) → ScrollbarData
 scrollbar track thumb begin end = record { track = utf8 track; thumb = utf8 thumb; begin = utf8 begin; end = utf8 end }
 
+-- the sets by their names: track, thumb, begin and end
 abbrev pub double_vertical_scrollbar : ScrollbarData
 double_vertical_scrollbar = scrollbar "║" "█" "▲" "▼"
 
@@ -187,5 +199,6 @@ vertical_scrollbar = scrollbar "│" "█" "↑" "↓"
 abbrev pub horizontal_scrollbar : ScrollbarData
 horizontal_scrollbar = scrollbar "─" "█" "←" "→"
 
+-- the sets in the order of the constants
 abbrev pub scrollbar_sets : List ScrollbarData
 scrollbar_sets = double_vertical_scrollbar ∷ double_horizontal_scrollbar ∷ vertical_scrollbar ∷ horizontal_scrollbar ∷ []

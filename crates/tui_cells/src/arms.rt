@@ -2,7 +2,7 @@
 
 ghost use Rattle.std.specs.Prelude.{◌≡◌, ◌<◌};
 ghost use Rattle.tui_cells.specs.Chart.{arms_number};
-ghost use Rattle.tui_cells.specs.Arms.{joined, joined_arm, lightened, lightened_arm, weight};
+ghost use Rattle.tui_cells.specs.Arms.{joined_arm, joined_arms, lightened_arm, lightened_arms, weight};
 
 /// How far a border symbol reaches one side of its cell.
 #[derive(Clone, Copy, Debug, PartialEq, Eq, Hash)]
@@ -57,7 +57,7 @@ impl Arm {
 
 impl Arms {
     pub(crate) fn joined(self, new: Arms) -> Arms
-        ensures { result ≡ joined self new }
+        ensures { result ≡ joined_arms self new }
     {
         Arms {
             up: self.up.joined(new.up),
@@ -69,7 +69,7 @@ impl Arms {
 
     /// Each double arm made light.
     pub(crate) fn lightened(self) -> Arms
-        ensures { result ≡ lightened self }
+        ensures { result ≡ lightened_arms self }
     {
         Arms {
             up: self.up.lightened(),

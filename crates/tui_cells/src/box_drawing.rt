@@ -85,9 +85,9 @@ fn symbols_by_arms() -> &'static [&'static str]
 
 macro_rules! arm {
     (-) => { Arm::Empty };
-    (l) => { Arm::Light };
-    (h) => { Arm::Heavy };
-    (d) => { Arm::Double };
+    (light) => { Arm::Light };
+    (heavy) => { Arm::Heavy };
+    (double) => { Arm::Double };
 }
 
 // The arms up, right, down and left in brackets for a plain symbol, in parentheses for a dashed or rounded one.
@@ -107,38 +107,38 @@ macro_rules! chart {
 
 #[rattlefmt::skip]
 static CHART: [Drawn; 128] = chart! {
-    [- l - l] [- h - h] [l - l -] [h - h -] // ─ ━ │ ┃
-    (- l - l) (- h - h) (l - l -) (h - h -) // ┄ ┅ ┆ ┇
-    (- l - l) (- h - h) (l - l -) (h - h -) // ┈ ┉ ┊ ┋
-    [- l l -] [- h l -] [- l h -] [- h h -] // ┌ ┍ ┎ ┏
-    [- - l l] [- - l h] [- - h l] [- - h h] // ┐ ┑ ┒ ┓
-    [l l - -] [l h - -] [h l - -] [h h - -] // └ ┕ ┖ ┗
-    [l - - l] [l - - h] [h - - l] [h - - h] // ┘ ┙ ┚ ┛
-    [l l l -] [l h l -] [h l l -] [l l h -] // ├ ┝ ┞ ┟
-    [h l h -] [h h l -] [l h h -] [h h h -] // ┠ ┡ ┢ ┣
-    [l - l l] [l - l h] [h - l l] [l - h l] // ┤ ┥ ┦ ┧
-    [h - h l] [h - l h] [l - h h] [h - h h] // ┨ ┩ ┪ ┫
-    [- l l l] [- l l h] [- h l l] [- h l h] // ┬ ┭ ┮ ┯
-    [- l h l] [- l h h] [- h h l] [- h h h] // ┰ ┱ ┲ ┳
-    [l l - l] [l l - h] [l h - l] [l h - h] // ┴ ┵ ┶ ┷
-    [h l - l] [h l - h] [h h - l] [h h - h] // ┸ ┹ ┺ ┻
-    [l l l l] [l l l h] [l h l l] [l h l h] // ┼ ┽ ┾ ┿
-    [h l l l] [l l h l] [h l h l] [h l l h] // ╀ ╁ ╂ ╃
-    [h h l l] [l l h h] [l h h l] [h h l h] // ╄ ╅ ╆ ╇
-    [l h h h] [h l h h] [h h h l] [h h h h] // ╈ ╉ ╊ ╋
-    (- l - l) (- h - h) (l - l -) (h - h -) // ╌ ╍ ╎ ╏
-    [- d - d] [d - d -] [- d l -] [- l d -] // ═ ║ ╒ ╓
-    [- d d -] [- - l d] [- - d l] [- - d d] // ╔ ╕ ╖ ╗
-    [l d - -] [d l - -] [d d - -] [l - - d] // ╘ ╙ ╚ ╛
-    [d - - l] [d - - d] [l d l -] [d l d -] // ╜ ╝ ╞ ╟
-    [d d d -] [l - l d] [d - d l] [d - d d] // ╠ ╡ ╢ ╣
-    [- d l d] [- l d l] [- d d d] [l d - d] // ╤ ╥ ╦ ╧
-    [d l - l] [d d - d] [l d l d] [d l d l] // ╨ ╩ ╪ ╫
-    [d d d d] (- l l -) (- - l l) (l - - l) // ╬ ╭ ╮ ╯
-    (l l - -) other other other // ╰ ╱ ╲ ╳
-    [- - - l] [l - - -] [- l - -] [- - l -] // ╴ ╵ ╶ ╷
-    [- - - h] [h - - -] [- h - -] [- - h -] // ╸ ╹ ╺ ╻
-    [- h - l] [l - h -] [- l - h] [h - l -] // ╼ ╽ ╾ ╿
+    [- light - light] [- heavy - heavy] [light - light -] [heavy - heavy -] // ─ ━ │ ┃
+    (- light - light) (- heavy - heavy) (light - light -) (heavy - heavy -) // ┄ ┅ ┆ ┇
+    (- light - light) (- heavy - heavy) (light - light -) (heavy - heavy -) // ┈ ┉ ┊ ┋
+    [- light light -] [- heavy light -] [- light heavy -] [- heavy heavy -] // ┌ ┍ ┎ ┏
+    [- - light light] [- - light heavy] [- - heavy light] [- - heavy heavy] // ┐ ┑ ┒ ┓
+    [light light - -] [light heavy - -] [heavy light - -] [heavy heavy - -] // └ ┕ ┖ ┗
+    [light - - light] [light - - heavy] [heavy - - light] [heavy - - heavy] // ┘ ┙ ┚ ┛
+    [light light light -] [light heavy light -] [heavy light light -] [light light heavy -] // ├ ┝ ┞ ┟
+    [heavy light heavy -] [heavy heavy light -] [light heavy heavy -] [heavy heavy heavy -] // ┠ ┡ ┢ ┣
+    [light - light light] [light - light heavy] [heavy - light light] [light - heavy light] // ┤ ┥ ┦ ┧
+    [heavy - heavy light] [heavy - light heavy] [light - heavy heavy] [heavy - heavy heavy] // ┨ ┩ ┪ ┫
+    [- light light light] [- light light heavy] [- heavy light light] [- heavy light heavy] // ┬ ┭ ┮ ┯
+    [- light heavy light] [- light heavy heavy] [- heavy heavy light] [- heavy heavy heavy] // ┰ ┱ ┲ ┳
+    [light light - light] [light light - heavy] [light heavy - light] [light heavy - heavy] // ┴ ┵ ┶ ┷
+    [heavy light - light] [heavy light - heavy] [heavy heavy - light] [heavy heavy - heavy] // ┸ ┹ ┺ ┻
+    [light light light light] [light light light heavy] [light heavy light light] [light heavy light heavy] // ┼ ┽ ┾ ┿
+    [heavy light light light] [light light heavy light] [heavy light heavy light] [heavy light light heavy] // ╀ ╁ ╂ ╃
+    [heavy heavy light light] [light light heavy heavy] [light heavy heavy light] [heavy heavy light heavy] // ╄ ╅ ╆ ╇
+    [light heavy heavy heavy] [heavy light heavy heavy] [heavy heavy heavy light] [heavy heavy heavy heavy] // ╈ ╉ ╊ ╋
+    (- light - light) (- heavy - heavy) (light - light -) (heavy - heavy -) // ╌ ╍ ╎ ╏
+    [- double - double] [double - double -] [- double light -] [- light double -] // ═ ║ ╒ ╓
+    [- double double -] [- - light double] [- - double light] [- - double double] // ╔ ╕ ╖ ╗
+    [light double - -] [double light - -] [double double - -] [light - - double] // ╘ ╙ ╚ ╛
+    [double - - light] [double - - double] [light double light -] [double light double -] // ╜ ╝ ╞ ╟
+    [double double double -] [light - light double] [double - double light] [double - double double] // ╠ ╡ ╢ ╣
+    [- double light double] [- light double light] [- double double double] [light double - double] // ╤ ╥ ╦ ╧
+    [double light - light] [double double - double] [light double light double] [double light double light] // ╨ ╩ ╪ ╫
+    [double double double double] (- light light -) (- - light light) (light - - light) // ╬ ╭ ╮ ╯
+    (light light - -) other other other // ╰ ╱ ╲ ╳
+    [- - - light] [light - - -] [- light - -] [- - light -] // ╴ ╵ ╶ ╷
+    [- - - heavy] [heavy - - -] [- heavy - -] [- - heavy -] // ╸ ╹ ╺ ╻
+    [- heavy - light] [light - heavy -] [- light - heavy] [heavy - light -] // ╼ ╽ ╾ ╿
 };
 
 // A row for each pair of arms up and right, a column for each pair of arms down and left.

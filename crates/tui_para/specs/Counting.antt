@@ -1,5 +1,5 @@
 -- How the lines of graphemes that are read one by one are counted, with numbers alone.
-use Rattle.std.specs.Prelude.{ℕ, ◌+◌, Bool, true, false, cond, not, ◌&&◌, nat_lt, List, [], ◌∷◌, length, sum_by}
+use Rattle.std.specs.Prelude.{ℕ, ◌+◌, Bool, true, false, if◌then◌else◌, not, ◌&&◌, nat_lt, List, [], ◌∷◌, length, sum_by}
 use Rattle.tui_cells.specs.declared.style.Style.{Style}
 use Rattle.tui_para.specs.Hyphens.{wrap}
 use Rattle.tui_para.specs.Rule.{Rule, ends_piece}
@@ -44,25 +44,25 @@ overflows w c s = nat_lt w (c.line + c.blanks + c.word + s)
 
 -- where a piece ends, if one is under way
 abbrev pub after_word : Counter → Counter
-after_word c = cond c.in_word (end_word c) c
+after_word c = if c.in_word then end_word c else c
 
 -- where a blank comes: it is left out, ends the line, or is taken
 abbrev pub on_blank : ℕ → Bool → Counter → ℕ → Counter
-on_blank w trim c s = cond (trim && not c.begun) (skip_blank c) (cond (overflows w c s) (end_line c) (add_blank c s))
+on_blank w trim c s = if trim && not c.begun then skip_blank c else (if overflows w c s then end_line c else add_blank c s)
 
 -- where a letter comes that has no room: the line ends before its word, if another word has ended in it
 abbrev pub soft : ℕ → Counter → ℕ → Counter
-soft w c s = cond (c.begun && overflows w c s) (take_word_along c) c
+soft w c s = if c.begun && overflows w c s then take_word_along c else c
 
 -- or else within the word
 abbrev pub hard : ℕ → Counter → ℕ → Counter
-hard w c s = cond (overflows w c s) (end_line c) c
+hard w c s = if overflows w c s then end_line c else c
 
 -- one grapheme more, of a width: before it a piece ends or not, and it is a blank or not
 abbrev pub step : ℕ → Bool → Counter → ℕ → Bool → Bool → Counter
 step w trim c s ends blank =
-    let d = cond ends (after_word c) c in
-    cond blank (on_blank w trim d s) (add_letter (hard w (soft w d s) s) s)
+    let d = (if ends then after_word c else c) in
+    if blank then on_blank w trim d s else add_letter (hard w (soft w d s) s) s
 
 -- all graphemes of a list, one by one
 abbrev pub steps : {A : Type 0} → Rule A → Counter → List A → Counter
@@ -71,7 +71,7 @@ steps rule c (x ∷ xs) = steps rule (step rule.width rule.trim c (rule.size x) 
 
 -- the lines, with the one that is under way
 abbrev pub counted : Counter → ℕ
-counted c = c.lines + cond c.some 1 0
+counted c = c.lines + (if c.some then 1 else 0)
 
 -- the same numbers, with the lines cut at the greatest number of 64 bits
 abbrev pub cut_count : Counter → Counter

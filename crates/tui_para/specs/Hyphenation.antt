@@ -1,5 +1,5 @@
 -- Where words are cut, told from what stands directly before.
-use Rattle.std.specs.Prelude.{Bool, true, false, cond, ◌&&◌, List, [], ◌∷◌}
+use Rattle.std.specs.Prelude.{Bool, true, false, if◌then◌else◌, ◌&&◌, List, [], ◌∷◌}
 use Rattle.tui_para.specs.Hyphens.{is_hyphen, is_letter}
 use Rattle.tui_para.specs.declared.wrapping.hyphenation.Hyphenation.{Hyphenation}
 use Rattle.tui_para.specs.declared.wrapping.hyphenation.Hyphenation.TheVariants.{Off, Apart, Letter, Hyphen}
@@ -7,7 +7,7 @@ use Rattle.tui_text.specs.Grapheme.{Glyph, glyph_blank}
 
 -- at the beginning of a text line
 abbrev pub at_start : Bool → Hyphenation
-at_start hyphens = cond hyphens Apart Off
+at_start hyphens = if hyphens then Apart else Off
 
 -- behind a `-`
 abbrev pub behind_hyphen : Hyphenation → Hyphenation
@@ -19,13 +19,13 @@ behind_hyphen Hyphen = Apart
 -- behind another grapheme, a blank or not
 abbrev pub behind_other : Bool → Hyphenation → Hyphenation
 behind_other blank Off = Off
-behind_other blank Apart = cond blank Apart Letter
-behind_other blank Letter = cond blank Apart Letter
-behind_other blank Hyphen = cond blank Apart Letter
+behind_other blank Apart = if blank then Apart else Letter
+behind_other blank Letter = if blank then Apart else Letter
+behind_other blank Hyphen = if blank then Apart else Letter
 
 -- what stands before the next grapheme, once one more is read
 abbrev pub behind : Hyphenation → Glyph → Hyphenation
-behind before g = cond (is_hyphen g) (behind_hyphen before) (behind_other (glyph_blank g) before)
+behind before g = if is_hyphen g then behind_hyphen before else behind_other (glyph_blank g) before
 
 -- likewise after a whole list
 abbrev pub behind_all : Hyphenation → List Glyph → Hyphenation

@@ -1,21 +1,21 @@
 -- Where a line stands among graphemes, in numbers of graphemes, and the lines of a list as a function.
-use Rattle.std.specs.Prelude.{ℕ, zero, suc, ◌+◌, ◌-◌, Bool, false, cond, not, ◌&&◌, nat_le, nat_lt, List, [], ◌∷◌, length, take, drop, sum_by}
+use Rattle.std.specs.Prelude.{ℕ, zero, suc, ◌+◌, ◌-◌, Bool, false, if◌then◌else◌, not, ◌&&◌, nat_le, nat_lt, List, [], ◌∷◌, length, take, drop, sum_by}
 use Rattle.tui_para.specs.Rule.{Rule, ends_piece}
 use Rattle.tui_para.specs.Wrapped.{after_break, line_start}
 
 -- the blanks at the front
 abbrev pub blanks_len : {A : Type 0} → (A → Bool) → List A → ℕ
 blanks_len blank [] = 0
-blanks_len blank (x ∷ xs) = cond (blank x) (suc (blanks_len blank xs)) 0
+blanks_len blank (x ∷ xs) = if blank x then suc (blanks_len blank xs) else 0
 
 -- the blanks before the start of a line
 abbrev pub start_len : {A : Type 0} → (A → Bool) → Bool → List A → ℕ
-start_len blank trim xs = cond trim (blanks_len blank xs) 0
+start_len blank trim xs = if trim then blanks_len blank xs else 0
 
 -- the blanks that are left out after a break which leaves some room
 abbrev pub dropped_len : {A : Type 0} → (A → Bool) → (A → ℕ) → ℕ → List A → ℕ
 dropped_len blank size room [] = 0
-dropped_len blank size room (x ∷ xs) = cond (blank x) (suc (cond (nat_le (size x) room) (dropped_len blank size (room - size x) xs) 0)) 0
+dropped_len blank size room (x ∷ xs) = if blank x then suc (if nat_le (size x) room then dropped_len blank size (room - size x) xs else 0) else 0
 
 -- the line that goes on for n graphemes so far, of which the first `pieces` end with the last piece that has ended, and
 -- which leaves some room: where a grapheme doesn't fit it ends after these, or where it is if there are none. `ends` tells
@@ -23,17 +23,17 @@ dropped_len blank size room (x ∷ xs) = cond (blank x) (suc (cond (nat_le (size
 abbrev pub goes_on_for : {A : Type 0} → (A → Bool) → (A → Bool) → (A → ℕ) → Bool → ℕ → ℕ → ℕ → List A → ℕ
 goes_on_for ends blank size in_word pieces n room [] = n
 goes_on_for ends blank size in_word pieces n room (x ∷ xs) =
-    let ended = cond (in_word && ends x) n pieces in
-    cond (nat_le (size x) room) (goes_on_for ends blank size (not (blank x)) ended (suc n) (room - size x) xs) (cond (nat_lt 0 ended) ended n)
+    let ended = (if in_word && ends x then n else pieces) in
+    if nat_le (size x) room then goes_on_for ends blank size (not (blank x)) ended (suc n) (room - size x) xs else (if nat_lt 0 ended then ended else n)
 
 -- the same up to the end of the last piece that has ended before one of the graphemes
 abbrev pub pieces_len : {A : Type 0} → (A → Bool) → (A → Bool) → Bool → ℕ → ℕ → List A → ℕ
 pieces_len ends blank in_word pieces n [] = pieces
-pieces_len ends blank in_word pieces n (x ∷ xs) = pieces_len ends blank (not (blank x)) (cond (in_word && ends x) n pieces) (suc n) xs
+pieces_len ends blank in_word pieces n (x ∷ xs) = pieces_len ends blank (not (blank x)) (if in_word && ends x then n else pieces) (suc n) xs
 
 -- the line where the grapheme behind the first n doesn't fit: up to the end of the last piece that has ended there, or else n
 abbrev pub broken_len : {A : Type 0} → (A → Bool) → (A → Bool) → ℕ → List A → ℕ
-broken_len ends blank n xs = let ended = pieces_len ends blank false 0 0 (take (n + 1) xs) in cond (nat_lt 0 ended) ended n
+broken_len ends blank n xs = let ended = pieces_len ends blank false 0 0 (take (n + 1) xs) in if nat_lt 0 ended then ended else n
 
 -- the line at the front
 abbrev pub line_len : {A : Type 0} → (A → Bool) → (A → Bool) → (A → ℕ) → ℕ → List A → ℕ

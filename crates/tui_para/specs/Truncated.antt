@@ -1,5 +1,5 @@
 -- The line of a text line that is not wrapped. `size` is a grapheme's width.
-use Rattle.std.specs.Prelude.{◌≡◌, ◌≢◌, ◌<◌, ◌≤◌, ℕ, ◌-◌, Bool, true, false, cond, ◌&&◌, nat_le, nat_lt, List, [], ◌∷◌, ◌++◌, length, sum_by}
+use Rattle.std.specs.Prelude.{◌≡◌, ◌≢◌, ◌<◌, ◌≤◌, ℕ, ◌-◌, Bool, true, false, if◌then◌else◌, ◌&&◌, nat_le, nat_lt, List, [], ◌∷◌, ◌++◌, length, sum_by}
 use Rattle.tui_para.specs.Wrapped.{kept}
 
 -- the longest front of the list that P holds of, and what stands after it
@@ -29,13 +29,13 @@ pub record Truncated {A : Type 0} (size : A → ℕ) (w : ℕ) (left : Bool) (of
 -- the same as functions: the graphemes that fit a room
 abbrev pub fitting_prefix : {A : Type 0} → (A → ℕ) → ℕ → List A → List A
 fitting_prefix size room [] = []
-fitting_prefix size room (x ∷ xs) = cond (nat_le (size x) room) (x ∷ fitting_prefix size (room - size x) xs) []
+fitting_prefix size room (x ∷ xs) = if nat_le (size x) room then x ∷ fitting_prefix size (room - size x) xs else []
 
 -- those that the offset leaves
 abbrev pub left_by : {A : Type 0} → (A → ℕ) → ℕ → List A → List A
 left_by size offset [] = []
-left_by size offset (x ∷ xs) = cond (nat_lt 0 offset && nat_le (size x) offset) (left_by size (offset - size x) xs) (x ∷ xs)
+left_by size offset (x ∷ xs) = if nat_lt 0 offset && nat_le (size x) offset then left_by size (offset - size x) xs else x ∷ xs
 
 -- the line: the one that `Truncated` admits
 abbrev pub truncate : {A : Type 0} → (A → ℕ) → ℕ → Bool → ℕ → List A → List A
-truncate size w left offset xs = fitting_prefix size w (cond left (left_by size offset (kept size w xs)) (kept size w xs))
+truncate size w left offset xs = fitting_prefix size w (if left then left_by size offset (kept size w xs) else kept size w xs)

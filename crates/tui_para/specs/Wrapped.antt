@@ -1,27 +1,27 @@
 -- How a list of graphemes is wrapped into lines.
-use Rattle.std.specs.Prelude.{◌≡◌, ◌≢◌, ℕ, ◌-◌, ◌<◌, ◌≤◌, ◌⊎◌, Bool, true, false, cond, not, nat_le, All, List, [], ◌∷◌, ◌++◌, sum_by, filter}
+use Rattle.std.specs.Prelude.{◌≡◌, ◌≢◌, ℕ, ◌-◌, ◌<◌, ◌≤◌, ◌⊎◌, Bool, true, false, if◌then◌else◌, not, nat_le, All, List, [], ◌∷◌, ◌++◌, sum_by, filter}
 use Rattle.tui_para.specs.Rule.{Rule, ends_piece}
 
 -- what stands before the first grapheme that passes the test
 abbrev pub up_to : {A : Type 0} → (A → Bool) → List A → List A
 up_to test [] = []
-up_to test (x ∷ xs) = cond (test x) [] (x ∷ up_to test xs)
+up_to test (x ∷ xs) = if test x then [] else x ∷ up_to test xs
 
 -- the blanks at the front together with the piece of a word after them, if there is one
 abbrev pub next_piece : {A : Type 0} → Rule A → List A → List A
 next_piece rule [] = []
-next_piece rule (x ∷ xs) = cond (rule.blank x) (x ∷ next_piece rule xs) (x ∷ up_to (ends_piece rule) xs)
+next_piece rule (x ∷ xs) = if rule.blank x then x ∷ next_piece rule xs else x ∷ up_to (ends_piece rule) xs
 
 -- without the blanks at the front
 abbrev pub without_blanks : {A : Type 0} → (A → Bool) → List A → List A
 without_blanks blank [] = []
-without_blanks blank (x ∷ xs) = cond (blank x) (without_blanks blank xs) (x ∷ xs)
+without_blanks blank (x ∷ xs) = if blank x then without_blanks blank xs else x ∷ xs
 
 -- after a break that leaves some room: without the longest run of blanks that fits the room, and without one blank more
 abbrev pub after_break : {A : Type 0} → Rule A → ℕ → List A → List A
 after_break rule room [] = []
 after_break rule room (x ∷ xs) =
-    cond (rule.blank x) (cond (nat_le (rule.size x) room) (after_break rule (room - rule.size x) xs) xs) (x ∷ xs)
+    if rule.blank x then (if nat_le (rule.size x) room then after_break rule (room - rule.size x) xs else xs) else x ∷ xs
 
 -- what is not blank
 abbrev pub no_blank : {A : Type 0} → (A → Bool) → A → Bool
@@ -73,7 +73,7 @@ pub record IsLine {A : Type 0} (rule : Rule A) (line after : List A) : Type 0 wh
 
 -- where a line begins: with `trim` after the blanks at the front
 abbrev pub line_start : {A : Type 0} → (A → Bool) → Bool → List A → List A
-line_start blank trim xs = cond trim (without_blanks blank xs) xs
+line_start blank trim xs = if trim then without_blanks blank xs else xs
 
 -- the first line of the graphemes is `line`, and `rest` is left for the lines after it
 pub record IsNextLine {A : Type 0} (rule : Rule A) (xs line rest : List A) : Type 0 where

@@ -51,6 +51,9 @@ module _ (w : ℕ) (text rest c : List ℕ) (clusters : graphemes true text ≡ 
     ap (λ t. concat (behind_part t)) clusters ∙ ap (λ b. concat (cond b (graphemes true rest) (behind_part (graphemes true rest)))) newline ∙ concat-graphemes rest u,
   )
 
+pub nothing_shown : (w : ℕ) (text : List ℕ) → graphemes true text ≡ [] → (shown_in w text ≡ []) × (behind_line text ≡ [])
+nothing_shown w text e = (ap (shown w) e, ap (λ t. concat (behind_part t)) e)
+
 module _ (w : ℕ) (text here rest cluster : List ℕ) (u : IsUtf8 rest) (h : IsHiddenUpTo w text here) (clusters : graphemes true here ≡ cluster ∷ graphemes true rest)
     (whole : here ≡ cluster ++ rest) (shorter : length rest < length here) where
   to_rest : text ≡ (h.goes_on.front ++ cluster) ++ rest
@@ -88,6 +91,14 @@ module _ (w : ℕ) (text here rest cluster : List ℕ) (u : IsUtf8 rest) (h : Is
         shown = h.shown ∙ hidden w here rest cluster clusters other (ap (λ n. nat_le n w && not (has_control cluster)) (sym e) ∙ fit);
         no_longer = omega (arith, h.no_longer, shorter);
       }
+
+pub line_ends : (w : ℕ) (text here : List ℕ) → IsHiddenUpTo w text here → graphemes true here ≡ [] → here ≡ [] → IsOver w text here
+line_ends w text here h none e =
+    let o = nothing_shown w here none in
+    record { front = h.goes_on.front; whole = h.goes_on.whole; utf8 = h.goes_on.utf8; shown = h.shown ∙ o.0; behind = sym h.goes_on.same ∙ o.1 ∙ sym e }
+
+pub goes_on-refl : (text : List ℕ) → IsUtf8 text → GoesOn text text
+goes_on-refl text u = record { front = []; whole = refl; utf8 = u; same = refl }
 
 pub goes_on-then : (text rest last : List ℕ) → GoesOn text rest → GoesOn rest last → GoesOn text last
 goes_on-then text rest last g h =

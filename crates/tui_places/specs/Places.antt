@@ -1,6 +1,6 @@
 -- The text line at the front of a text.
 use Rattle.std.specs.List.{concat}
-use Rattle.std.specs.Prelude.{◌≡◌, ℕ, Bool, true, cond, ◌||◌, List, [], ◌∷◌, ◌++◌, filter, nat_eq, nat_le}
+use Rattle.std.specs.Prelude.{◌≡◌, ℕ, Bool, true, if◌then◌else◌, ◌||◌, List, [], ◌∷◌, ◌++◌, filter, nat_eq, nat_le}
 use Rattle.std.specs.Str.{IsUtf8}
 use Rattle.std.specs.Cmp.Lexicographic.{pointwise}
 use Rattle.tui_text.specs.Grapheme.{width_of}
@@ -14,12 +14,12 @@ is_newline cluster = pointwise nat_eq cluster (10 ∷ []) || pointwise nat_eq cl
 -- the clusters up to the first newline, and those behind it
 abbrev pub line_part : List (List ℕ) → List (List ℕ)
 line_part [] = []
-line_part (c ∷ cs) = cond (is_newline c) [] (c ∷ line_part cs)
+line_part (c ∷ cs) = if is_newline c then [] else c ∷ line_part cs
 
 -- the clusters behind the first newline
 abbrev pub behind_part : List (List ℕ) → List (List ℕ)
 behind_part [] = []
-behind_part (c ∷ cs) = cond (is_newline c) cs (behind_part cs)
+behind_part (c ∷ cs) = if is_newline c then cs else behind_part cs
 
 -- what is shown of the text's first line in lines of w columns: its clusters without those that hold a control character and
 -- those that are wider

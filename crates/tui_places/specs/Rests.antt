@@ -1,5 +1,5 @@
 -- What is left of a list behind the line at its front.
-use Rattle.std.specs.Prelude.{ℕ, ◌-◌, Bool, false, not, ◌&&◌, cond, nat_le, List, [], ◌∷◌, Option, None, Some, unwrap_or}
+use Rattle.std.specs.Prelude.{ℕ, ◌-◌, Bool, false, not, ◌&&◌, if◌then◌else◌, nat_le, List, [], ◌∷◌, Option, None, Some, unwrap_or}
 use Rattle.tui_para.specs.Rule.{Rule, ends_piece}
 use Rattle.tui_para.specs.Wrapped.{after_break, line_start}
 use Rattle.tui_text.specs.Grapheme.{is_blank_text, width_of}
@@ -13,8 +13,8 @@ cluster_rule w trim = record { blank = is_blank_text; cut = λ _. false; size = 
 abbrev pub line_rest : {A : Type 0} → Rule A → Bool → Option (List A × ℕ) → ℕ → List A → List A × ℕ
 line_rest rule in_word ended room [] = ([], room)
 line_rest rule in_word ended room (x ∷ xs) =
-    let last = cond (in_word && ends_piece rule x) (Some (x ∷ xs, room)) ended in
-    cond (nat_le (rule.size x) room) (line_rest rule (not (rule.blank x)) last (room - rule.size x) xs) (unwrap_or last (x ∷ xs, room))
+    let last = (if in_word && ends_piece rule x then Some (x ∷ xs, room) else ended) in
+    if nat_le (rule.size x) room then line_rest rule (not (rule.blank x)) last (room - rule.size x) xs else unwrap_or last (x ∷ xs, room)
 
 -- what is left behind the first line and the blanks after it
 abbrev pub first_rest : {A : Type 0} → Rule A → List A → List A

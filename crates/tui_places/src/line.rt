@@ -1,6 +1,6 @@
 //! Where the first line of a wrapped text line ends.
 
-ghost use Rattle.std.specs.Prelude.{◌≡◌, ◌&&◌, cond, false, None, Some};
+ghost use Rattle.std.specs.Prelude.{◌≡◌, ◌&&◌, if◌then◌else◌, false, None, Some};
 ghost use Rattle.tui_para.specs.Wrapped.{after_break, line_start, without_blanks};
 ghost use Rattle.tui_text.specs.Grapheme.{is_blank_text};
 ghost use Rattle.tui_places.specs.Places.{GoesOn, shown_in};
@@ -71,7 +71,7 @@ fn last_end<'a>(
     in_word: bool,
     blank: bool,
 ) -> Option<Left<'a>>
-    ensures { result ≡ cond (in_word && blank) (Some here.entry) ended.entry }
+    ensures { result ≡ (if in_word && blank then Some here.entry else ended.entry) }
 {
     if in_word && blank { Some(here) } else { ended }
 }

@@ -1,4 +1,4 @@
--- Texts set from a position of a clip on stay in the clip, and end in it.
+-- Texts set from a position of a clip on stay in the clip.
 use Rattle.std.proofs.Common.{◌≡◌, ℕ, ◌+◌, ◌-◌, ◌<◌, ◌≤◌, Bool, true, false, nat_le, nat_lt, List, [], ◌∷◌, ◌++◌, if◌then◌else◌, refl, arith}
 use Rattle.std.proofs.lemmas.Bool.Decides.{nat_tests}
 use Rattle.tui_cells.specs.declared.position.Position.{Position}

@@ -1,6 +1,6 @@
 //! Counting the lines of one text line from numbers alone.
 
-ghost use Rattle.std.specs.Prelude.{◌≡◌, cond, ◌+◌, ◌≤◌, ◌<◌, ◌^◌};
+ghost use Rattle.std.specs.Prelude.{◌≡◌, if◌then◌else◌, ◌+◌, ◌≤◌, ◌<◌, ◌^◌};
 ghost use Rattle.tui_text.specs.Width.{saturated};
 ghost use Rattle.tui_para.specs.Mark.{ends_before};
 ghost use Rattle.tui_para.specs.Counting.{
@@ -83,7 +83,7 @@ impl Counter {
     /// Ends the piece of a word that is under way, where one ends here.
     fn end_piece(&mut self, ends: bool)
         requires { self.old.line + self.old.blanks + self.old.word < 2 ^ 64 }
-        ensures { self.new ≡ cond ends (after_word self.old) self.old }
+        ensures { self.new ≡ (if ends then after_word self.old else self.old) }
     {
         if ends && self.in_word {
             self.line = self.line + self.blanks + self.word;

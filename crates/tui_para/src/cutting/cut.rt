@@ -1,6 +1,6 @@
 //! What is shown of a text line that is cut, while it is read.
 
-ghost use Rattle.std.specs.Prelude.{◌≡◌, ◌+◌, ◌++◌, ◌∷◌, [], List, cond};
+ghost use Rattle.std.specs.Prelude.{◌≡◌, ◌+◌, ◌++◌, ◌∷◌, [], List, if◌then◌else◌};
 ghost use Rattle.tui_text.specs.Grapheme.{Glyph, glyph_of, glyph_width};
 ghost use Rattle.tui_para.specs.Cut.{shown_of};
 ghost use Rattle.tui_para.specs.Lines.{is_left};
@@ -41,8 +41,8 @@ impl Cut {
     /// Reads the next grapheme, and answers whether it is shown.
     pub(crate) fn shows(&mut self, grapheme: &StyledGrapheme<'_>) -> bool
         ensures line { (rest : List Glyph) → shown_of self.old (glyph_of grapheme.now ∷ rest)
-            ≡ cond result (glyph_of grapheme.now ∷ []) [] ++ shown_of self.new rest }
-        ensures room { self.new.room + cond result (glyph_width (glyph_of grapheme.now)) 0 ≡ self.old.room }
+            ≡ (if result then glyph_of grapheme.now ∷ [] else []) ++ shown_of self.new rest }
+        ensures room { self.new.room + (if result then glyph_width (glyph_of grapheme.now) else 0) ≡ self.old.room }
     {
         if self.full {
             return false;

@@ -1,6 +1,6 @@
 //! Where words are cut.
 
-ghost use Rattle.std.specs.Prelude.{◌≡◌, ◌&&◌, cond};
+ghost use Rattle.std.specs.Prelude.{◌≡◌, ◌&&◌, if◌then◌else◌};
 ghost use Rattle.tui_text.specs.Grapheme.{glyph_blank, glyph_of};
 ghost use Rattle.tui_para.specs.Hyphenation.{after_hyphen, after_letter, at_start, behind, behind_hyphen, behind_other};
 ghost use Rattle.tui_para.specs.Hyphens.{is_hyphen, is_letter};
@@ -64,7 +64,7 @@ impl Hyphenation {
 
     #[inline(always)]
     fn behind_one(self, is_hyphen: bool, is_blank: bool) -> Hyphenation
-        ensures { result ≡ cond is_hyphen (behind_hyphen self) (behind_other is_blank self) }
+        ensures { result ≡ (if is_hyphen then behind_hyphen self else behind_other is_blank self) }
     {
         match self {
             Hyphenation::Off => Hyphenation::Off,
