@@ -7,6 +7,7 @@ pub mod Ideographs
 pub mod Leads
 pub mod LightTexts
 pub mod LoneChars
+pub mod QuickParts
 pub mod Seams
 pub mod Texts
 pub mod RowStays
