@@ -5,6 +5,7 @@ pub mod PlainChars
 pub mod PlainParts
 pub mod Ideographs
 pub mod Leads
+pub mod Letters
 pub mod LightTexts
 pub mod LoneChars
 pub mod QuickParts

@@ -51,6 +51,15 @@ pub record IsIdeograph (text : List ℕ) : Type 0 where
   pub low : 0x4000 ≤ char
   pub high : char ≤ 0x9FFF
 
+-- the text is one letter or sign of two bytes: U+00C0 to U+02FF, or U+0380 to U+047F
+abbrev pub letter_ranges : List Range
+letter_ranges = (0x00C0, 0x02FF) ∷ (0x0380, 0x047F) ∷ []
+
+pub record IsLetter (text : List ℕ) : Type 0 where
+  pub char : ℕ
+  pub is : chars text ≡ char ∷ []
+  pub within : in_ranges letter_ranges char ≡ true
+
 -- of a character's first byte: how many bytes the character has, where that byte tells a plain one, and else 0. It tells U+0020 to
 -- U+007E, U+00C0 to U+02FF, U+0380 to U+047F, and U+4000 to U+9FFF
 unfoldable pub plain_len : ℕ → ℕ

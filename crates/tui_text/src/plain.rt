@@ -2,7 +2,7 @@
 
 ghost use Rattle.std.specs.Prelude.{◌≡◌, ◌<◌, ◌≤◌, ◌&&◌, nat_le, [], ◌∷◌, ◌++◌, chars, length, encode_utf8, IfSome, IsTrue};
 ghost use Rattle.std.specs.Str.{IsUtf8};
-ghost use Rattle.tui_text.specs.Plain.{is_plain, plain_len, IsIdeograph, IsPlainChar, IsPlainFirst};
+ghost use Rattle.tui_text.specs.Plain.{is_plain, plain_len, IsIdeograph, IsLetter, IsPlainChar, IsPlainFirst};
 
 /// Whether the character is a plain one.
 #[inline]
@@ -127,4 +127,17 @@ pub(crate) fn is_ideograph(text: &str) -> bool
         return false;
     }
     is_within(bytes[0] as u32, 0xe4, 0xe9)
+}
+
+/// Whether the text is one letter or sign of two bytes that the first of them tells.
+#[inline(always)]
+pub(crate) fn is_letter(text: &str) -> bool
+    ensures { IsTrue result → IsLetter text.now }
+{
+    let bytes = text.as_bytes();
+    if bytes.len() != 2 {
+        return false;
+    }
+    let first = bytes[0] as u32;
+    is_within(first, 0xc3, 0xcb) | is_within(first, 0xce, 0xd1)
 }
