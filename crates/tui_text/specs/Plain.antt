@@ -1,5 +1,25 @@
 -- Characters that no rule on grapheme clusters joins with one another.
-use Rattle.std.specs.Prelude.{◌≡◌, ℕ, ◌≤◌, Bool, true, false, ◌&&◌, ◌||◌, nat_le, if◌then◌else◌, List, [], ◌∷◌, ◌++◌, take, drop, encode_utf8, encode_utf8_all, chars}
+use Rattle.std.specs.Prelude.{
+  ◌≡◌,
+  ℕ,
+  ◌≤◌,
+  Bool,
+  true,
+  false,
+  ◌&&◌,
+  ◌||◌,
+  nat_le,
+  if◌then◌else◌,
+  List,
+  [],
+  ◌∷◌,
+  ◌++◌,
+  take,
+  drop,
+  encode_utf8,
+  encode_utf8_all,
+  chars,
+}
 use Rattle.std.specs.Str.{IsCharBoundary}
 use Rattle.tui_text.specs.Grapheme.{has_control}
 use Rattle.ucd_table.specs.Rows.{Range, in_ranges}
