@@ -1,5 +1,5 @@
 -- A text of one ideograph is two columns wide, and no blank.
-use Rattle.std.proofs.Common.{◌≡◌, ℕ, ◌<◌, ◌≤◌, Bool, true, false, not, ◌||◌, ◌&&◌, ◌==◌, nat_le, List, [], ◌∷◌, length, length-append, get_or, unwrap_or, min, refl, sym, ap, ◌∙◌, arith}
+use Rattle.std.proofs.Common.{◌≡◌, ℕ, ◌≤◌, Bool, true, false, not, ◌||◌, ◌&&◌, ◌==◌, nat_le, List, [], ◌∷◌, length, length-append, get_or, unwrap_or, refl, sym, ap, ◌∙◌, arith}
 use Rattle.std.specs.Prelude.{encode_utf8, encode_utf8_all}
 use Rattle.std.specs.Char.{is_whitespace}
 use Rattle.std.specs.Str.{IsUtf8}
@@ -37,7 +37,7 @@ kind_wide : (c : ℕ) → 0x4000 ≤ c → c ≤ 0x9FFF → kind c ≡ kinds.Wid
 unfolding in_ranges
 kind_wide c low high = sym (kind_from_number-kind_number c 2 (sym (two_from c (kind_number c) low high (wide c))))
 
-some_width : (c n : ℕ) → 0x4000 ≤ c → (alone false c).0 ≡ n → unwrap_or (char_width false c) 0 ≡ n
+pub some_width : (c n : ℕ) → 0xA0 ≤ c → (alone false c).0 ≡ n → unwrap_or (char_width false c) 0 ≡ n
 unfolding char_width
 some_width c n low e = grind (arith, nat_tests)
 
@@ -49,7 +49,7 @@ pub ideograph_width : (text : List ℕ) → IsIdeograph text → width_of text �
 unfolding width_of columns_of
 ideograph_width text p =
     let is = p.is in
-    let two : str_width false (p.char ∷ []) ≡ 2 = lone_width false p.char (let low = p.low in omega arith) ∙ some_width p.char 2 p.low (alone_wide p.char (kind_wide p.char p.low p.high)) in
+    let two : str_width false (p.char ∷ []) ≡ 2 = lone_width false p.char (let low = p.low in omega arith) ∙ some_width p.char 2 (let low = p.low in omega arith) (alone_wide p.char (kind_wide p.char p.low p.high)) in
     rw (is, two) refl
 
 white_ideograph : (c : ℕ) → 0x4000 ≤ c → is_whitespace c ≡ false

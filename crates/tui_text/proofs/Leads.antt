@@ -4,19 +4,19 @@ use lib.Utf8.{encode}
 use Rattle.std.proofs.lemmas.Bool.{cases_lt}
 
 module _ (c : ℕ) (r : List ℕ) where
-  first_one : c < 128 → (get_or (encode c ++ r) 0 0 ≡ c) × (length (encode c) ≡ 1)
+  pub first_one : c < 128 → (get_or (encode c ++ r) 0 0 ≡ c) × (length (encode c) ≡ 1)
   unfolding encode
   first_one h = rw (lt-ltb c 128 h) (refl, refl)
 
-  first_two : 128 ≤ c → c < 2048 → (get_or (encode c ++ r) 0 0 ≡ 192 + c / 64) × (length (encode c) ≡ 2)
+  pub first_two : 128 ≤ c → c < 2048 → (get_or (encode c ++ r) 0 0 ≡ 192 + c / 64) × (length (encode c) ≡ 2)
   unfolding encode
   first_two l h = rw (le-ltb c 128 l, lt-ltb c 2048 h) (refl, refl)
 
-  first_three : 2048 ≤ c → c < 65536 → (get_or (encode c ++ r) 0 0 ≡ 224 + c / 4096) × (length (encode c) ≡ 3)
+  pub first_three : 2048 ≤ c → c < 65536 → (get_or (encode c ++ r) 0 0 ≡ 224 + c / 4096) × (length (encode c) ≡ 3)
   unfolding encode
   first_three l h = rw (le-ltb c 128 (omega arith), le-ltb c 2048 l, lt-ltb c 65536 h) (refl, refl)
 
-  first_four : 65536 ≤ c → (get_or (encode c ++ r) 0 0 ≡ 240 + c / 262144) × (length (encode c) ≡ 4)
+  pub first_four : 65536 ≤ c → (get_or (encode c ++ r) 0 0 ≡ 240 + c / 262144) × (length (encode c) ≡ 4)
   unfolding encode
   first_four l = rw (le-ltb c 128 (omega arith), le-ltb c 2048 (omega arith), le-ltb c 65536 l) (refl, refl)
 

@@ -5,8 +5,10 @@ pub mod PlainChars
 pub mod PlainParts
 pub mod Ideographs
 pub mod Leads
+pub mod Letters
 pub mod LightTexts
 pub mod LoneChars
+pub mod QuickParts
 pub mod Seams
 pub mod Texts
 pub mod RowStays

@@ -4,25 +4,13 @@ use Rattle.std.specs.Prelude.{encode_utf8, encode_utf8_all}
 use Rattle.std.specs.Str.{chars, IsUtf8, IsCharBoundary}
 use Rattle.std.proofs.lemmas.Bool.{cases_lt, cond-true}
 use Rattle.std.proofs.lemmas.List.{drop_all, map-append, take_all}
-use Rattle.std.proofs.lemmas.Str.{
-  chars-append,
-  chars_from_encodes,
-  chars_past_char,
-  encode_ascii,
-  encodes-append,
-  length-le-encodes,
-  IsCharBoundary-at_seam,
-  IsCharBoundary-before_ascii,
-  IsUtf8-drop,
-  IsUtf8-take,
-}
+use Rattle.std.proofs.lemmas.Str.{chars-append, chars_from_encodes, chars_past_char, encodes-append, length-le-encodes, IsCharBoundary-at_seam, IsUtf8-drop, IsUtf8-take}
 use Rattle.unicode_segmentation.specs.Grapheme.{graphemes, is_grapheme_break}
 use Rattle.unicode_segmentation.specs.Segments.{segments, cut}
 use Rattle.tui_text.specs.Graphemes.{is_shown}
-use Rattle.tui_text.specs.Part.{IsSeam}
 use Rattle.tui_text.specs.Plain.{is_plain, IsPlainChar, IsPlainSeam}
-use Rattle.tui_text.proofs.PartClusters.{graphemes-nil, printable_range}
-use Rattle.tui_text.proofs.PlainChars.{graphemes-plain, IsPlain-from, is_plain-printable, plain_shown}
+use Rattle.tui_text.proofs.PartClusters.{graphemes-nil}
+use Rattle.tui_text.proofs.PlainChars.{graphemes-plain, IsPlain-from, plain_shown}
 use Rattle.tui_text.proofs.Seams.{cut-seam}
 
 -- what was read of a text, and whether its last character is known to be plain
@@ -68,24 +56,6 @@ IsRead-seam text rest behind was c at u r h e p is =
       after = ap (λ n. drop n text) place ∙ (ap (drop (length front)) r.split ∙ (drop_at front rest (length front) refl ∙ e));
       last_plain = l.3;
       next_plain = p;
-    }
-
--- two printable characters of one byte at the text's start
-pub IsPlainSeam-printable : (text : List ℕ) → 1 < length text → IsSeam text 1 → IsPlainSeam text 1
-IsPlainSeam-printable [] some s = absurd (omega arith)
-IsPlainSeam-printable (b ∷ []) some s = absurd (omega arith)
-IsPlainSeam-printable (b ∷ c ∷ rest) some s =
-    let x = printable_range b s.before in
-    let y = printable_range c s.after in record {
-      boundary = IsCharBoundary-before_ascii (b ∷ c ∷ rest) 1 some (omega arith);
-      front = [];
-      last = b;
-      next = c;
-      back = rest;
-      before = sym (append-nil (encode_utf8 b) ∙ encode_ascii b (omega arith));
-      after = ap (λ t. t ++ rest) (sym (encode_ascii c (omega arith)));
-      last_plain = is_plain-printable b x.0 x.1;
-      next_plain = is_plain-printable c y.0 y.1;
     }
 
 graphemes-seam : (text : List ℕ) (i : ℕ) → IsUtf8 text → IsPlainSeam text i → graphemes true text ≡ graphemes true (take i text) ++ graphemes true (drop i text)

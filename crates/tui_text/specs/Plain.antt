@@ -1,7 +1,29 @@
 -- Characters that no rule on grapheme clusters joins with one another.
-use Rattle.std.specs.Prelude.{◌≡◌, ℕ, ◌≤◌, Bool, true, List, [], ◌∷◌, ◌++◌, take, drop, encode_utf8, encode_utf8_all, chars}
+use Rattle.std.specs.Prelude.{
+  ◌≡◌,
+  ℕ,
+  ◌≤◌,
+  Bool,
+  true,
+  false,
+  ◌&&◌,
+  ◌||◌,
+  nat_le,
+  if◌then◌else◌,
+  List,
+  [],
+  ◌∷◌,
+  ◌++◌,
+  take,
+  drop,
+  encode_utf8,
+  encode_utf8_all,
+  chars,
+}
 use Rattle.std.specs.Str.{IsCharBoundary}
+use Rattle.tui_text.specs.Grapheme.{has_control}
 use Rattle.ucd_table.specs.Rows.{Range, in_ranges}
+use Rattle.unicode_segmentation.specs.Grapheme.{graphemes}
 
 -- ranges without controls, marks, jamo, prepended characters, flags, and consonants and linkers of conjuncts, and with no white
 -- space but U+0020: most of Latin, Greek, Cyrillic and CJK, their punctuation, and symbols
@@ -48,3 +70,27 @@ pub record IsIdeograph (text : List ℕ) : Type 0 where
   pub is : chars text ≡ char ∷ []
   pub low : 0x4000 ≤ char
   pub high : char ≤ 0x9FFF
+
+-- the text is one letter or sign of two bytes: U+00C0 to U+02FF, or U+0380 to U+047F
+abbrev pub letter_ranges : List Range
+letter_ranges = (0x00C0, 0x02FF) ∷ (0x0380, 0x047F) ∷ []
+
+pub record IsLetter (text : List ℕ) : Type 0 where
+  pub char : ℕ
+  pub is : chars text ≡ char ∷ []
+  pub within : in_ranges letter_ranges char ≡ true
+
+-- of a character's first byte: how many bytes the character has, where that byte tells a plain one, and else 0. It tells U+0020 to
+-- U+007E, U+00C0 to U+02FF, U+0380 to U+047F, and U+4000 to U+9FFF
+unfoldable pub plain_len : ℕ → ℕ
+plain_len b =
+    if nat_le 0x20 b && nat_le b 0x7E then 1
+    else if nat_le 0xE4 b && nat_le b 0xE9 then 3
+    else if (nat_le 0xC3 b && nat_le b 0xCB) || (nat_le 0xCE b && nat_le b 0xD1) then 2
+    else 0
+
+-- the first cluster of the text has n bytes, and is shown
+pub record IsPlainFirst (text : List ℕ) (n : ℕ) : Type 0 where
+  pub boundary : IsCharBoundary text n
+  pub clusters : graphemes true text ≡ take n text ∷ graphemes true (drop n text)
+  pub shown : has_control (take n text) ≡ false

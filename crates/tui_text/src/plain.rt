@@ -2,7 +2,7 @@
 
 ghost use Rattle.std.specs.Prelude.{◌≡◌, ◌<◌, ◌≤◌, ◌&&◌, nat_le, [], ◌∷◌, ◌++◌, chars, length, encode_utf8, IfSome, IsTrue};
 ghost use Rattle.std.specs.Str.{IsUtf8};
-ghost use Rattle.tui_text.specs.Plain.{is_plain, IsIdeograph, IsPlainChar};
+ghost use Rattle.tui_text.specs.Plain.{is_plain, plain_len, IsIdeograph, IsLetter, IsPlainChar, IsPlainFirst};
 
 /// Whether the character is a plain one.
 #[inline]
@@ -47,6 +47,38 @@ fn is_within(code: u32, low: u32, high: u32) -> bool
     ensures { result ≡ (nat_le low code && nat_le code high) }
 {
     low <= code && code <= high
+}
+
+/// How many bytes a plain character has that begins with this byte, as far as the byte alone tells one, and else 0.
+#[inline(always)]
+#[tactic(auto, unfolding(crate::specs::Plain::plain_len))]
+fn plain_len(byte: u8) -> usize
+    ensures { result ≡ plain_len byte }
+{
+    let code = byte as u32;
+    if is_within(code, 0x20, 0x7e) {
+        1
+    } else if is_within(code, 0xe4, 0xe9) {
+        3
+    } else if is_within(code, 0xc3, 0xcb) | is_within(code, 0xce, 0xd1) {
+        2
+    } else {
+        0
+    }
+}
+
+/// The length of the plain character at a text's start, where first bytes alone tell it and one behind it, if there is one. Else 0.
+#[inline(always)]
+pub(crate) fn quick_len(text: &str) -> usize
+    requires { 0 < length text.now }
+    ensures { 0 < result → IsPlainFirst text.now result }
+{
+    let bytes = text.as_bytes();
+    let len = plain_len(bytes[0]);
+    if len >= bytes.len() {
+        return len;
+    }
+    if plain_len(bytes[len]) > 0 { len } else { 0 }
 }
 
 /// A text's first character, and the text behind it.
@@ -95,4 +127,17 @@ pub(crate) fn is_ideograph(text: &str) -> bool
         return false;
     }
     is_within(bytes[0] as u32, 0xe4, 0xe9)
+}
+
+/// Whether the text is one letter or sign of two bytes that the first of them tells.
+#[inline(always)]
+pub(crate) fn is_letter(text: &str) -> bool
+    ensures { IsTrue result → IsLetter text.now }
+{
+    let bytes = text.as_bytes();
+    if bytes.len() != 2 {
+        return false;
+    }
+    let first = bytes[0] as u32;
+    is_within(first, 0xc3, 0xcb) | is_within(first, 0xce, 0xd1)
 }

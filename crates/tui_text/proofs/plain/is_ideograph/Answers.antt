@@ -1,4 +1,4 @@
-use Rattle.std.proofs.Common.{◌≡◌, length, get_or, sym, ap, ◌∙◌, arith, nat_le, ◌&&◌, true}
+use Rattle.std.proofs.Common.{◌≡◌, length, get_or, sym, ap, ◌∙◌, arith, nat_le, ◌&&◌}
 use Rattle.tui_text.proofs.Ideographs.{IsIdeograph-from}
 use Rattle.tui_text.proofs.plain.is_ideograph.Goals as goal
 
