@@ -31,7 +31,8 @@ use Rattle.std.specs.List.{All}
 use Rattle.std.proofs.lemmas.Bool.{cases_lt}
 use Rattle.std.proofs.lemmas.List.{get_or-replicate, length-replicate}
 use Rattle.std.proofs.lemmas.List.Elements.{All-from_get_or, All-get_or}
-use Rattle.tui_cells.specs.Buffer.{IsRow, RowEdited, row_cells}
+use Rattle.tui_cells.specs.Buffer.{RowEdited}
+use Rattle.tui_cells.specs.Keeping.{IsRow, row_cells}
 use Rattle.tui_cells.specs.Cell.{Edit, IsAtRest, Look, blank, edited}
 
 -- cells that are made are those of the row

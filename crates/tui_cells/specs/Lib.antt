@@ -8,6 +8,8 @@ pub mod Strategies
 pub mod Cell
 pub mod Attributes
 pub mod Buffer
+pub mod Keeping
+pub mod ColorText
 pub mod Text
 pub mod Layers
 pub mod Stays

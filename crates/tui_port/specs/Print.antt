@@ -3,7 +3,7 @@ use Rattle.std.specs.Prelude.{◌≡◌, ℕ, ◌+◌, ◌/◌, ◌%◌, List, [
 use Rattle.tui_cells.specs.Cell.{Look}
 use Rattle.tui_cells.specs.Buffer.{Screen}
 use Rattle.tui_text.specs.Visible.{Placed, visible, visible_from}
-use Rattle.tui_scene.specs.ColorText.{color_text}
+use Rattle.tui_cells.specs.ColorText.{color_text}
 use Rattle.tui_scene.specs.Item.{ItemData, PlacedData, list, scrollbar, still, table}
 use Rattle.tui_port.specs.Runs.{StyleRun, AreStyleRuns}
 

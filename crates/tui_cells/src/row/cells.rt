@@ -1,7 +1,8 @@
 //! Neighbouring cells.
 
 ghost use Rattle.std.specs.Prelude.{◌≡◌, ◌≤◌, ◌<◌, [], ℕ, IfOk, length, replicate, slice_index_or, vec_capacity};
-ghost use Rattle.tui_cells.specs.Buffer.{RowEdited, row_cells};
+ghost use Rattle.tui_cells.specs.Buffer.{RowEdited};
+ghost use Rattle.tui_cells.specs.Keeping.{row_cells};
 ghost use Rattle.tui_cells.specs.Cell.{IsAtRest, blank, dim, dress, put, wipe};
 
 use crate::cell::Cell;

@@ -2,7 +2,7 @@
 
 ghost use Rattle.std.specs.Prelude.{◌<◌, ◌≡◌, decimal};
 ghost use Rattle.tui_port.specs.Gathers.{Gathers};
-ghost use Rattle.tui_scene.specs.ColorText.{color_text, hex_digit};
+ghost use Rattle.tui_cells.specs.ColorText.{color_text, hex_digit};
 
 use crate::print::Print;
 use crate::sink::Sink;
@@ -30,7 +30,7 @@ fn put_digits<K: Sink>(print: &mut Print, n: usize, sink: &mut K)
 }
 
 /// Adds a colour: its name, `#` and six hexadecimal digits, or its index.
-#[tactic(auto, unfolding(tui_scene::specs::ColorText::color_text))]
+#[tactic(auto, unfolding(tui_cells::specs::ColorText::color_text))]
 pub(crate) fn put_color<K: Sink>(print: &mut Print, color: Color, sink: &mut K)
     ensures { Gathers (K.told sink.old) (K.told sink.new) print.old print.new (color_text color) }
 {

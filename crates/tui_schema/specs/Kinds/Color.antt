@@ -5,7 +5,7 @@ use Rattle.serde_json.specs.Data.{Data, number, string}
 use Rattle.serde_json.specs.Find.{as_u64}
 use Rattle.tui_cells.specs.declared.color.Color.{Color}
 use Rattle.tui_cells.specs.declared.color.Color.TheVariants as colors
-use Rattle.tui_scene.specs.ColorText.{color_text}
+use Rattle.tui_cells.specs.ColorText.{color_text}
 use Rattle.tui_json.specs.Members.{◌>>=◌, named}
 
 -- the colours that have a name

@@ -9,7 +9,7 @@ use std::alloc::Global;
 use tui_cells::Color;
 use tui_json::{Kind, KindError};
 
-#[tactic(auto, unfolding(crate::specs::Kinds::Color::color_named, tui_scene::specs::ColorText::color_text))]
+#[tactic(auto, unfolding(crate::specs::Kinds::Color::color_named, tui_cells::specs::ColorText::color_text))]
 fn named_color(text: &str) -> Option<Color>
     ensures { result ≡ color_named text.now }
 {

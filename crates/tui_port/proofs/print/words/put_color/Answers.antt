@@ -1,4 +1,4 @@
-use Rattle.tui_scene.specs.ColorText.{color_text}
+use Rattle.tui_cells.specs.ColorText.{color_text}
 use Rattle.tui_port.proofs.print.words.put_color.Goals as goal
 
 pub returns-in-LightYellow : goal.returns-in-LightYellow
