@@ -5,16 +5,14 @@ use Rattle.std.specs.Str.{IsUtf8}
 use Rattle.std.proofs.lemmas.Bool.Decides.{nat_tests}
 use Rattle.std.proofs.lemmas.List.{length-drop, take-append-drop, take_more}
 use Rattle.tui_text.specs.Grapheme.{width_of}
-use Rattle.tui_text.specs.Part.{IsSeam, is_printable}
+use Rattle.tui_text.specs.Part.{IsSeam}
 use Rattle.tui_text.proofs.OneByte.{printable_blank, printable_shown, printable_width}
 use Rattle.unicode_segmentation.specs.Grapheme.{graphemes}
+use Rattle.tui_text.proofs.PartClusters.{printable_range}
 use Rattle.tui_places.specs.Next.{IsHiddenUpTo, IsShown}
 use Rattle.tui_places.specs.Places.{is_newline}
 use Rattle.tui_places.proofs.FirstCluster.{printable_first}
 use Rattle.tui_places.proofs.ShownClusters.{goes_on-refl, next_shown}
-
-bounds : (b : ℕ) → is_printable b ≡ true → (32 ≤ b) × (b ≤ 126)
-bounds b h = grind (arith, nat_tests)
 
 no_newline : (b : ℕ) → 32 ≤ b → is_newline (b ∷ []) ≡ false
 no_newline b low = grind (arith, nat_tests)
@@ -32,7 +30,7 @@ printable_next w text rest blank u v some two s e blank_is =
     let b = slice_index text 0 in
     let c = take 1 text in
     let one : c ≡ b ∷ [] = take_more text 0 0 (omega arith) in
-    let range = bounds b s.before in
+    let range = printable_range b s.before in
     let clusters = printable_first text u two s ∙ ap (λ t. c ∷ t) (ap (graphemes true) (sym e)) in
     let whole = sym (take-append-drop 1 text) ∙ ap (λ t. c ++ t) (sym e) in
     let size = ap length e ∙ length-drop 1 text in
