@@ -11,9 +11,12 @@ use crate::places::rest_from;
 /// The byte of a newline.
 const NEWLINE: u8 = 10;
 
+/// How many bytes are searched for a newline: behind a longer text line none is cut off.
+const REACH: usize = 512;
+
 /// A first part of the text that has the same first `lines` lines, where it is wrapped into lines of `width` columns that break at
-/// blanks alone. It ends behind the first newline from byte `near` on; where there is none, or the part has no line more than these, it
-/// is the whole text. The work is that of these lines and of the bytes up to the newline. It takes no memory.
+/// blanks alone. It ends behind the first newline from byte `near` on; where there is none in reach, or the part has no line more than
+/// these, it is the whole text. The work is that of these lines and of some hundred bytes. It takes no memory.
 pub fn first_part(text: &str, width: u16, trim: bool, lines: usize, near: usize) -> &str
     ensures { HaveSameLines width trim lines text.now result.now }
 {
@@ -29,15 +32,20 @@ pub fn first_part(text: &str, width: u16, trim: bool, lines: usize, near: usize)
     }
 }
 
-/// The place behind the first newline from a byte on. No clause: what stands there is looked at.
+/// The place behind the first newline from a byte on, or the text's end. No clause: what stands before it is looked at.
 fn newline_end(text: &str, near: usize) -> usize {
-    let bytes = text.as_bytes();
-    'bytes: for i in near..bytes.len() {
-        if bytes[i] == NEWLINE {
-            return i + 1;
-        }
+    match text_near(text, near).and_then(|behind| behind.find('\n')) {
+        Some(i) => near.saturating_add(i).saturating_add(1),
+        None => text.len(),
     }
-    bytes.len()
+}
+
+/// The text from a byte on, mostly no more of it than is worth a search.
+fn text_near(text: &str, near: usize) -> Option<&str> {
+    match text.get(near..near.saturating_add(REACH)) {
+        Some(behind) => Some(behind),
+        None => text.get(near..),
+    }
 }
 
 fn ends_in_newline(text: &str) -> bool
