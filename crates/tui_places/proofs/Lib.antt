@@ -11,4 +11,5 @@ mod Walked
 mod WrappedLines
 mod AfterLine
 mod FromLine
+mod FirstPart
 pub mod RestLayers

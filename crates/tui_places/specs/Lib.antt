@@ -4,3 +4,4 @@ pub mod Next
 pub mod Walks
 pub mod AfterLine
 pub mod Reading
+pub mod Parts

@@ -17,7 +17,7 @@ pub fn from_line(text: &str, width: u16, trim: bool, line: usize) -> Option<&str
     rest_from(text, width, trim, line)
 }
 
-fn rest_from(text: &str, width: u16, trim: bool, line: usize) -> Option<&str>
+pub(crate) fn rest_from(text: &str, width: u16, trim: bool, line: usize) -> Option<&str>
     ensures { MatchOption result (HasAtMost width trim text.now line) (λ rest. IsUtf8 rest.now × IsFromLine width trim line text.now rest.now) }
 {
     let mut rest = text;

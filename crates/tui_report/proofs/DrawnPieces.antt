@@ -1,7 +1,8 @@
 -- Pieces one below the other.
-use Rattle.std.proofs.Common.{◌≡◌, ℕ, zero, suc, ◌+◌, ◌<◌, ◌≤◌, List, [], ◌∷◌, length, map, drop, take, get_or}
+use Rattle.std.proofs.Common.{◌≡◌, ℕ, zero, suc, ◌+◌, ◌-◌, ◌<◌, ◌≤◌, min, false, List, [], ◌∷◌, length, map, drop, take, get_or}
 use Rattle.std.proofs.Common.{sym, ap, ◌∙◌, subst, arith}
 use Rattle.std.specs.Prelude.{slice_index_or}
+use Rattle.std.proofs.lemmas.Bool.Decides.{nat_tests}
 use Rattle.std.proofs.lemmas.List.{drop_more, get_or-map}
 use Rattle.std.proofs.lemmas.List.Sums.{sum_by-cons}
 use Rattle.tui_cells.specs.Buffer.{Screen}
@@ -9,7 +10,6 @@ use Rattle.tui_cells.specs.Layers.{KeptOutside, Painted}
 use Rattle.tui_cells.specs.Rect.{covers, rows_from}
 use Rattle.tui_cells.specs.declared.rect.Rect.{Rect}
 use Rattle.tui_cells.proofs.Painting.{KeptOutside-then, KeptOutside-weaker, Painted-none, Painted-then}
-use Rattle.tui_cells.proofs.Regions.{rows_out}
 use Rattle.tui_layout.specs.declared.segment.Segment.{Segment}
 use Rattle.tui_report.specs.Pages.{lines_on, size_of}
 use Rattle.tui_report.specs.Report.{cells_of}
@@ -59,9 +59,18 @@ unfolding pieces_layers
 pieces_done buffer page places records row i pieces a h =
     subst (λ qs. Painted (pieces_layers buffer page places records row qs) a a) (sym (drop_past i pieces h)) (Painted-none a)
 
--- what keeps all outside some rows of an area keeps all outside the area
-pub rows_kept : (page rows : Rect) (from count : ℕ) (a b c : Screen) → KeptOutside (covers page) a b → rows ≡ rows_from page from count →
-    KeptOutside (covers rows) b c → KeptOutside (covers page) a c
-rows_kept page rows from count a b c before e k =
-    KeptOutside-then before
-    (KeptOutside-weaker (λ x y out. rows_out page from count x y out) (subst (λ (r : Rect). KeptOutside (covers r) b c) e k))
+-- rows of a part of an area
+part_out : (page : Rect) (above size from count : ℕ) (x y : ℕ) → above ≤ from → min (from + count) page.height ≤ above + size →
+    covers (rows_from page above size) x y ≡ false → covers (rows_from page from count) x y ≡ false
+part_out page above size from count x y low high out = grind (arith, nat_tests)
+
+pub part_kept : (page rows : Rect) (above size from count : ℕ) (a b : Screen) → above ≤ from → min (from + count) page.height ≤ above + size →
+    rows ≡ rows_from page from count → KeptOutside (covers rows) a b → KeptOutside (covers (rows_from page above size)) a b
+part_kept page rows above size from count a b low high e kept =
+    KeptOutside-weaker (λ x y out. part_out page above size from count x y low high out) (subst (λ (R : Rect). KeptOutside (covers R) a b) e kept)
+
+-- what keeps all outside some rows below the first two keeps all outside these
+pub rows_kept : (page rows : Rect) (from count : ℕ) (a b c : Screen) → 2 ≤ from → KeptOutside (covers (rows_from page 2 (page.height - 2))) a b →
+    rows ≡ rows_from page from count → KeptOutside (covers rows) b c → KeptOutside (covers (rows_from page 2 (page.height - 2))) a c
+rows_kept page rows from count a b c low before e k =
+    KeptOutside-then before (part_kept page rows 2 (page.height - 2) from count b c low (omega arith) e k)

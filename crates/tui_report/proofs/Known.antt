@@ -107,11 +107,12 @@ cell_there (cells ∷ records) (suc place) i cell e = cell_there records place i
 -- the places of a page are those of its first piece
 pub page_row : (places : List Segment) (records : List (List (List ℕ))) (pages : List (List Piece)) (starts row : List ℕ) (at : ℕ)
     (pieces : List Piece) (p : Piece) → HaveStarts places records pages starts → at < length pages → slice_get pages at ≡ Some pieces →
-    length row ≤ length places → ((i : ℕ) → i < length row → (at * length places + i < length starts) ×
+    ((i : ℕ) → i < length row → (at * length places + i < length starts) ×
     (slice_index row i ≡ slice_index starts (at * length places + i))) →
     slice_get pieces 0 ≡ Some p → RowStarts p.from places (slice_index_or records p.place []) row
-page_row places records pages starts row at pieces p have h page size known first i place cell start ep ec es wide =
+page_row places records pages starts row at pieces p have h page known first i place cell start ep ec es wide =
     let n = length places in
+    let column = slice_get_within places i place ep in
     let within = slice_get_within row i start es in
     let k = known i within in
     let page_is : (at * n + i) / n ≡ at = div-mul-add at n i (omega arith) in
@@ -124,16 +125,16 @@ page_row places records pages starts row at pieces p have h page size known firs
 -- the same of what was read of them
 pub page_row_read : (places given : List Segment) (records rs : List Record) (pages : List (List Piece)) (starts read row : List ℕ) (at columns : ℕ)
     (pieces : List Piece) → HaveStarts places (map cells_of records) pages starts → given ≡ places → rs ≡ records → read ≡ starts →
-    columns ≡ length places → at < length pages → slice_get pages at ≡ Some pieces → length row ≤ columns →
+    columns ≡ length places → at < length pages → slice_get pages at ≡ Some pieces →
     ((i : ℕ) → i < length row → (at * columns + i < length read) × (slice_index row i ≡ slice_index read (at * columns + i))) →
     (p : Piece) → slice_get pieces 0 ≡ Some p → RowStarts p.from given (slice_index_or (map cells_of rs) p.place []) row
-page_row_read places given records rs pages starts read row at columns pieces have g r s n h page size known p first =
+page_row_read places given records rs pages starts read row at columns pieces have g r s n h page known p first =
     let known_here : (i : ℕ) → i < length row → (at * length places + i < length starts) × (slice_index row i ≡ slice_index starts (at * length places + i)) =
     subst (λ m. (i : ℕ) → i < length row → (at * m + i < length starts) × (slice_index row i ≡ slice_index starts (at * m + i))) n
     (subst (λ xs. (i : ℕ) → i < length row → (at * columns + i < length xs) × (slice_index row i ≡ slice_index xs (at * columns + i))) s known) in
     subst (λ ps. RowStarts p.from ps (slice_index_or (map cells_of rs) p.place []) row) (sym g)
     (subst (λ xs. RowStarts p.from places (slice_index_or (map cells_of xs) p.place []) row) (sym r)
-    (page_row places (map cells_of records) pages starts row at pieces p have h page (omega (arith, n, size)) known_here first))
+    (page_row places (map cells_of records) pages starts row at pieces p have h page known_here first))
 
 pub have_read : (places given : List Segment) (records rs : List Record) (pages read : List (List Piece)) (starts : List ℕ) → given ≡ places → rs ≡ records →
     read ≡ pages → HaveStarts given (map cells_of rs) read starts → HaveStarts places (map cells_of records) pages starts

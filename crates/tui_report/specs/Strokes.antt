@@ -64,12 +64,26 @@ pub record IsDrawable (count : ℕ) (p : Piece) : Type 0 where
 abbrev pub page_area : ReportData → Rect
 page_area r = area_of 0 0 r.width r.height
 
--- the title, the names, the pieces and, in the last row at the right, the page's number
-unfoldable pub page_layers : ReportData → ℕ → Rect → List Layer
-page_layers r at buffer =
+-- the rows of the title and the names, and those below them
+abbrev pub head_area : ReportData → Rect
+head_area r = rows_from (page_area r) 0 2
+
+abbrev pub body_area : ReportData → Rect
+body_area r = rows_from (page_area r) 2 (r.height - 2)
+
+-- the title and the names, the same on all pages
+unfoldable pub head_layers : ReportData → Rect → List Layer
+head_layers r buffer =
+    drawn_in buffer (rows_from (page_area r) 0 1) (plain r.title) ++
+    names_layers buffer (rows_from (page_area r) 1 1) (places_of r.width r.columns) r.columns
+
+-- the pieces and, in the last row at the right, the page's number
+unfoldable pub body_layers : ReportData → ℕ → Rect → List Layer
+body_layers r at buffer =
     let page = page_area r in
-    let places = places_of r.width r.columns in
-    drawn_in buffer (rows_from page 0 1) (plain r.title) ++
-    (names_layers buffer (rows_from page 1 1) places r.columns ++
-    (pieces_layers buffer page places r.records 2 (slice_index_or r.pages at []) ++
-    drawn_in buffer (rows_from page (r.height - 1) 1) (number_paragraph at (length r.pages))))
+    pieces_layers buffer page (places_of r.width r.columns) r.records 2 (slice_index_or r.pages at []) ++
+    drawn_in buffer (rows_from page (r.height - 1) 1) (number_paragraph at (length r.pages))
+
+-- all of a page
+unfoldable pub page_layers : ReportData → ℕ → Rect → List Layer
+page_layers r at buffer = head_layers r buffer ++ body_layers r at buffer

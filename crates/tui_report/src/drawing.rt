@@ -1,8 +1,8 @@
 //! What stands on a page.
 
-ghost use Rattle.std.specs.Prelude.{◌≡◌, ◌+◌, ◌<◌, ◌≤◌, [], All, IfSome, None, OnOk, Some, length, map, slice_get, slice_index_or};
+ghost use Rattle.std.specs.Prelude.{◌≡◌, ◌+◌, ◌-◌, ◌<◌, ◌≤◌, [], All, IfSome, None, OnOk, Some, length, map, option_map, slice_get, slice_index_or};
 ghost use Rattle.tui_cells.specs.Layers.{KeptOutside, Painted};
-ghost use Rattle.tui_cells.specs.Rect.{covers, intersection_of};
+ghost use Rattle.tui_cells.specs.Rect.{covers, intersection_of, rows_from};
 ghost use Rattle.tui_para.specs.Paragraph.{paragraph_data};
 ghost use Rattle.tui_report.specs.Pages.{lines_on};
 ghost use Rattle.tui_report.specs.Report.{cells_of, column_data};
@@ -18,6 +18,7 @@ use std::alloc::Global;
 use tui_cells::{Buffer, Mem, Rect, Widget};
 use tui_layout::Segment;
 use tui_para::Paragraph;
+use tui_places::first_part;
 use tui_text::Text;
 
 /// The first row of the pieces, below the title and the names.
@@ -50,23 +51,35 @@ fn draw_cell(alloc: Global, cell: &str, line: u16, area: Rect, buf: &mut Buffer)
     draw_in(alloc, &paragraph, area, buf)
 }
 
-/// The lines of a cell from one on, with which it goes on from this byte on at the width that the buffer has of the area.
+/// From which byte a cell goes on, and near which byte behind that its lines on the page end.
+#[derive(Clone, Copy, Debug)]
+struct Resumed {
+    start: usize,
+    near: usize,
+}
+
+/// The lines of a cell from one on, with which it goes on from a byte on at the width of the clip. Of what stands behind the last
+/// row of the clip little is read.
 fn draw_from(
     alloc: Global,
     cell: &str,
     line: u16,
-    start: usize,
-    width: u16,
+    from: Resumed,
+    clip: Rect,
     area: Rect,
     buf: &mut Buffer,
 ) -> Mem<()>
-    requires goes_on { GoesOn width line cell.now start }
-    requires width { (intersection_of area buf.old.area).width ≡ width }
+    requires goes_on { GoesOn clip.width line cell.now from.start }
+    requires clip { clip ≡ intersection_of area buf.old.area }
     ensures ok { OnOk result (Painted (drawn_in buf.old.area area (cell_from line cell.now)) buf.old buf.new) }
     ensures kept { KeptOutside (covers area) buf.old buf.new }
 {
-    match cell.split_at_checked(start) {
-        Some((_, rest)) => draw_cell(alloc, rest, 0, area, buf),
+    match cell.split_at_checked(from.start) {
+        Some((_, rest)) => {
+            let rows = usize::from(clip.height);
+            let shown = first_part(rest, clip.width, true, rows, from.near);
+            draw_cell(alloc, shown, 0, area, buf)
+        }
         None => draw_in(alloc, &Paragraph::new(Text::new(alloc)), area, buf),
     }
 }
@@ -77,19 +90,19 @@ fn draw_rest(
     alloc: Global,
     cell: &str,
     line: u16,
-    start: Option<usize>,
+    from: Option<Resumed>,
     width: u16,
     area: Rect,
     buf: &mut Buffer,
 ) -> Mem<()>
-    requires { IfSome start (λ s. 0 < width → GoesOn width line cell.now s) }
+    requires { IfSome from (λ r. 0 < width → GoesOn width line cell.now r.start) }
     ensures ok { OnOk result (Painted (drawn_in buf.old.area area (cell_from line cell.now)) buf.old buf.new) }
     ensures kept { KeptOutside (covers area) buf.old buf.new }
 {
     let clip = area.intersection(buf.area());
-    match start {
-        Some(start) if width > 0 && clip.width == width => {
-            draw_from(alloc, cell, line, start, width, area, buf)
+    match from {
+        Some(from) if width > 0 && clip.width == width => {
+            draw_from(alloc, cell, line, from, clip, area, buf)
         }
         _ => draw_cell(alloc, cell, line, area, buf),
     }
@@ -131,18 +144,25 @@ pub(crate) fn draw_names(
     Ok(())
 }
 
-fn start_of(starts: &[usize], i: usize) -> Option<usize>
-    ensures { result ≡ slice_get starts.now i }
+/// From where the cell in a column goes on, where that is known.
+fn from_where(starts: &[usize], i: usize, columns: usize) -> Option<Resumed>
+    ensures { option_map (λ r. r.start) result ≡ slice_get starts.now i }
 {
-    if i < starts.len() {
-        Some(starts[i])
-    } else {
-        None
-    }
+    let start = *starts.get(i)?;
+    Some(Resumed {
+        start,
+        near: next_start(starts, i, columns).saturating_sub(start),
+    })
+}
+
+/// Where the next page goes on in that column. No clause: it is looked at before it is used.
+fn next_start(starts: &[usize], i: usize, columns: usize) -> usize {
+    let next = i.saturating_add(columns);
+    if next < starts.len() { starts[next] } else { 0 }
 }
 
 /// The cells of a record from one of its lines on, side by side. `starts` are the bytes from which they go on with it, as far as these
-/// are known.
+/// are known, and behind them those from which the next page goes on.
 fn draw_cells(
     alloc: Global,
     entry: &Record<'_>,
@@ -160,13 +180,13 @@ fn draw_cells(
     'cells: for i in 0..places.len().min(cells.len()) {
         let place = places[i];
         let area = rows.columns_from(place.start, place.width);
-        let start = start_of(starts, i);
-        draw_rest(alloc, cells[i], line, start, place.width, area, buf)?;
+        let from = from_where(starts, i, places.len());
+        draw_rest(alloc, cells[i], line, from, place.width, area, buf)?;
     }
     Ok(())
 }
 
-/// The pieces of a page, one below the other. `starts` are the bytes from which the cells of the first one go on.
+/// The pieces of a page, one below the other. `starts` are the bytes from which the cells of the first one go on, and so on page by page.
 pub(crate) fn draw_pieces(
     alloc: Global,
     pieces: &[Piece],
@@ -178,9 +198,10 @@ pub(crate) fn draw_pieces(
 ) -> Mem<()>
     requires drawable { All (IsDrawable (length records.now)) pieces.now }
     requires fit { lines_on pieces.now + 3 ≤ page.height }
-    requires starts { (p : Piece) → slice_get pieces.now 0 ≡ Some p → RowStarts p.from places.now (slice_index_or (map cells_of records.now) p.place []) starts.now }
+    requires starts { (p : Piece) → slice_get pieces.now 0 ≡ Some p
+        → RowStarts p.from places.now (slice_index_or (map cells_of records.now) p.place []) starts.now }
     ensures ok { OnOk result (Painted (pieces_layers buf.old.area page places.now (map cells_of records.now) 2 pieces.now) buf.old buf.new) }
-    ensures kept { KeptOutside (covers page) buf.old buf.new }
+    ensures kept { KeptOutside (covers (rows_from page 2 (page.height - 2))) buf.old buf.new }
 {
     let mut row = TOP;
     'pieces: for i in 0..pieces.len() {

@@ -6,7 +6,7 @@ ghost use Rattle.tui_cells.specs.Rect.{covers};
 ghost use Rattle.tui_report.specs.Heights.{IsFirstTooTall, heights_of, most_lines};
 ghost use Rattle.tui_report.specs.Pages.{ArePages, KeepWhole};
 ghost use Rattle.tui_report.specs.Report.{cells_of, column_data, places_of, report_heights, report_of};
-ghost use Rattle.tui_report.specs.Strokes.{page_area, page_layers};
+ghost use Rattle.tui_report.specs.Strokes.{body_area, body_layers, head_area, head_layers, page_area, page_layers};
 ghost use Rattle.tui_report.specs.declared.piece.Piece.{Piece};
 
 use crate::column::Column;
@@ -16,7 +16,7 @@ use crate::pages::Pages;
 use crate::piece::Piece;
 use crate::records::Record;
 use crate::report_error::ReportError;
-use crate::starts::{page_starts, starts_if_tall};
+use crate::starts::{starts_from, starts_if_tall};
 use std::alloc::Global;
 use std::marker::Model;
 use tui_cells::{Buffer, Mem, Rect};
@@ -144,12 +144,32 @@ impl<'a> Report<'a> {
         ensures ok { OnOk result (Painted (page_layers self.now at buf.old.area) buf.old buf.new) }
         ensures kept { KeptOutside (covers (page_area self.now)) buf.old buf.new }
     {
+        self.draw_head(alloc, buf)?;
+        self.draw_body(alloc, at, buf)
+    }
+
+    /// Draws what all pages have in common, in the first two rows: the title and the columns' names. At `NoMemory` the buffer's
+    /// area and all cells outside these rows are as before.
+    pub fn draw_head(&self, alloc: Global, buf: &mut Buffer) -> Mem<()>
+        ensures ok { OnOk result (Painted (head_layers self.now buf.old.area) buf.old buf.new) }
+        ensures kept { KeptOutside (covers (head_area self.now)) buf.old buf.new }
+    {
         let page = Rect::new(0, 0, self.width, self.height);
         draw_text(alloc, self.title, page.rows_from(0, 1), buf)?;
         let names = page.rows_from(1, 1);
-        draw_names(alloc, &self.columns, &self.places, names, buf)?;
+        draw_names(alloc, &self.columns, &self.places, names, buf)
+    }
+
+    /// Draws the other rows of a page: its pieces and its number. Pages count from 0. At `NoMemory` the buffer's area and all
+    /// cells outside these rows are as before.
+    pub fn draw_body(&self, alloc: Global, at: usize, buf: &mut Buffer) -> Mem<()>
+        requires { at < length self.now.pages }
+        ensures ok { OnOk result (Painted (body_layers self.now at buf.old.area) buf.old buf.new) }
+        ensures kept { KeptOutside (covers (body_area self.now)) buf.old buf.new }
+    {
+        let page = Rect::new(0, 0, self.width, self.height);
         let pieces = self.pages.page(at);
-        let starts = page_starts(&self.starts, at, self.places.len());
+        let starts = starts_from(&self.starts, at, self.places.len());
         draw_pieces(
             alloc,
             pieces,

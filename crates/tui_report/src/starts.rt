@@ -66,26 +66,14 @@ fn first_piece(pages: &Pages, at: usize) -> Option<Piece>
     requires { at < length pages.now }
     ensures { result ≡ first_piece pages.now at }
 {
-    let pieces = pages.page(at);
-    if pieces.len() > 0 {
-        Some(pieces[0])
-    } else {
-        None
-    }
+    pages.page(at).first().copied()
 }
 
 fn cell_at<'a>(records: &[Record<'a>], place: usize, i: usize) -> Option<&'a str>
     ensures { option_map (λ cell. cell.now) result ≡ cell_at (map cells_of records.now) place i }
 {
-    if place >= records.len() {
-        return None;
-    }
-    let cells = records[place].cells.as_slice();
-    if i < cells.len() {
-        Some(cells[i])
-    } else {
-        None
-    }
+    let entry = records.get(place)?;
+    entry.cells.as_slice().get(i).copied()
 }
 
 /// A place from which a piece's cell is reached: that of the page before, where that shows the same record, or else its beginning.
@@ -167,23 +155,17 @@ pub(crate) fn starts_if_tall(
 
 // No clause: it decides only whether places are kept.
 fn is_any_taller(heights: &[usize], room: usize) -> bool {
-    for height in heights {
-        if *height > room {
-            return true;
-        }
-    }
-    false
+    heights.iter().any(|height| *height > room)
 }
 
-/// Those of a page, or none where they are not known.
-pub(crate) fn page_starts(starts: &[usize], at: usize, columns: usize) -> &[usize]
-    ensures within { length result.now ≤ columns }
-    ensures known { (i : ℕ) → i < length result.now
+/// Those from a page on, or none where they are not known.
+pub(crate) fn starts_from(starts: &[usize], at: usize, columns: usize) -> &[usize]
+    ensures { (i : ℕ) → i < length result.now
         → (at * columns + i < length starts.now) × (slice_index result.now i ≡ slice_index starts.now (at * columns + i)) }
 {
     let from = at.saturating_mul(columns);
-    if from < starts.len() && columns <= starts.len() - from {
-        &starts[from..from + columns]
+    if from < starts.len() {
+        &starts[from..]
     } else {
         &[]
     }

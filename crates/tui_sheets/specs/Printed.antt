@@ -1,12 +1,14 @@
 -- What is written of a report.
-use Rattle.std.specs.Prelude.{◌≡◌, ℕ, zero, suc, ◌+◌, ◌<◌, List, [], ◌++◌, length, map, flat_map, codes, decimal}
+use Rattle.std.specs.Prelude.{◌≡◌, ℕ, zero, suc, ◌+◌, ◌<◌, true, false, Some, List, [], ◌++◌, length, map, flat_map, codes, decimal}
 use Rattle.std.specs.List.{range_with_len}
+use Rattle.tui_cells.specs.Buffer.{Screen, cell_at}
 use Rattle.tui_cells.specs.Cell.{Look, blank}
 use Rattle.tui_cells.specs.Layers.{Layer, layers_at}
+use Rattle.tui_cells.specs.Rect.{covers}
 use Rattle.tui_cells.specs.declared.rect.Rect.{Rect}
 use Rattle.tui_port.specs.Print.{row_line}
 use Rattle.tui_report.specs.Report.{ReportData}
-use Rattle.tui_report.specs.Strokes.{page_area, page_layers}
+use Rattle.tui_report.specs.Strokes.{body_area, head_layers, page_area, page_layers}
 
 -- the cells of an area at the origin, row by row: each is the blank one under some strokes
 abbrev pub rows_under : List Layer → Rect → List (List Look)
@@ -16,6 +18,13 @@ rows_under layers area =
 -- those of a page
 unfoldable pub page_rows : ReportData → ℕ → List (List Look)
 page_rows r at = rows_under (page_layers r at (page_area r)) (page_area r)
+
+-- the buffer of a page shows the title and the names, which do not reach into the rows below theirs
+pub record ShowsHead (r : ReportData) (s : Screen) : Type 0 where
+  pub area : s.area ≡ page_area r
+  pub above : (x y : ℕ) → covers (page_area r) x y ≡ true → covers (body_area r) x y ≡ false →
+      cell_at s x y ≡ Some (layers_at (head_layers r (page_area r)) x y blank)
+  pub below : (x y : ℕ) → covers (body_area r) x y ≡ true → layers_at (head_layers r (page_area r)) x y blank ≡ blank
 
 -- a page, counted from 0: a line with its number from 1 and how many there are, and its rows
 unfoldable pub page_text : ReportData → ℕ → List ℕ

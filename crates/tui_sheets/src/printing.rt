@@ -1,12 +1,12 @@
 //! The pages as they are written.
 
-ghost use Rattle.std.specs.Prelude.{◌≡◌, ◌<◌, Bool, Err, OnOk, if◌then◌else◌, length, true};
+ghost use Rattle.std.specs.Prelude.{◌≡◌, ◌<◌, Bool, Err, IfOk, OnOk, if◌then◌else◌, length, true};
 ghost use Rattle.tui_port.specs.Causes.{Puts};
 ghost use Rattle.tui_port.specs.Gathers.{Gathers};
-ghost use Rattle.tui_report.specs.Strokes.{page_area};
+ghost use Rattle.tui_report.specs.Strokes.{body_area, page_area};
 ghost use Rattle.tui_run.specs.Endings.{AnswersWith, no_refusal, nothing};
 ghost use Rattle.tui_run.specs.declared.stop.Stop.TheVariants as stop;
-ghost use Rattle.tui_sheets.specs.Printed.{AreAllPages, AreFewerPages, count_line, page_rows, page_text};
+ghost use Rattle.tui_sheets.specs.Printed.{AreAllPages, AreFewerPages, ShowsHead, count_line, page_rows, page_text};
 
 use crate::refusal::PagesRefusal;
 use std::alloc::Global;
@@ -15,8 +15,11 @@ use tui_port::{Print, Sink};
 use tui_report::Report;
 use tui_run::Stop;
 
-/// Writes the pages, which are drawn one at a time into one buffer and gathered over them. Where memory ends, the pages before are
-/// put.
+/// The rows of the title and the names.
+const HEAD: u16 = 2;
+
+/// Writes the pages, which are drawn one at a time into one buffer, the title and the names only once, and gathered over them. Where
+/// memory ends, the pages before are put.
 pub(crate) fn print_pages<K: Sink>(
     alloc: Global,
     area: Rect,
@@ -26,10 +29,11 @@ pub(crate) fn print_pages<K: Sink>(
     requires { area ≡ page_area report.now }
     ensures { AnswersWith (AreAllPages report.now) (AreFewerPages report.now) no_refusal (K.told sink.old) (K.told sink.new) result }
 {
-    let mut page = Buffer::empty(alloc, area)?;
+    let mut page = with_head(alloc, area, report)?;
+    let body = area.rows_from(HEAD, area.height);
     let mut print = Print::new();
     'pages: for at in 0..report.page_count() {
-        match draw_blank(alloc, area, report, at, &mut page) {
+        match turn_to(alloc, body, report, at, &mut page) {
             Ok(()) => put_page(&mut print, sink, report, at, &page),
             Err(NoMemory) => return ended(&mut print, sink, Err(Stop::NoMemory)),
         }
@@ -53,22 +57,26 @@ fn ended<K: Sink>(
     }
 }
 
-/// Draws a page on the buffer, all of whose cells are made blank before.
-fn draw_blank(
-    alloc: Global,
-    area: Rect,
-    report: &Report<'_>,
-    at: usize,
-    page: &mut Buffer,
-) -> Mem<()>
-    requires sheet { area ≡ page_area report.now }
-    requires same { page.old.area ≡ page_area report.now }
+/// The buffer of a page that shows the title and the names alone.
+fn with_head(alloc: Global, area: Rect, report: &Report<'_>) -> Mem<Buffer>
+    requires { area ≡ page_area report.now }
+    ensures { IfOk result (λ page. ShowsHead report.now page) }
+{
+    let mut page = Buffer::empty(alloc, area)?;
+    report.draw_head(alloc, &mut page)?;
+    Ok(page)
+}
+
+/// Draws a page on the buffer of another one: all rows but those of the title and the names are made blank before.
+fn turn_to(alloc: Global, body: Rect, report: &Report<'_>, at: usize, page: &mut Buffer) -> Mem<()>
+    requires body { body ≡ body_area report.now }
+    requires head { ShowsHead report.now page.old }
     requires within { at < length report.now.pages }
-    ensures area { page.new.area ≡ page_area report.now }
+    ensures head { OnOk result (ShowsHead report.now page.new) }
     ensures rows { OnOk result (page.new.rows ≡ page_rows report.now at) }
 {
-    page.reset(area);
-    report.draw_page(alloc, at, page)?;
+    page.reset(body);
+    report.draw_body(alloc, at, page)?;
     // The shape of the rows is told by their count.
     let _height = page.height();
     Ok(())

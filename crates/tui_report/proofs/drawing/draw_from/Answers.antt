@@ -1,7 +1,8 @@
-use Rattle.std.proofs.Common.{refl, ap, ◌∙◌, subst}
+use Rattle.std.proofs.Common.{true, refl, ap, ◌∙◌, subst}
 use Rattle.std.specs.Prelude.{OnOk}
 use Rattle.tui_cells.specs.Layers.{Painted}
 use Rattle.tui_para.specs.Paragraph.{ParagraphData, paragraph_of}
+use Rattle.tui_places.specs.Parts.{HaveSameLines}
 use Rattle.tui_report.specs.Strokes.{drawn_in}
 use Rattle.std.proofs.lemmas.Bool.{false≢true}
 use Rattle.tui_report.proofs.Resumed.{none_drawn, rest_drawn}
@@ -9,12 +10,14 @@ use Rattle.tui_report.proofs.drawing.draw_from.Goals as goal
 
 pub returns-in-Some-clause-ok : goal.returns-in-Some-clause-ok
 returns-in-Some-clause-ok c =
-    rest_drawn c.draw_cell.result c.args.width c.args.line c.args.start c.args.cell.now c.in-Some.rest.now c.args.area c.args.buf.now c.draw_cell.new.buf
-    c.requires.width c.requires.goes_on (c.in-Some.ensures.variant.0 refl) c.in-Some.ensures.back c.draw_cell.ensures.ok
+    rest_drawn c.draw_cell.result c.args.line c.args.from.start c.args.cell.now c.in-Some.rest.now c.first_part-shown.result.now c.args.clip c.args.area
+    c.args.buf.now c.draw_cell.new.buf c.requires.clip c.requires.goes_on (c.in-Some.ensures.variant.0 refl) c.in-Some.ensures.back
+    (subst (λ n. HaveSameLines c.args.clip.width true n c.in-Some.rest.now c.first_part-shown.result.now) c.from-rows.ensures c.first_part-shown.ensures)
+    c.draw_cell.ensures.ok
 
 pub returns-in-None-clause-ok : goal.returns-in-None-clause-ok
 returns-in-None-clause-ok c =
-    none_drawn c.draw_in.result c.args.width c.args.line c.args.start c.args.cell.now c.args.area c.args.buf.now c.draw_in.new.buf
-    c.requires.width c.requires.goes_on (λ b. absurd (false≢true (c.in-None.ensures.variant.1 b)))
+    none_drawn c.draw_in.result c.args.line c.args.from.start c.args.cell.now c.args.clip c.args.area c.args.buf.now c.draw_in.new.buf
+    c.requires.clip c.requires.goes_on (λ b. absurd (false≢true (c.in-None.ensures.variant.1 b)))
     (subst (λ (p : ParagraphData). OnOk c.draw_in.result (Painted (drawn_in c.args.buf.now.area c.args.area p) c.args.buf.now c.draw_in.new.buf))
     (c.new-in-None.ensures ∙ ap paragraph_of c.new.ensures) c.draw_in.ensures.ok)

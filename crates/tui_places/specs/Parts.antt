@@ -1,0 +1,13 @@
+-- A first part of a text with the same first lines.
+use Rattle.std.specs.Prelude.{◌≡◌, ℕ, Bool, List, [], ◌∷◌, ◌++◌, take}
+use Rattle.tui_cells.specs.declared.style.Style.{Style}
+use Rattle.tui_text.specs.declared.alignment.Alignment.{Alignment}
+use Rattle.tui_places.specs.AfterLine.{wrapped_lines}
+
+-- the first n lines of the two texts are the same
+abbrev pub HaveSameLines : ℕ → Bool → ℕ → List ℕ → List ℕ → Type 0
+HaveSameLines w trim n text part =
+    (style : Style) (alignment : Alignment) → take n (wrapped_lines style alignment w trim part) ≡ take n (wrapped_lines style alignment w trim text)
+
+abbrev pub EndsInNewline : List ℕ → Type 0
+EndsInNewline text = (front : List ℕ) × (text ≡ front ++ 10 ∷ [])

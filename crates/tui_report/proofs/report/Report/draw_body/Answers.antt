@@ -1,0 +1,42 @@
+use Rattle.std.proofs.Common.{◌∙◌, ◌<◌, ap, arith, length, map, subst, sym}
+use Rattle.std.specs.Prelude.{All, OnOk}
+use Rattle.std.proofs.lemmas.List.{length-map}
+use Rattle.tui_cells.specs.Layers.{Painted}
+use Rattle.tui_cells.specs.declared.rect.Rect.{Rect}
+use Rattle.tui_report.specs.Report.{ReportData, cells_of}
+use Rattle.tui_report.specs.Strokes.{IsDrawable, body_layers}
+use Rattle.tui_report.proofs.DrawnPage.{body_drawn}
+use Rattle.tui_report.proofs.Fits.{page_fits}
+use Rattle.tui_report.proofs.Known.{page_row_read}
+use Rattle.tui_report.proofs.report.Report.draw_body.Goals as goal
+
+pub draw_pieces-requires-clause-drawable : goal.draw_pieces-requires-clause-drawable
+draw_pieces-requires-clause-drawable c =
+    let h = subst (λ (r : ReportData). c.args.at < length r.pages) (sym c.self.view_is) c.requires in
+    let fits = page_fits _ _ _ _ _ _ c.args.at c.page-pieces.result.now c.self.invariant.0 h c.page-pieces.ensures in
+    subst (λ n. All (IsDrawable n) c.page-pieces.result.now)
+    (length-map c.self.inside.records.items cells_of ∙ ap length (sym c.deref-2.ensures.value)) fits.drawable
+
+pub draw_pieces-requires-clause-fit : goal.draw_pieces-requires-clause-fit
+draw_pieces-requires-clause-fit c =
+    let h = subst (λ (r : ReportData). c.args.at < length r.pages) (sym c.self.view_is) c.requires in
+    let fits = page_fits _ _ _ _ _ _ c.args.at c.page-pieces.result.now c.self.invariant.0 h c.page-pieces.ensures in
+    let fit = fits.fit in
+    omega (arith, ap (λ (area : Rect). area.height) c.new-page.ensures)
+
+pub draw_pieces-requires-clause-starts : goal.draw_pieces-requires-clause-starts
+draw_pieces-requires-clause-starts c =
+    let h = subst (λ (r : ReportData). c.args.at < length r.pages) (sym c.self.view_is) c.requires in
+    page_row_read c.self.inside.places.items c.deref-3.result.now c.self.inside.records.items c.deref-2.result.now c.self.inside.pages
+    c.self.inside.starts.items c.deref.result.now c.starts_from-starts.result.now c.args.at c.len.result c.page-pieces.result.now c.self.invariant.1
+    c.deref-3.ensures.value c.deref-2.ensures.value c.deref.ensures.value (omega (arith, c.len.ensures)) h c.page-pieces.ensures
+    c.starts_from-starts.ensures
+
+pub returns-clause-ok : goal.returns-clause-ok
+returns-clause-ok c =
+    let h = subst (λ (r : ReportData). c.args.at < length r.pages) (sym c.self.view_is) c.requires in
+    subst (λ (r : ReportData). OnOk c.draw_number.result (Painted (body_layers r c.args.at c.args.buf.now.area) c.args.buf.now c.draw_number.new.buf))
+    c.self.view_is
+    (body_drawn c.draw_number.result _ _ _ c.args.at _ _ _ _ c.args.buf.now _ c.draw_number.new.buf c.new-page.ensures
+    (c.deref-3.ensures.value ∙ c.self.invariant.0.placed) (ap (map cells_of) c.deref-2.ensures.value) c.rows_from-last.ensures h c.page-pieces.ensures
+    c.page_count.ensures c.in_ok-draw_pieces.ensures.ok c.draw_number.ensures.ok)
