@@ -1,8 +1,8 @@
-//! The line of a field that is refused.
+//! The lines of fields that are refused.
 
-ghost use Rattle.std.specs.Prelude.{None, Some, true};
+ghost use Rattle.std.specs.Prelude.{[], None, Some, true};
 ghost use Rattle.tui_port.specs.Causes.{Puts};
-ghost use Rattle.tui_run.specs.FieldLine.{refused_field};
+ghost use Rattle.tui_run.specs.FieldLine.{refused_field, refused_in_scene};
 
 use tui_port::{Print, Sink};
 
@@ -35,6 +35,46 @@ fn put_name_at<K: Sink>(name: &str, i: usize, sink: &mut K) -> bool
     print.text(sink, name);
     print.text(sink, " at ");
     print.number(sink, i);
+    print.text(sink, "\n");
+    print.end(sink)
+}
+
+/// Writes `refused: scene field NAME`, or `refused: PART I field NAME` for a field of what is called so in the scene and has that
+/// number from 0, as a line of its own. Answers whether all of it was put. Takes no memory.
+pub fn put_refused_in_scene<K: Sink>(
+    part: &str,
+    at: Option<usize>,
+    name: &str,
+    sink: &mut K,
+) -> bool
+    ensures { Puts (K.told sink.old) (K.told sink.new) true result (refused_in_scene part.now at name.now) }
+{
+    match at {
+        None => put_scene_field(name, sink),
+        Some(i) => put_part_field(part, i, name, sink),
+    }
+}
+
+fn put_scene_field<K: Sink>(name: &str, sink: &mut K) -> bool
+    ensures { Puts (K.told sink.old) (K.told sink.new) true result (refused_in_scene [] None name.now) }
+{
+    let mut print = Print::new();
+    print.text(sink, "refused: scene field ");
+    print.text(sink, name);
+    print.text(sink, "\n");
+    print.end(sink)
+}
+
+fn put_part_field<K: Sink>(part: &str, i: usize, name: &str, sink: &mut K) -> bool
+    ensures { Puts (K.told sink.old) (K.told sink.new) true result (refused_in_scene part.now (Some i) name.now) }
+{
+    let mut print = Print::new();
+    print.text(sink, "refused: ");
+    print.text(sink, part);
+    print.text(sink, " ");
+    print.number(sink, i);
+    print.text(sink, " field ");
+    print.text(sink, name);
     print.text(sink, "\n");
     print.end(sink)
 }

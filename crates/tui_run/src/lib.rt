@@ -18,7 +18,7 @@ mod written;
 pub use broken::Broken;
 pub use command::Command;
 pub use ending::Ending;
-pub use field_line::put_refused_field;
+pub use field_line::{put_refused_field, put_refused_in_scene};
 pub use job::{Job, run_json};
 pub use leftovers::Leftovers;
 pub use numerals::{Numerals, number_after, numbers_after};

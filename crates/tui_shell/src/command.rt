@@ -6,12 +6,12 @@ ghost use Rattle.tui_shell.specs.Shown.{IsShown};
 
 use crate::bad_field::BadField;
 use crate::demo::show_demo;
-use crate::refusal::put_field;
 use serde_json::Value;
 use std::alloc::Global;
 use tui_port::{Sink, Source, write_screen};
 use tui_run::{
-    Command, Ending, Job, Leftovers, Numerals, Stop, is_word, number_after, run_json, told,
+    Command, Ending, Job, Leftovers, Numerals, Stop, is_word, number_after, put_refused_in_scene,
+    run_json, told,
 };
 use tui_scene::draw_new;
 use tui_schema::{Reading, SceneError, scene_of};
@@ -90,7 +90,7 @@ impl Job for ShowCommand {
     }
 
     fn refuse<K: Sink>(&self, refusal: BadField, sink: &mut K) -> bool {
-        put_field(refusal.item, refusal.field, sink)
+        put_refused_in_scene("item", refusal.item, refusal.field.name(), sink)
     }
 }
 

@@ -7,7 +7,6 @@ mod demo;
 mod ended;
 mod laws;
 mod program;
-mod refusal;
 
 pub use bad_field::BadField;
 pub use command::ShowCommand;
