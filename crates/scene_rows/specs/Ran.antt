@@ -16,12 +16,16 @@ use Rattle.tui_sheets.specs.declared.ended.PagesEnded.{PagesEnded}
 use Rattle.tui_shell.specs.Ended as show
 use Rattle.tui_shell.specs.Endings.{Ends}
 use Rattle.tui_shell.specs.declared.ended.Ended.{Ended}
+use Rattle.tui_tiles.specs.Ended as panes
+use Rattle.tui_tiles.specs.Rules.{panes_rules}
+use Rattle.tui_tiles.specs.declared.ended.PanesEnded.{PanesEnded}
 
 -- a run of a program by these words ends with a status
 abbrev pub EndsWith : Program → List (String Global) → Call → ℕ → Type 0
 EndsWith program.Show words call status = (e : Ended) × Ends words call e × (status ≡ show.status_of e)
 EndsWith program.Pages words call status = (e : PagesEnded) × IsRun pages_rules words call (pages.ending_of e) × (status ≡ pages.status_of e)
 EndsWith program.Pager words call status = (e : PagerEnded) × IsRun pager_rules words call (pager.ending_of e) × (status ≡ pager.status_of e)
+EndsWith program.Panes words call status = (e : PanesEnded) × IsRun panes_rules words call (panes.ending_of e) × (status ≡ panes.status_of e)
 
 -- bytes that are told, and a count of faults
 abbrev pub tells : List ℕ → ℕ → Told

@@ -12,6 +12,8 @@ pub(crate) enum Program {
     Pages,
     /// `tui_pager`.
     Pager,
+    /// `tui_panes`.
+    Panes,
 }
 
 impl Program {

@@ -12,6 +12,7 @@ use tui_browser::run_pager;
 use tui_port::{MemSink, MemSource, Sink, Source};
 use tui_sheets::run_pages;
 use tui_shell::show;
+use tui_tiles::run_panes;
 
 /// Runs a program over words and what is given, and answers its status and the sink.
 pub(crate) fn run(
@@ -42,5 +43,6 @@ fn end<S: Source, K: Sink>(
         Program::Show => show(alloc, words, source, sink).status(),
         Program::Pages => run_pages(alloc, words, source, sink).status(),
         Program::Pager => run_pager(alloc, words, source, sink).status(),
+        Program::Panes => run_panes(alloc, words, source, sink).status(),
     }
 }

@@ -1,0 +1,14 @@
+//! The program `tui_panes`: it reads a tree of panes and changes in JSON from standard input, and writes the screen, or which leaf
+//! stands at a position, to standard output.
+#![tactic(auto)]
+
+use std::process::ExitCode;
+use std::{env, io};
+use tui_port::{StdSink, StdSource};
+use tui_tiles::run_program;
+
+fn main(rt: HostRuntime) -> ExitCode {
+    let mut source = StdSource::new(rt.reader());
+    let mut sink = StdSink::new(io::writer(&rt));
+    run_program(rt.alloc(), env::args(&rt), &mut source, &mut sink).exit_code()
+}

@@ -1,0 +1,12 @@
+pub mod Refusals
+pub mod Objects
+pub mod Counts
+pub mod Widgets
+pub mod Tree
+pub mod Changes
+pub mod Input
+pub mod Order
+pub mod Shown
+pub mod Found
+pub mod Ended
+pub mod Rules

@@ -1,0 +1,28 @@
+//! The program of panes: it reads a tree of panes in JSON and changes of single ones, and writes the screen or which leaf stands at a
+//! position.
+#![tactic(auto)]
+
+mod change;
+mod change_field;
+mod command;
+mod counts;
+mod ended;
+mod field;
+mod finding;
+mod input;
+mod item;
+mod member;
+mod object;
+mod order;
+mod program;
+mod refusal;
+mod screen;
+mod shape;
+mod tree;
+
+pub use command::PanesCommand;
+pub use ended::PanesEnded;
+pub use field::PaneField;
+pub use order::Order;
+pub use program::{run_panes, run_program};
+pub use refusal::PanesRefusal;
