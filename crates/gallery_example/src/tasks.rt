@@ -3,9 +3,11 @@
 
 use std::alloc::Global;
 use tui::buffer::{Attributes, Buffer, Mem, visible_cells};
-use tui::layout::{Alignment, Constraint, Flex, Fraction, Rect, Segment, split};
+use tui::layout::{Alignment, Constraint, Direction, Flex, Fraction, Rect, Segment, split};
 use tui::pager::{Entry, Key, Pager, PagerError};
+use tui::panes::{Pane, Panes, Part};
 use tui::report::{Column, Record, Report};
+use tui::scene::Item;
 use tui::style::{Color, Modifier, Style};
 use tui::symbols::MergeStrategy;
 use tui::text::{Line, Text};
@@ -120,6 +122,57 @@ fn draw_panes(alloc: Global, screen: Rect, buffer: &mut Buffer) -> Mem<()> {
     let right = screen.columns_from(middle.saturating_sub(1), screen.width);
     pane(alloc, "Files", "notes\ndrafts")?.render(alloc, left, buffer)?;
     pane(alloc, "Text", "Read me.")?.render(alloc, right, buffer)
+}
+
+fn file_panes<'a>(
+    alloc: Global,
+    area: Rect,
+    names: List<'a>,
+    state: ListState,
+    text: Paragraph<'a>,
+) -> anyhow::Result<Panes<'a>> {
+    let mut parts = Vec::new(alloc);
+    parts.push(Part {
+        size: Constraint::Length(12),
+        pane: Pane::Leaf(Item::List(names, state)),
+    })?;
+    parts.push(Part {
+        size: Constraint::Fill(1),
+        pane: Pane::Leaf(Item::Paragraph(text)),
+    })?;
+    let root = Pane::Split {
+        direction: Direction::Horizontal,
+        spacing: 1,
+        flex: Flex::Start,
+        parts,
+    };
+    Ok(Panes::new(alloc, area, root)?)
+}
+
+fn show_text<'a>(
+    alloc: Global,
+    panes: &mut Panes<'a>,
+    text: Paragraph<'a>,
+    buffer: &mut Buffer,
+) -> Mem<()> {
+    if panes.rects().len() > 1 {
+        panes.replace(alloc, 1, Item::Paragraph(text), buffer)?;
+    }
+    Ok(())
+}
+
+fn names_state(panes: &Panes<'_>) -> ListState {
+    match panes.scene().items() {
+        [first, ..] => list_state(&first.item),
+        [] => ListState::default(),
+    }
+}
+
+fn list_state(item: &Item<'_>) -> ListState {
+    match item {
+        Item::List(_, state) => *state,
+        _ => ListState::default(),
+    }
 }
 
 fn progress<'a>(alloc: Global, label: &'a str, share: Fraction) -> anyhow::Result<LineGauge<'a>> {
