@@ -1,6 +1,5 @@
 -- A text that ends in a newline has the same lines where more follows.
-use Rattle.std.proofs.Common.{◌≡◌, ℕ, ◌+◌, ◌-◌, ◌<◌, ◌≤◌, Bool, Bor, Option, None, Some, List, [], ◌∷◌, ◌++◌, length, map, take, drop, cond, refl, sym, ap, ◌∙◌, subst, arith, ⊎_elim}
-use Rattle.std.specs.Prelude.{MatchOption}
+use Rattle.std.proofs.Common.{◌≡◌, ℕ, ◌≤◌, Bool, List, [], ◌∷◌, ◌++◌, length, map, take, cond, refl, sym, ap, ◌∙◌, subst, arith, ⊎_elim}
 use Rattle.std.specs.List.{flat_map, onto_first, slice_split}
 use Rattle.std.specs.Str.{IsUtf8}
 use Rattle.std.specs.Str.Lines.{lines, lines_of_parts, strip_carriage_return}
@@ -14,7 +13,7 @@ use Rattle.tui_para.specs.WrappedText.{text_glyph_line}
 use Rattle.tui_text.specs.Line.{raw_line}
 use Rattle.tui_text.specs.Text.{text_lines}
 use Rattle.tui_text.specs.declared.alignment.Alignment.{Alignment}
-use Rattle.tui_places.specs.AfterLine.{HasAtMost, IsFromLine, wrapped_lines}
+use Rattle.tui_places.specs.AfterLine.{IsFromLine, wrapped_lines}
 use Rattle.tui_places.specs.Parts.{EndsInNewline, HaveSameLines}
 use Rattle.tui_places.proofs.AfterLine.{has_line}
 use Rattle.tui_places.proofs.NewLines.{is_newline_byte}
