@@ -38,14 +38,20 @@ pub fn first_part(text: &str, width: u16, trim: bool, lines: usize, near: usize)
     }
 }
 
-/// The place behind the first newline from a byte on, or where a line more is behind it. No clause: what stands there is looked at.
+/// Where the part is to end: behind the first newline from a byte on, but no further than a line more takes if a seam is there. No
+/// clause: what stands there is looked at.
 fn part_end(text: &str, width: u16, near: usize) -> usize {
-    let seam = seam_from(text.as_bytes(), near.saturating_add(line_bytes(width)));
-    match text_near(text, near, seam.unwrap_or(near.saturating_add(REACH))).and_then(
-        |behind| behind.find('\n'),
-    ) {
-        Some(i) => near.saturating_add(i).saturating_add(1),
-        None => seam.unwrap_or(text.len()),
+    let bytes = text.as_bytes();
+    let far = near.saturating_add(line_bytes(width));
+    if let Some(place) = newline_end(bytes, near, far) {
+        return place;
+    }
+    if let Some(place) = seam_from(bytes, far) {
+        return place;
+    }
+    match newline_end(bytes, far, far.saturating_add(REACH)) {
+        Some(place) => place,
+        None => text.len(),
     }
 }
 
@@ -53,6 +59,16 @@ fn part_end(text: &str, width: u16, near: usize) -> usize {
 fn line_bytes(width: u16) -> usize {
     let width = usize::from(width);
     width + width / 4 + 1
+}
+
+/// The place behind the first newline between two bytes.
+fn newline_end(bytes: &[u8], from: usize, to: usize) -> Option<usize> {
+    'bytes: for i in from..bytes.len().min(to) {
+        if bytes[i] == NEWLINE {
+            return Some(i + 1);
+        }
+    }
+    None
 }
 
 /// The first place from a byte on between two printable characters of one byte, within reach.
@@ -63,14 +79,6 @@ fn seam_from(bytes: &[u8], from: usize) -> Option<usize> {
         }
     }
     None
-}
-
-/// The text between two bytes, or where no character begins at the second one, from the first one on.
-fn text_near(text: &str, near: usize, end: usize) -> Option<&str> {
-    match text.get(near..end) {
-        Some(behind) => Some(behind),
-        None => text.get(near..),
-    }
 }
 
 /// Whether the lines of what stands before a place are lines of the whole, but for the last one.
