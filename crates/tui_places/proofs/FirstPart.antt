@@ -1,6 +1,5 @@
 -- A text that ends in a newline has the same lines where more follows.
-use Rattle.std.proofs.Common.{◌≡◌, ℕ, ◌+◌, ◌-◌, ◌<◌, ◌≤◌, Bool, Bor, Option, None, Some, List, [], ◌∷◌, ◌++◌, length, map, take, drop, cond, refl, sym, ap, ◌∙◌, subst, arith, ⊎_elim}
-use Rattle.std.specs.Prelude.{MatchOption}
+use Rattle.std.proofs.Common.{◌≡◌, ℕ, ◌<◌, ◌≤◌, Bool, List, [], ◌∷◌, ◌++◌, length, map, take, cond, refl, sym, ap, ◌∙◌, subst, arith, ⊎_elim}
 use Rattle.std.specs.List.{flat_map, onto_first, slice_split}
 use Rattle.std.specs.Str.{IsUtf8}
 use Rattle.std.specs.Str.Lines.{lines, lines_of_parts, strip_carriage_return}
@@ -14,7 +13,7 @@ use Rattle.tui_para.specs.WrappedText.{text_glyph_line}
 use Rattle.tui_text.specs.Line.{raw_line}
 use Rattle.tui_text.specs.Text.{text_lines}
 use Rattle.tui_text.specs.declared.alignment.Alignment.{Alignment}
-use Rattle.tui_places.specs.AfterLine.{HasAtMost, IsFromLine, wrapped_lines}
+use Rattle.tui_places.specs.AfterLine.{IsFromLine, wrapped_lines}
 use Rattle.tui_places.specs.Parts.{EndsInNewline, HaveSameLines}
 use Rattle.tui_places.proofs.AfterLine.{has_line}
 use Rattle.tui_places.proofs.NewLines.{is_newline_byte}
@@ -86,7 +85,7 @@ module _ (style : Style) (w : ℕ) (trim : Bool) (alignment : Alignment) where
       ap (λ t. flat_map cut t) (ap (map tgl) (map-append raw_line xs ys) ∙ map-append tgl (map raw_line xs) (map raw_line ys))
       ∙ flat_map-append cut (map tgl (map raw_line xs)) (map tgl (map raw_line ys))
 
-  newline_lines : (front more : List ℕ) → wrapped_lines style alignment w trim (front ++ 10 ∷ more) ≡
+  pub newline_lines : (front more : List ℕ) → wrapped_lines style alignment w trim (front ++ 10 ∷ more) ≡
       wrapped_lines style alignment w trim (front ++ 10 ∷ []) ++ all_lines style w trim alignment (lines more)
   newline_lines front more =
       ap (all_lines style w trim alignment) (some_lines front more ∙ lines_are front more)
@@ -105,7 +104,7 @@ same_lines w trim n text part more whole (front, ends) many = λ style alignment
 
 -- what is said of an answer, as the clause says it
 pub has_more : (w : ℕ) (trim : Bool) (text rest : List ℕ) (n : ℕ) → IsUtf8 rest → IsFromLine w trim n text rest →
-    (style : Style) (alignment : Alignment) → n ≤ length (wrapped_lines style alignment w trim text)
+    (style : Style) (alignment : Alignment) → n < length (wrapped_lines style alignment w trim text)
 has_more w trim text rest n u from = λ style alignment.
     let a = ap length (from.lines style alignment) ∙ length-drop n (wrapped_lines style alignment w trim text) in
     let b = has_line style alignment w trim rest u in

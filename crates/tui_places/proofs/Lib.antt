@@ -12,4 +12,6 @@ mod WrappedLines
 mod AfterLine
 mod FromLine
 mod FirstPart
+mod MoreClusters
+mod SeamLines
 pub mod RestLayers

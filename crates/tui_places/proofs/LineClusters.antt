@@ -22,7 +22,7 @@ pub concat-graphemes : (text : List ℕ) → IsUtf8 text → concat (graphemes t
 unfolding segments
 concat-graphemes text u = concat-encoded (cut (is_grapheme_break true) [] (chars text) []) ∙ ap encode_utf8_all (concat-cut [] (chars text)) ∙ encodes-chars text u
 
-abbrev NoNewline : List (List ℕ) → Type 0
+abbrev pub NoNewline : List (List ℕ) → Type 0
 NoNewline clusters = AllByRecursion (λ c. is_newline c ≡ false) clusters
 
 one_parts : (front back : List ℕ) → OneLine (front ++ back) → OneLine front × OneLine back
@@ -45,7 +45,7 @@ no_newline : (clusters : List (List ℕ)) → OneLine (concat clusters) → NoNe
 no_newline [] h = tt
 no_newline (c ∷ cs) h = let p = one_parts c (concat cs) h in (one_cluster c p.0, no_newline cs p.1)
 
-all_of_it : (ps : List (List ℕ)) → NoNewline ps → (line_part ps ≡ ps) × (behind_part ps ≡ [])
+pub all_of_it : (ps : List (List ℕ)) → NoNewline ps → (line_part ps ≡ ps) × (behind_part ps ≡ [])
 all_of_it [] h = (refl, refl)
 all_of_it (p ∷ ps) h =
     let rest = all_of_it ps h.1 in
@@ -74,11 +74,11 @@ by_line text line behind front back u e f g k lines_are =
       line_is = ap (graphemes true) (sym same) ∙ sym (e ∙ g);
     }
 
-no_newline_in : (line : List ℕ) → IsUtf8 line → OneLine line → NoNewline (graphemes true line)
+pub no_newline_in : (line : List ℕ) → IsUtf8 line → OneLine line → NoNewline (graphemes true line)
 no_newline_in line u one = no_newline (graphemes true line) (ap (list_any is_newline_byte) (concat-graphemes line u) ∙ one)
 
 -- both parts of a text beside a newline are texts
-at_newline : (line behind : List ℕ) → IsUtf8 (line ++ 10 ∷ behind) → IsUtf8 line × IsUtf8 behind
+pub at_newline : (line behind : List ℕ) → IsUtf8 (line ++ 10 ∷ behind) → IsUtf8 line × IsUtf8 behind
 at_newline line behind u =
     let text = line ++ 10 ∷ behind in
     let i = length line in

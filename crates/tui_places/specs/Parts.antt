@@ -1,6 +1,7 @@
 -- A first part of a text with the same first lines.
-use Rattle.std.specs.Prelude.{◌≡◌, ℕ, Bool, List, [], ◌∷◌, ◌++◌, take}
+use Rattle.std.specs.Prelude.{◌≡◌, ℕ, ◌<◌, Bool, List, [], ◌∷◌, ◌++◌, length, take}
 use Rattle.tui_cells.specs.declared.style.Style.{Style}
+use Rattle.tui_text.specs.Part.{IsSeam}
 use Rattle.tui_text.specs.declared.alignment.Alignment.{Alignment}
 use Rattle.tui_places.specs.AfterLine.{wrapped_lines}
 
@@ -11,3 +12,7 @@ HaveSameLines w trim n text part =
 
 abbrev pub EndsInNewline : List ℕ → Type 0
 EndsInNewline text = (front : List ℕ) × (text ≡ front ++ 10 ∷ [])
+
+-- the place stands within the text, between two printable characters of one byte
+abbrev pub EndsAtSeam : List ℕ → ℕ → Type 0
+EndsAtSeam text place = (0 < place) × (place < length text) × IsSeam text place

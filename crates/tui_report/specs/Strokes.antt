@@ -26,9 +26,13 @@ cell_from line cell = record (plain cell) { wrap = Some (at_blanks true); scroll
 abbrev pub number_of : ℕ → ℕ → List ℕ
 number_of at count = decimal (at + 1) ++ (codes "/" ++ decimal count)
 
+-- a text at the right
+abbrev pub right_paragraph : List ℕ → ParagraphData
+right_paragraph text = record (plain text) { alignment = Right }
+
 -- the number of a page, at the right
 abbrev pub number_paragraph : ℕ → ℕ → ParagraphData
-number_paragraph at count = record (plain (number_of at count)) { alignment = Right }
+number_paragraph at count = right_paragraph (number_of at count)
 
 -- a paragraph in an area, as far as a buffer that takes up the other area has it
 unfoldable pub drawn_in : Rect → Rect → ParagraphData → List Layer

@@ -1,6 +1,7 @@
 //! What stands on a page.
 
-ghost use Rattle.std.specs.Prelude.{◌≡◌, ◌+◌, ◌-◌, ◌<◌, ◌≤◌, [], All, IfSome, None, OnOk, Some, length, map, option_map, slice_get, slice_index_or};
+ghost use Rattle.std.specs.List.{list_all};
+ghost use Rattle.std.specs.Prelude.{◌≡◌, ◌+◌, ◌-◌, ◌<◌, ◌≤◌, [], All, IfSome, None, OnOk, Some, length, map, option_map, slice_get, slice_index_or, true};
 ghost use Rattle.tui_cells.specs.Layers.{KeptOutside, Painted};
 ghost use Rattle.tui_cells.specs.Rect.{covers, intersection_of, rows_from};
 ghost use Rattle.tui_para.specs.Paragraph.{paragraph_data};
@@ -8,18 +9,19 @@ ghost use Rattle.tui_report.specs.Pages.{lines_on};
 ghost use Rattle.tui_report.specs.Report.{cells_of, column_data};
 ghost use Rattle.tui_report.specs.Starts.{GoesOn, RowStarts};
 ghost use Rattle.tui_report.specs.declared.piece.Piece.{Piece};
-ghost use Rattle.tui_report.specs.Strokes.{IsDrawable, cell_from, cells_layers, drawn_in, names_layers, number_paragraph, pieces_layers, plain};
+ghost use Rattle.tui_report.specs.Strokes.{IsDrawable, cell_from, cells_layers, drawn_in, names_layers, number_paragraph, pieces_layers, plain, right_paragraph};
+ghost use Rattle.tui_text.specs.Part.{is_printable};
 
 use crate::column::Column;
 use crate::measuring::cell_paragraph;
 use crate::piece::Piece;
 use crate::records::Record;
 use std::alloc::Global;
-use tui_cells::{Buffer, Mem, Rect, Widget};
+use tui_cells::{Buffer, Mem, Position, Rect, Style, Widget};
 use tui_layout::Segment;
 use tui_para::Paragraph;
 use tui_places::first_part;
-use tui_text::Text;
+use tui_text::{Text, set_stringn_in};
 
 /// The first row of the pieces, below the title and the names.
 const TOP: u16 = 2;
@@ -121,8 +123,24 @@ pub(crate) fn draw_number(
     ensures kept { KeptOutside (covers area) buf.old buf.new }
 {
     let number = format!(in alloc; "{}/{count}", at + 1)?;
-    let paragraph = Paragraph::new(Text::raw(alloc, number.as_str())?).right_aligned();
-    draw_in(alloc, &paragraph, area, buf)
+    set_right(number.as_str(), area, buf)
+}
+
+/// Printable characters of one byte at the right of an area's first row, as a paragraph would draw them.
+fn set_right(text: &str, area: Rect, buf: &mut Buffer) -> Mem<()>
+    requires printable { list_all is_printable text.now ≡ true }
+    requires some { 0 < length text.now }
+    ensures ok { OnOk result (Painted (drawn_in buf.old.area area (right_paragraph text.now)) buf.old buf.new) }
+    ensures kept { KeptOutside (covers area) buf.old buf.new }
+{
+    let clip = area.intersection(buf.area());
+    let room = usize::from(clip.width).min(text.len());
+    let place = Position {
+        x: clip.right() - room as u16,
+        y: clip.y,
+    };
+    set_stringn_in(buf, clip, place, text, room, Style::new())?;
+    Ok(())
 }
 
 /// The columns' names, side by side.

@@ -1,5 +1,5 @@
 use Rattle.tui_places.proofs.FirstPart.{has_more}
-use Rattle.tui_places.proofs.part.has_lines.Goals as goal
+use Rattle.tui_places.proofs.part.has_more_lines.Goals as goal
 
 pub returns-in-Some : goal.returns-in-Some
 returns-in-Some c = λ _.
