@@ -1,5 +1,32 @@
 -- All lines of a list but the last stay where more follows.
-use Rattle.std.proofs.Common.{◌≡◌, ℕ, zero, suc, ◌-◌, ◌≤◌, ◌<◌, List, [], ◌∷◌, ◌++◌, Bool, true, false, length, take, refl, sym, ap, ap₂, ◌∙◌, subst, inl, inr, ⊎_elim, arith}
+use Rattle.std.proofs.Common.{
+  ◌≡◌,
+  ℕ,
+  zero,
+  suc,
+  ◌-◌,
+  ◌≤◌,
+  ◌<◌,
+  List,
+  [],
+  ◌∷◌,
+  ◌++◌,
+  Bool,
+  true,
+  false,
+  length,
+  take,
+  refl,
+  sym,
+  ap,
+  ap₂,
+  ◌∙◌,
+  subst,
+  inl,
+  inr,
+  ⊎_elim,
+  arith,
+}
 use Rattle.std.specs.Prelude.{◌≢◌, sum_by}
 use Rattle.std.proofs.lemmas.List.{append_assoc}
 use Rattle.std.proofs.lemmas.List.Sums.{sum_by-cons}
@@ -39,7 +66,8 @@ module _ {A : Type 0} (rule : Rule A) where
   without_blanks-append [] ys some = absurd (some refl)
   without_blanks-append (x ∷ xs) ys some = grind (arith, without_blanks-append xs ys)
 
-  line_start-append : (trim : Bool) (xs ys : List A) → line_start rule.blank trim xs ≢ [] → line_start rule.blank trim (xs ++ ys) ≡ line_start rule.blank trim xs ++ ys
+  line_start-append : (trim : Bool) (xs ys : List A) → line_start rule.blank trim xs ≢ []
+      → line_start rule.blank trim (xs ++ ys) ≡ line_start rule.blank trim xs ++ ys
   line_start-append true xs ys some = without_blanks-append xs ys some
   line_start-append false xs ys some = refl
 
@@ -51,7 +79,8 @@ module _ {A : Type 0} (rule : Rule A) where
   begins-append test [] ys e = cc
   begins-append test (x ∷ xs) ys e = e
 
-  before-append : (test : A → Bool) (room : ℕ) (line after ys : List A) → BreaksBefore rule test room line after → BreaksBefore rule test room line (after ++ ys)
+  before-append : (test : A → Bool) (room : ℕ) (line after ys : List A) → BreaksBefore rule test room line after
+      → BreaksBefore rule test room line (after ++ ys)
   before-append test room line after ys h = record {
     word_before = h.word_before;
     next = begins-append test after ys h.next;

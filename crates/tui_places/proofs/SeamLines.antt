@@ -1,5 +1,40 @@
 -- A text that ends between two printable characters has the same lines but for the last where more follows.
-use Rattle.std.proofs.Common.{◌≡◌, ℕ, suc, ◌+◌, ◌-◌, ◌==◌, ◌<◌, Bool, true, cond, ◌||◌, List, [], ◌∷◌, ◌++◌, length, map, take, filter, slice_index, get_or-append-add, length-append, refl, sym, ap, ap₂, ◌∙◌, subst, arith, inl, inr, ⊎_elim, eqb-true, append-nil}
+use Rattle.std.proofs.Common.{
+  ◌≡◌,
+  ℕ,
+  suc,
+  ◌+◌,
+  ◌-◌,
+  ◌==◌,
+  ◌<◌,
+  Bool,
+  true,
+  cond,
+  ◌||◌,
+  List,
+  [],
+  ◌∷◌,
+  ◌++◌,
+  length,
+  map,
+  take,
+  filter,
+  slice_index,
+  get_or-append-add,
+  length-append,
+  refl,
+  sym,
+  ap,
+  ap₂,
+  ◌∙◌,
+  subst,
+  arith,
+  inl,
+  inr,
+  ⊎_elim,
+  eqb-true,
+  append-nil,
+}
 use Rattle.std.specs.List.{concat, list_any}
 use Rattle.std.specs.Prelude.{◌⊎◌, nat_le}
 use Rattle.std.specs.Str.{IsUtf8}
@@ -39,7 +74,8 @@ line_part-append (p ∷ ps) qs h = ap (λ b. cond b [] (p ∷ line_part (ps ++ q
 abbrev ArePartsClusters : List ℕ → List ℕ → Type 0
 ArePartsClusters part more = graphemes true (part ++ more) ≡ graphemes true part ++ graphemes true more
 
-shown-append : (w : ℕ) (part more : List ℕ) → IsUtf8 part → OneLine part → ArePartsClusters part more → shown_in w (part ++ more) ≡ shown_in w part ++ shown_in w more
+shown-append : (w : ℕ) (part more : List ℕ) → IsUtf8 part → OneLine part → ArePartsClusters part more
+    → shown_in w (part ++ more) ≡ shown_in w part ++ shown_in w more
 shown-append w part more u one e =
     let gs = graphemes true part in
     let hs = graphemes true more in
@@ -75,7 +111,8 @@ module _ (style : Style) (w : ℕ) (trim : Bool) (alignment : Alignment) where
       let others = all_lines style w trim alignment (lines (behind_line (part ++ more))) in
       let alone : lines_in part ≡ shown_lines (wrap_kept R xs) =
       by_first style w trim alignment part u
-      ∙ (ap (λ t. shown_lines (wrap_kept R xs) ++ all_lines style w trim alignment (lines (concat t))) (all_of_it (graphemes true part) (no_newline_in part u one)).1
+      ∙ (ap (λ t. shown_lines (wrap_kept R xs) ++ all_lines style w trim alignment (lines (concat t)))
+      (all_of_it (graphemes true part) (no_newline_in part u one)).1
       ∙ append-nil (shown_lines (wrap_kept R xs))) in
       let both : lines_in (part ++ more) ≡ shown_lines (wrap_kept R (xs ++ ys)) ++ others =
       by_first style w trim alignment (part ++ more) v ∙ ap (λ t. shown_lines (wrap_kept R t) ++ others) (shown-append w part more u one e) in
@@ -96,11 +133,13 @@ module _ (style : Style) (w : ℕ) (trim : Bool) (alignment : Alignment) where
         | inr more ↦
             let k : n ≡ length xs + (n - length xs) = omega arith in
             ap (λ m. take m (xs ++ ys)) k
-            ∙ (take-append-add xs ys (n - length xs) ∙ (ap (λ t. xs ++ t) e ∙ (sym (take-append-add xs zs (n - length xs)) ∙ sym (ap (λ m. take m (xs ++ zs)) k))))
+            ∙ (take-append-add xs ys (n - length xs) ∙ (ap (λ t. xs ++ t) e
+            ∙ (sym (take-append-add xs zs (n - length xs)) ∙ sym (ap (λ m. take m (xs ++ zs)) k))))
       ]
 
   -- of the line behind a newline, and so of the whole
-  behind_newline : (n : ℕ) (front part more : List ℕ) → lines_in part ≡ all_lines style w trim alignment (lines part) → lines_in (part ++ more) ≡ all_lines style w trim alignment (lines (part ++ more))
+  behind_newline : (n : ℕ) (front part more : List ℕ) → lines_in part ≡ all_lines style w trim alignment (lines part)
+      → lines_in (part ++ more) ≡ all_lines style w trim alignment (lines (part ++ more))
       → take (n - length (lines_in (front ++ 10 ∷ []))) (lines_in (part ++ more)) ≡ take (n - length (lines_in (front ++ 10 ∷ []))) (lines_in part)
       → take n (lines_in (front ++ 10 ∷ (part ++ more))) ≡ take n (lines_in (front ++ 10 ∷ part))
   behind_newline n front part more e f same =
@@ -134,7 +173,8 @@ clusters_of_parts part more u some s =
     ∙ ap₂ (λ a b. graphemes true a ++ graphemes true b) (take-append_seam part more) (drop-append_seam part more)
 
 -- the place stands behind a line that has some bytes
-seam_in_line : (front line more : List ℕ) → IsSeam (front ++ 10 ∷ (line ++ more)) (length (front ++ 10 ∷ line)) → (0 < length line) × IsSeam (line ++ more) (length line)
+seam_in_line : (front line more : List ℕ) → IsSeam (front ++ 10 ∷ (line ++ more)) (length (front ++ 10 ∷ line))
+    → (0 < length line) × IsSeam (line ++ more) (length line)
 seam_in_line front [] more s =
     let k : length (front ++ 10 ∷ []) - 1 ≡ length front + 0 = omega (arith, length-append front (10 ∷ [])) in
     let newline : slice_index (front ++ 10 ∷ more) (length (front ++ 10 ∷ []) - 1) ≡ 10 =
@@ -170,7 +210,8 @@ module _ (style : Style) (w : ℕ) (trim : Bool) (alignment : Alignment) (n : �
       let line_is : lines_here line ≡ all_lines style w trim alignment (lines line) = ap (all_lines style w trim alignment) (some_lines line some) in
       let both_are : lines_here (line ++ more) ≡ all_lines style w trim alignment (lines (line ++ more)) =
       ap (all_lines style w trim alignment) (some_lines (line ++ more) (omega (arith, length-append line more))) in
-      let all : lines_here (front ++ 10 ∷ line) ≡ above ++ lines_here line = newline_lines style w trim alignment front line ∙ ap (λ t. above ++ t) (sym line_is) in
+      let all : lines_here (front ++ 10 ∷ line) ≡ above ++ lines_here line =
+      newline_lines style w trim alignment front line ∙ ap (λ t. above ++ t) (sym line_is) in
       let size = ap length all ∙ length-append above (lines_here line) in
       let less : n - length above < length (lines_here line) = omega (arith, few, size, has_line style alignment w trim line here) in
       behind_newline style w trim alignment n front line more line_is both_are
@@ -193,7 +234,8 @@ pub cut_lines : (w : ℕ) (trim : Bool) (n end : ℕ) (text part more : List ℕ
     → EndsInNewline (take end text) ⊎ EndsAtSeam text end → ((style : Style) (alignment : Alignment) → n < length (wrapped_lines style alignment w trim part))
     → HaveSameLines w trim n text part
 cut_lines w trim n end text part more u v front whole cut many = ⊎_elim
-    (λ newline. same_lines w trim n text part more whole (subst EndsInNewline (sym front) newline) (λ style alignment. let m = many style alignment in omega arith))
+    (λ newline. same_lines w trim n text part more whole (subst EndsInNewline (sym front) newline)
+    (λ style alignment. let m = many style alignment in omega arith))
     (λ (some, within, seam). λ style alignment.
     let place : end ≡ length part = sym (ap length front ∙ length-take-le end text (omega arith)) in
     let here : IsSeam (part ++ more) (length part) = subst (λ t. IsSeam t (length part)) whole (subst (IsSeam text) place seam) in

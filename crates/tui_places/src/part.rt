@@ -19,9 +19,9 @@ const REACH: usize = 512;
 const SEAM_REACH: usize = 64;
 
 /// A first part of the text that has the same first `lines` lines, where it is wrapped into lines of `width` columns that break at
-/// blanks alone. It ends little more than a line behind byte `near`: behind a newline, or between two printable characters of one byte.
-/// Where there is no such place in reach, or the part has no line more than these, it is the whole text. The work is that of these
-/// lines and of some hundred bytes. It takes no memory.
+/// blanks alone. It ends behind the first newline from byte `near` on, or little more than a line behind that byte, between two
+/// printable characters of one byte. Where there is no such place in reach, or the part has no line more than these, it is the whole
+/// text. The work is that of these lines and of some hundred bytes. It takes no memory.
 pub fn first_part(text: &str, width: u16, trim: bool, lines: usize, near: usize) -> &str
     ensures { HaveSameLines width trim lines text.now result.now }
 {

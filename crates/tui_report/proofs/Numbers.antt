@@ -1,5 +1,41 @@
 -- A text of printable bytes at the right of a row is the paragraph of that text.
-use Rattle.std.proofs.Common.{◌≡◌, ℕ, zero, suc, ◌+◌, ◌-◌, ◌<◌, ◌≤◌, ◌^◌, ◌==◌, min, Bool, true, false, List, [], ◌∷◌, ◌++◌, All, length, length-append, map, take, append-nil, if◌then◌else◌, refl, sym, ap, ap₂, ◌∙◌, subst, inl, inr, ⊎_elim, arith}
+use Rattle.std.proofs.Common.{
+  ◌≡◌,
+  ℕ,
+  zero,
+  suc,
+  ◌+◌,
+  ◌-◌,
+  ◌<◌,
+  ◌≤◌,
+  ◌^◌,
+  ◌==◌,
+  min,
+  Bool,
+  true,
+  false,
+  List,
+  [],
+  ◌∷◌,
+  ◌++◌,
+  All,
+  length,
+  length-append,
+  map,
+  take,
+  append-nil,
+  if◌then◌else◌,
+  refl,
+  sym,
+  ap,
+  ap₂,
+  ◌∙◌,
+  subst,
+  inl,
+  inr,
+  ⊎_elim,
+  arith,
+}
 use Rattle.std.specs.Prelude.{◌&&◌, cond, decimal, nat_le, nat_lt, sum_by}
 use Rattle.std.specs.List.{list_all}
 use Rattle.std.specs.Str.Lines.{lines_of_parts}
@@ -186,7 +222,8 @@ line_layers clip text e some wide =
     let w = clip.width in
     let under = stroke (covers clip) (dress no_style) in
     let line : fitting_prefix glyph_width w (kept glyph_width w (map (glyph_in no_style) (clusters text) ++ [])) ≡ glyphs (take w text) =
-    ap (λ gs. fitting_prefix glyph_width w (kept glyph_width w gs)) (append-nil (map (glyph_in no_style) (clusters text)) ∙ ap (map (glyph_in no_style)) (clusters_are text e))
+    ap (λ gs. fitting_prefix glyph_width w (kept glyph_width w gs))
+    (append-nil (map (glyph_in no_style) (clusters text)) ∙ ap (map (glyph_in no_style)) (clusters_are text e))
     ∙ (ap (fitting_prefix glyph_width w) (all_kept w text wide e) ∙ fitting w text e) in
     let size : sum_by glyph_width (glyphs (take w text)) ≡ min w (length text) = columns (take w text) (part_printable w text e) ∙ length-take w text in
     ap (λ ts. under ++ glyph_lines_layers clip clip.y (truncate_text w 0 Right (record (raw_text []) { lines = map raw_line ts }))) (one_line text e some)
@@ -198,7 +235,8 @@ set_right : (clip : Rect) (x n : ℕ) (text : List ℕ) (a b : Screen) → IsPri
     Painted (set_layers clip (record { x = x; y = clip.y }) (styled_text text no_style) n) a b → Painted (paragraph_layers (right_paragraph text) clip) a b
 unfolding spans_layers
 set_right clip x n text a b e some right count at there p =
-    let inside : (clip.x ≤ x) × (x < right_of clip) × (clip.y < bottom_of clip) = (grind (arith, nat_tests), grind (arith, nat_tests), grind (arith, nat_tests)) in
+    let inside : (clip.x ≤ x) × (x < right_of clip) × (clip.y < bottom_of clip) =
+    (grind (arith, nat_tests), grind (arith, nat_tests), grind (arith, nat_tests)) in
     let wide : 0 < clip.width = omega (arith, inside.0, inside.1) in
     let fits = right wide in
     let room : min n (right_of clip - x) ≡ n = omega arith in
@@ -218,7 +256,8 @@ set_right clip x n text a b e some right count at there p =
     subst (λ ls. Painted ls a b) (sym (line_layers clip text e some wide))
     (Painted-then (nothing_set (covers clip) no_style a refl) (subst (λ ls. Painted ls a b) (sym (append-nil _)) run_there))
 
-nowhere : (clip : Rect) (x n len : ℕ) → 0 < len → (0 < clip.width → clip.x + clip.width ≤ 65535) → n ≡ min clip.width len → x ≡ right_of clip - n → covers clip x clip.y ≡ false →
+nowhere : (clip : Rect) (x n len : ℕ) → 0 < len → (0 < clip.width → clip.x + clip.width ≤ 65535) → n ≡ min clip.width len →
+    x ≡ right_of clip - n → covers clip x clip.y ≡ false →
     (i j : ℕ) → covers clip i j ≡ false
 nowhere clip x n len some right count at out i j =
     elim (cases_lt 0 clip.width) [
@@ -235,7 +274,8 @@ right_drawn area clip at n style text a b e some is count column row plain ok =
     let set : Painted (set_layers clip (record { x = at.x; y = clip.y }) (styled_text text no_style) n) a b =
     subst (λ y. Painted (set_layers clip (record { x = at.x; y = y }) (styled_text text no_style) n) a b) row
     (subst (λ s. Painted (set_layers clip at (styled_text text s) n) a b) plain ok) in
-    let right : 0 < clip.width → clip.x + clip.width ≤ 65535 = subst (λ (c : Rect). 0 < c.width → c.x + c.width ≤ 65535) (sym is) (λ wide. omega (arith, wide)) in
+    let right : 0 < clip.width → clip.x + clip.width ≤ 65535 =
+    subst (λ (c : Rect). 0 < c.width → c.x + c.width ≤ 65535) (sym is) (λ wide. omega (arith, wide)) in
     subst (λ (c : Rect). Painted (paragraph_layers (right_paragraph text) c) a b) is
     (⊎_elim
     (λ there. set_right clip at.x n text a b e some right count column there set)
@@ -252,7 +292,8 @@ clip_kept area clip a b is kept =
 -- a page's number is such a text
 pub number_printable : (at count : ℕ) → at + 1 < 10 ^ 64 → count < 10 ^ 64 → IsPrintable (number_of at count)
 number_printable at count h k =
-    both_printable (decimal (at + 1)) (47 ∷ decimal count) (decimal_printable (at + 1) h) (both_printable (47 ∷ []) (decimal count) refl (decimal_printable count k))
+    both_printable (decimal (at + 1)) (47 ∷ decimal count) (decimal_printable (at + 1) h)
+    (both_printable (47 ∷ []) (decimal count) refl (decimal_printable count k))
 
 pub number_some : (at count : ℕ) → 0 < length (number_of at count)
 number_some at count = omega (arith, length-append (decimal (at + 1)) (47 ∷ decimal count))

@@ -9,7 +9,17 @@ ghost use Rattle.tui_report.specs.Pages.{lines_on};
 ghost use Rattle.tui_report.specs.Report.{cells_of, column_data};
 ghost use Rattle.tui_report.specs.Starts.{GoesOn, RowStarts};
 ghost use Rattle.tui_report.specs.declared.piece.Piece.{Piece};
-ghost use Rattle.tui_report.specs.Strokes.{IsDrawable, cell_from, cells_layers, drawn_in, names_layers, number_paragraph, pieces_layers, plain, right_paragraph};
+ghost use Rattle.tui_report.specs.Strokes.{
+  IsDrawable,
+  cell_from,
+  cells_layers,
+  drawn_in,
+  names_layers,
+  number_paragraph,
+  pieces_layers,
+  plain,
+  right_paragraph,
+};
 ghost use Rattle.tui_text.specs.Part.{is_printable};
 
 use crate::column::Column;
