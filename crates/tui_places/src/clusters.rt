@@ -33,7 +33,7 @@ pub(crate) fn begins_printable(text: &str) -> bool
 }
 
 #[inline]
-fn is_printable(byte: u8) -> bool
+pub(crate) fn is_printable(byte: u8) -> bool
     ensures { result ≡ is_printable byte }
 {
     32 <= byte && byte <= 126

@@ -2,11 +2,11 @@
 
 ghost use Rattle.std.specs.Prelude.{◌≡◌, ◌<◌, ◌⊎◌, ℕ, length, take, true};
 ghost use Rattle.tui_cells.specs.declared.style.Style.{Style};
-ghost use Rattle.tui_text.specs.Part.{is_printable};
 ghost use Rattle.tui_text.specs.declared.alignment.Alignment.{Alignment};
 ghost use Rattle.tui_places.specs.AfterLine.{wrapped_lines};
 ghost use Rattle.tui_places.specs.Parts.{EndsAtSeam, EndsInNewline, HaveSameLines};
 
+use crate::clusters::is_printable;
 use crate::places::rest_from;
 
 /// The byte of a newline.
@@ -99,12 +99,6 @@ fn is_seam(bytes: &[u8], place: usize) -> bool
     ensures { result ≡ true → EndsAtSeam bytes.now place }
 {
     0 < place && place < bytes.len() && is_printable(bytes[place - 1]) && is_printable(bytes[place])
-}
-
-fn is_printable(byte: u8) -> bool
-    ensures { result ≡ is_printable byte }
-{
-    32 <= byte && byte <= 126
 }
 
 /// Whether the text has more lines than these.
