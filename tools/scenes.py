@@ -171,29 +171,26 @@ def pager(width, height, entries, key):
     return {"width": width, "height": height, "entries": each, "keys": [key] * 1_000}
 
 
-def grid(leaf, **fields):
-    """240 panes in 15 rows of 16, on 960 by 900, each with the widget that `leaf` makes of its number."""
-    row = lambda y: {"parts": [{"size": {"fill": 1}, "pane": {"item": leaf(16 * y + x)}} for x in range(16)]}
-    root = {"direction": "Vertical", "parts": [{"size": {"fill": 1}, "pane": row(y)} for y in range(15)]}
-    return {"width": 960, "height": 900, "root": root, **fields}
-
-
-def placed(i):
-    """The area of a pane of the grid."""
-    return [60 * (i % 16), 60 * (i // 16), 60, 60]
-
-
 def pane_item(i):
     return {"widget": "paragraph", "text": f"pane {i}", "block": {"borders": ALL}, "style": {"fg": "cyan"}}
 
 
-def grid_scene(changes):
-    """The same widgets as a scene with areas, and for each of so many changes a Clear and the new widget."""
-    each = [{**pane_item(i), "area": placed(i)} for i in range(240)]
+def grid(rows, changes):
+    """16 panes of 60 by 60 in each of so many rows, and so many changes, each of one pane."""
+    row = lambda y: {"parts": [{"size": {"fill": 1}, "pane": {"item": pane_item(16 * y + x)}} for x in range(16)]}
+    root = {"direction": "Vertical", "parts": [{"size": {"fill": 1}, "pane": row(y)} for y in range(rows)]}
+    changed = [{"leaf": i % (16 * rows), "item": pane_item(i + 16 * rows)} for i in range(changes)]
+    return {"width": 960, "height": 60 * rows, "root": root, "changes": changed}
+
+
+def areas(rows, changes):
+    """The same widgets as a scene with areas, and for each change a Clear and the new widget."""
+    area = lambda i: [60 * (i % 16), 60 * (i // 16), 60, 60]
+    each = [{**pane_item(i), "area": area(i)} for i in range(16 * rows)]
     for i in range(changes):
-        area = placed(i % 240)
-        each += [{"widget": "clear", "area": area}, {**pane_item(i + 240), "area": area}]
-    return scene(960, 900, each)
+        place = area(i % (16 * rows))
+        each += [{"widget": "clear", "area": place}, {**pane_item(i + 16 * rows), "area": place}]
+    return scene(960, 60 * rows, each)
 
 
 def report(width, height, sizes, records):
@@ -263,10 +260,10 @@ SCENES = {
     "pager80": lambda: pager(80, 24, (1_000, 1_000), "Down"),
     "pager200": lambda: pager(200, 100, (1_000, 1_000), "Down"),
     "pager_line": lambda: pager(80, 24, (1, 64_000), "LineDown"),
-    "panes": lambda: grid(pane_item),
-    "panes_changed": lambda: grid(pane_item, changes=[{"leaf": i % 240, "item": pane_item(i + 240)} for i in range(256)]),
-    "areas": lambda: grid_scene(0),
-    "areas_changed": lambda: grid_scene(256),
+    "panes": lambda: grid(15, 0),
+    "panes_changed": lambda: grid(4, 90),
+    "areas": lambda: areas(15, 0),
+    "areas_changed": lambda: areas(4, 90),
     "exact": lambda: scene(1000, 1000, [block((0, 0, 1000, 1000), merge_borders="Exact")]),
 }
 
