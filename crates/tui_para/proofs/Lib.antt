@@ -25,7 +25,7 @@ mod Painted
 mod LinesExist
 mod LinesAgree
 mod Sources
-mod Extending
+pub mod Extending
 mod FirstLines
 mod PartsRead
 mod Beginning

@@ -1,5 +1,26 @@
 -- How a list of graphemes is wrapped into lines.
-use Rattle.std.specs.Prelude.{◌≡◌, ◌≢◌, ℕ, ◌-◌, ◌<◌, ◌≤◌, ◌⊎◌, Bool, true, false, if◌then◌else◌, not, nat_le, All, List, [], ◌∷◌, ◌++◌, sum_by, filter}
+use Rattle.std.specs.Prelude.{
+  ◌≡◌,
+  ◌≢◌,
+  ℕ,
+  ◌-◌,
+  ◌<◌,
+  ◌≤◌,
+  ◌⊎◌,
+  Bool,
+  true,
+  false,
+  if◌then◌else◌,
+  not,
+  nat_le,
+  All,
+  List,
+  [],
+  ◌∷◌,
+  ◌++◌,
+  sum_by,
+  filter,
+}
 use Rattle.tui_para.specs.Rule.{Rule, ends_piece}
 
 -- what stands before the first grapheme that passes the test

@@ -1,7 +1,7 @@
 use Rattle.std.proofs.Common.{sym}
 use Rattle.tui_text.proofs.Ideographs.{ideograph_blank}
 use Rattle.tui_text.proofs.Letters.{letter_blank}
-use Rattle.tui_text.proofs.grapheme.is_blank_text.Goals as goal
+use Rattle.tui_text.proofs.grapheme.looked_up_blank.Goals as goal
 
 pub returns-then-is_ideograph : goal.returns-then-is_ideograph
 returns-then-is_ideograph c = sym (ideograph_blank c.args.text.now (c.is_ideograph.ensures c.if-is_ideograph.true))

@@ -1,0 +1,10 @@
+use Rattle.std.proofs.Common.{sym}
+use Rattle.tui_text.proofs.Ideographs.{ideograph_width}
+use Rattle.tui_text.proofs.Letters.{letter_width}
+use Rattle.tui_text.proofs.width.looked_up_width.Goals as goal
+
+pub returns-then-is_ideograph : goal.returns-then-is_ideograph
+returns-then-is_ideograph c = sym (ideograph_width c.args.text.now (c.is_ideograph.ensures c.if-is_ideograph.true))
+
+pub returns-then-is_letter : goal.returns-then-is_letter
+returns-then-is_letter c = sym (letter_width c.args.text.now (c.is_letter.ensures c.if-is_letter.true))
