@@ -121,7 +121,7 @@ label_width_in g = fold max 0 (map label_width g.bars)
 abbrev pub label_width_of : BarChartData → ℕ
 label_width_of c = fold max 0 (map label_width_in c.groups)
 
--- whether a bar has a label, and whether a group has one
+-- whether a bar has a label
 abbrev pub has_label : BarData → Bool
 has_label b = is_some b.label
 

@@ -14,7 +14,7 @@ use Rattle.tui_bars.specs.declared.plan.Pass.{Pass}
 use Rattle.tui_bars.specs.declared.plan.Pass.TheVariants.{Columns, Texts, Rows}
 use Rattle.tui_bars.specs.declared.plan.Plan.{Plan}
 
--- one bar, and one group, in a walk
+-- one bar, in a walk
 unfoldable pub bar_layers : BarChartData → Plan → Pass → PlacedBar → List Layer
 bar_layers c plan Columns p = column_layers c plan p.at p.bar
 bar_layers c plan Texts p = texts_layers c plan p.at p.bar

@@ -67,7 +67,7 @@ gauge_data g = record {
 abbrev pub empty_gauge : GaugeData
 empty_gauge = record { block = None; num = 0; den = 1; label = None; style = no_style; gauge_style = no_style; use_unicode = false }
 
--- the style of filled cells, which sets both colours, and the same with the colours turned round
+-- the style of filled cells, which sets both colours
 abbrev pub filled_style : Style → Style
 filled_style s = record no_style { fg = Some (unwrap_or s.fg Reset); bg = Some (unwrap_or s.bg Reset) }
 
@@ -75,15 +75,15 @@ filled_style s = record no_style { fg = Some (unwrap_or s.fg Reset); bg = Some (
 abbrev pub turned_style : Style → Style
 turned_style s = record no_style { fg = Some (unwrap_or s.bg Reset); bg = Some (unwrap_or s.fg Reset) }
 
--- █ in UTF-8, and the symbol of so many eighths of a cell from the left: a blank, then ▏ (e2968f) down to █ (e29688)
+-- █ in UTF-8
 abbrev pub full : List ℕ
 full = 0xe2 ∷ 0x96 ∷ 0x88 ∷ []
 
--- the symbol of so many eighths of a cell
+-- the symbol of so many eighths of a cell from the left: a blank, then ▏ (e2968f) down to █ (e29688)
 unfoldable pub eighth : ℕ → List ℕ
 eighth k = if k == 0 then space else 0xe2 ∷ 0x96 ∷ (0x90 - min k 8) ∷ []
 
--- the first columns of an area, and the one after them
+-- the first columns of an area, which are filled
 abbrev pub filled_area : Rect → ℕ → Rect
 filled_area area fill = record area { width = fill }
 
@@ -95,7 +95,7 @@ tip_area area fill = record area { x = past area.x fill; width = 1 }
 abbrev pub label_of : GaugeData → SpanData
 label_of g = unwrap_or g.label (raw_span (decimal (percent_of g.num g.den) ++ codes "%"))
 
--- its columns, and where it begins
+-- the columns of a label, as many as the area has at most
 abbrev pub label_width : Rect → SpanData → ℕ
 label_width area label = min (span_width false label) area.width
 
@@ -103,7 +103,7 @@ label_width area label = min (span_width false label) area.width
 abbrev pub label_place : Rect → ℕ → Position
 label_place area width = record { x = past area.x ((area.width - width) / 2); y = past area.y (area.height / 2) }
 
--- the filled cells under a label of so many columns, and in the column after it
+-- the filled cells under a label of so many columns and in the column after it
 abbrev pub label_area : Rect → ℕ → ℕ → Rect
 label_area area fill width = record {
   x = past area.x ((area.width - width) / 2);

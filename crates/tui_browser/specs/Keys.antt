@@ -5,7 +5,7 @@ use Rattle.tui_viewer.specs.Key as key
 use Rattle.tui_viewer.specs.declared.key.Key.{Key}
 use Rattle.tui_viewer.specs.declared.key.Key.TheVariants.{Up, Down, PageUp, PageDown, First, Last, LineUp, LineDown, BodyTop, BodyEnd}
 
--- the names, all keys, and that none is left out
+-- the names of the keys: all of them, and none is left out
 abbrev pub keys : Names Key
 keys = record {
   name = key.name_of;

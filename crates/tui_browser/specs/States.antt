@@ -5,7 +5,7 @@ use Rattle.tui_viewer.specs.Pager.{PagerData}
 use Rattle.tui_viewer.specs.declared.state.PagerState.{PagerState}
 use Rattle.tui_browser.specs.Input.{InputData}
 
--- the pager at the start, and behind all keys
+-- the pager at the start
 abbrev pub first_of : InputData → PagerData
 first_of input = pager_of input.entries input.size.0 input.size.1
 
@@ -18,6 +18,6 @@ unfoldable pub states_behind : PagerData → List Call → List PagerState
 states_behind p [] = []
 states_behind p (call ∷ calls) = (after_call p call).state ∷ states_behind (after_call p call) calls
 
--- the one at the start, and those
+-- the state at the start, and those behind each key
 abbrev pub states_of : PagerData → List Call → List PagerState
 states_of p calls = p.state ∷ states_behind p calls

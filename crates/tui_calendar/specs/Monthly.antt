@@ -39,11 +39,11 @@ abbrev pub rows_of : Option Style → ℕ
 rows_of None = 0
 rows_of (Some _) = 1
 
--- the columns and the rows that the month and its block take
+-- the columns that the month and its block take
 abbrev pub monthly_width : MonthlyData → ℕ
 monthly_width m = min (beside 21 (option_map columns_around m.block)) 65535
 
--- likewise the rows
+-- the rows that they take
 abbrev pub monthly_height : MonthlyData → ℕ
 monthly_height m = min (beside (weeks_of m.date + (rows_of m.month_header + rows_of m.weekdays_header)) (option_map rows_around m.block)) 65535
 

@@ -44,7 +44,7 @@ weeks_layers style_of m inner x y row (suc n) =
 unfoldable pub sheet_layers : (DateData → Style) → MonthlyData → Rect → Rect → List Layer
 sheet_layers style_of m inner rest = weeks_layers style_of m inner rest.x rest.y 0 (min (weeks_of m.date) rest.height)
 
--- the month and the year, in the middle of the first row
+-- the month and the year, in the middle of the first row, where that header is shown
 unfoldable pub month_layers : MonthlyData → Rect → Option Style → List Layer
 month_layers m inner None = []
 month_layers m inner (Some style) = row_layers inner Center (spans_line (raw_span (heading_text m.date) ∷ []) style)

@@ -24,7 +24,7 @@ item_lines i = 1 + i % 3
 abbrev pub demo_item : ℕ → ListItemData
 demo_item i = record { content = record empty_text { lines = repeat (item_lines i) (raw_line (letter i ∷ []) ∷ []) }; style = no_style }
 
--- the items 0 to n - 1, and their heights
+-- the items 0 to n - 1
 abbrev pub demo_items : ℕ → List ListItemData
 demo_items n = map demo_item (range_with_len 0 n)
 
@@ -32,7 +32,7 @@ demo_items n = map demo_item (range_with_len 0 n)
 abbrev pub demo_heights : ℕ → List ℕ
 demo_heights n = map item_lines (range_with_len 0 n)
 
--- the list, which keeps an item in sight on each side of the selected one, and its state
+-- the list, which keeps an item in sight on each side of the selected one
 abbrev pub demo_list : ℕ → ListData
 demo_list n = record (list_of (demo_items n)) { padding = 1 }
 

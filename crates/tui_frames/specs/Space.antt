@@ -15,16 +15,19 @@ count is_set = if is_set then 1 else 0
 abbrev pub past : ℕ → ℕ → ℕ
 past place n = min (place + n) 65535
 
--- the columns that borders take at the left and at the right, and the rows that borders and titles take at the top and at the bottom
+-- the columns that the border takes at the left
 abbrev pub left_edge : BlockData → ℕ
 left_edge b = count (has b.borders left)
 
+-- the columns that the border takes at the right
 abbrev pub right_edge : BlockData → ℕ
 right_edge b = count (has b.borders right)
 
+-- the rows that the border and titles take at the top
 abbrev pub top_edge : BlockData → ℕ
 top_edge b = count (has b.borders top || has_title b Top)
 
+-- the rows that the border and titles take at the bottom
 abbrev pub bottom_edge : BlockData → ℕ
 bottom_edge b = count (has b.borders bottom || has_title b Bottom)
 
@@ -38,7 +41,7 @@ inner b area = record {
   height = area.height - (top_edge b + bottom_edge b) - (b.padding.top + b.padding.bottom);
 }
 
--- the rows and the columns that a block takes around what is inside, each part cut at 65535
+-- the rows that a block takes around what is inside, those above and those below each cut at the farthest edge
 abbrev pub rows_around : BlockData → ℕ
 rows_around b = min (b.padding.top + top_edge b) 65535 + min (b.padding.bottom + bottom_edge b) 65535
 

@@ -21,10 +21,11 @@ use Rattle.tui_frames.specs.declared.title_position.TitlePosition.TheVariants.{T
 
 -- Borders
 
--- the last column and the last row of a clip
+-- the last column of a clip
 abbrev pub last_column : Rect → ℕ
 last_column c = right_of c - 1
 
+-- the last row of a clip
 abbrev pub last_row : Rect → ℕ
 last_row c = bottom_of c - 1
 
@@ -45,10 +46,11 @@ column_of c x = record c { x = x; width = 1 }
 abbrev pub row_of : Rect → ℕ → Rect
 row_of c y = record c { y = y; height = 1 }
 
--- the cells of a side in a column, and in a row
+-- the cells of a side in a column
 abbrev pub column_side : BlockData → Rect → ℕ → Rect
 column_side b c x = rows_from (column_of c x) (gap b top) (c.height - (gap b top + gap b bottom))
 
+-- the cells of a side in a row
 abbrev pub row_side : BlockData → Rect → ℕ → Rect
 row_side b c y = columns_from (row_of c y) (gap b left) (c.width - (gap b left + gap b right))
 
@@ -79,12 +81,12 @@ corners_layers b c =
 
 -- Titles
 
--- the row of a side, without the columns of the left and right borders that are set
+-- the row of a side
 abbrev pub row_at : Rect → TitlePosition → ℕ
 row_at c Top = c.y
 row_at c Bottom = last_row c
 
--- the part of that row in which titles stand
+-- the part of that row in which titles stand: without the columns of the left and right borders that are set
 abbrev pub strip_of : BlockData → Rect → TitlePosition → Rect
 strip_of b c position = columns_from (row_of c (row_at c position)) (left_edge b) (c.width - (left_edge b + right_edge b))
 

@@ -14,7 +14,7 @@ use Rattle.tui_layout.specs.declared.highlight_spacing.HighlightSpacing.{Highlig
 use Rattle.tui_layout.specs.declared.highlight_spacing.HighlightSpacing.TheVariants.{Always, WhenSelected, Never}
 use Rattle.tui_json.specs.Named.{Names}
 
--- each table: the names, all values, and that none is left out
+-- the names of the strategies: all of them, and none is left out
 abbrev pub merge_strategies : Names MergeStrategy
 merge_strategies = record {
   name = strategy.name_of;
@@ -22,6 +22,7 @@ merge_strategies = record {
   found = elim [ Replace ↦ refl | Exact ↦ refl | Fuzzy ↦ refl ];
 }
 
+-- likewise those of the spacings beside a selected row
 abbrev pub highlight_spacings : Names HighlightSpacing
 highlight_spacings = record {
   name = highlight_spacing.name_of;

@@ -17,7 +17,7 @@ end_of heights height first = greatest (λ m. total heights first m) height (len
 abbrev pub padding_of : List ℕ → ℕ → ℕ → ℕ → ℕ
 padding_of heights height s asked = greatest (λ p. total heights (s - p) (end_around heights s p)) height (min asked (length heights))
 
--- the lowest offset that serves, and the one that is nearest to the old one
+-- the lowest offset that serves
 abbrev pub lowest_of : List ℕ → ℕ → ℕ → ℕ → ℕ
 lowest_of heights height s p = s - p - greatest (λ k. total heights (s - p - k) (end_around heights s p)) height (s - p)
 

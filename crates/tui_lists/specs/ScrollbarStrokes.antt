@@ -22,12 +22,12 @@ use Rattle.tui_text.specs.Graphemes.{clusters}
 use Rattle.tui_text.specs.Setting.{set_layers, styled_text}
 use Rattle.tui_text.proofs.SetStays.{set_stays}
 
--- the columns of a symbol, and the places that it takes along the bar
+-- the columns of a symbol
 abbrev pub symbol_width : Option (List ℕ) → ℕ
 symbol_width None = 0
 symbol_width (Some text) = width_of text
 
--- 1 for a symbol that is there, 0 for none
+-- the places that a symbol takes along the bar: one if it is there
 abbrev pub places : Option (List ℕ) → ℕ
 places None = 0
 places (Some _) = 1

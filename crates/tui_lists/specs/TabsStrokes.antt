@@ -27,7 +27,7 @@ in_first_row inner x = record { x = x; y = inner.y }
 abbrev pub used_columns : Rect → ℕ → ℕ → Rect
 used_columns inner start end = intersection_of inner (cells_at start inner.y (end - start))
 
--- the columns where a title begins and ends whose left padding begins at column x, and where its right padding ends
+-- the column where a title begins whose left padding begins at column x
 abbrev pub title_start : TabsData → Rect → ℕ → ℕ
 title_start t inner x = set_column inner (in_first_row inner x) (line_spans t.padding_left) inner.width
 

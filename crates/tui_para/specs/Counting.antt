@@ -26,11 +26,11 @@ end_line c = record no_lines { lines = c.lines + 1 }
 abbrev pub take_word_along : Counter → Counter
 take_word_along c = record c { lines = c.lines + 1; some = true; begun = false; line = 0; blanks = 0 }
 
--- a blank that the line takes, and one that a line's beginning leaves out
+-- a blank that the line takes
 abbrev pub add_blank : Counter → ℕ → Counter
 add_blank c s = record c { some = true; blanks = c.blanks + s }
 
--- a blank is read, and nothing is kept of it
+-- a blank that a line's beginning leaves out: nothing is kept of it
 abbrev pub skip_blank : Counter → Counter
 skip_blank c = record c { some = true }
 

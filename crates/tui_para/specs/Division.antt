@@ -32,7 +32,7 @@ Spaced blank size (v ∷ []) xs = IsWord blank v × (xs ≡ v)
 Spaced {A} blank size (v ∷ u ∷ vs) xs =
     IsWord blank v × (b : A) × (rest : List A) × (xs ≡ v ++ b ∷ rest) × (blank b ≡ true) × (size b ≡ 1) × Spaced blank size (u ∷ vs) rest
 
--- the same, and none of the words is wider than w
+-- such words, none of which is wider than w
 pub record SpacedWithin {A : Type 0} (blank : A → Bool) (size : A → ℕ) (w : ℕ) (words : List (List A)) (xs : List A) : Type 0 where
   pub spaced : Spaced blank size words xs
   pub fit : All (λ word. sum_by size word ≤ w) words

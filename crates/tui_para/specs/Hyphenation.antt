@@ -32,7 +32,7 @@ abbrev pub behind_all : Hyphenation → List Glyph → Hyphenation
 behind_all before [] = before
 behind_all before (g ∷ gs) = behind_all (behind before g) gs
 
--- whether a `-` that may part a word stands there, and whether a grapheme that isn't `-` does
+-- whether a `-` that may part a word stands directly before
 abbrev pub after_hyphen : Hyphenation → Bool
 after_hyphen Off = false
 after_hyphen Apart = false

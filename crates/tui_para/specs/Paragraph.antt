@@ -32,7 +32,7 @@ paragraph_data p = record {
   alignment = p.alignment;
 }
 
--- the rows and the columns that the block takes, if there is one
+-- the rows that the block takes, if there is one
 abbrev pub block_rows : ParagraphData → Option ℕ
 block_rows p = option_map rows_around p.block
 

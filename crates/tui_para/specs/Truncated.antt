@@ -12,7 +12,7 @@ pub record IsLongestPrefix {A : Type 0} (P : List A → Type 0) (xs front after 
 abbrev pub FitsIn : {A : Type 0} → (A → ℕ) → ℕ → List A → Type 0
 FitsIn size room front = sum_by size front ≤ room
 
--- it is not wider than the offset, and each strictly shorter front of it is narrower than the offset
+-- a front that the offset passes by: it is not wider than the offset, and each strictly shorter front of it is narrower
 pub record IsPassedBy {A : Type 0} (size : A → ℕ) (offset : ℕ) (front : List A) : Type 0 where
   pub fits : sum_by size front ≤ offset
   pub needed : (shorter more : List A) → front ≡ shorter ++ more → more ≢ [] → sum_by size shorter < offset

@@ -70,7 +70,7 @@ pub record BreaksBefore {A : Type 0} (rule : Rule A) (test : A → Bool) (room :
   pub next : begins test after ≡ true
   pub too_wide : room < sum_by rule.size (next_piece rule after)
 
--- so before a blank, and so where a word is cut
+-- a line is broken before a blank
 abbrev pub IsSoftBreak : {A : Type 0} → Rule A → ℕ → List A → List A → Type 0
 IsSoftBreak rule room line after = BreaksBefore rule rule.blank room line after
 

@@ -12,7 +12,7 @@ use Rattle.tui_para.specs.WrappedText.{wrap_text}
 abbrev pub wrapped_lines : Style → Alignment → ℕ → Bool → List ℕ → List GlyphLine
 wrapped_lines style alignment w trim text = wrap_text w (at_blanks trim) alignment (record (raw_text text) { style = style })
 
--- the text has n lines; it has one; it has at most n
+-- the text is wrapped into n lines
 abbrev pub HasLineCount : ℕ → Bool → List ℕ → ℕ → Type 0
 HasLineCount w trim text n = (style : Style) (alignment : Alignment) → length (wrapped_lines style alignment w trim text) ≡ n
 

@@ -3,7 +3,7 @@ use Rattle.std.specs.Prelude.{ℕ, ◌≡◌, ◌+◌, ◌-◌, ◌<◌, ◌≤�
 use Rattle.std.specs.List.{AllAdjacentBelow, range_with_len}
 use Rattle.tui_report.specs.declared.piece.Piece.{Piece}
 
--- how many lines a piece has, and how many a page has
+-- how many lines a piece has
 abbrev pub size_of : Piece → ℕ
 size_of p = p.to - p.from
 

@@ -68,10 +68,11 @@ pub record IsDrawable (count : ℕ) (p : Piece) : Type 0 where
 abbrev pub page_area : ReportData → Rect
 page_area r = area_of 0 0 r.width r.height
 
--- the rows of the title and the names, and those below them
+-- the rows of the title and the names
 abbrev pub head_area : ReportData → Rect
 head_area r = rows_from (page_area r) 0 2
 
+-- the rows below them
 abbrev pub body_area : ReportData → Rect
 body_area r = rows_from (page_area r) 2 (r.height - 2)
 

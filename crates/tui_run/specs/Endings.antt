@@ -22,11 +22,11 @@ nothing text = ⊥
 abbrev pub no_refusal : {R : Type 0} → R → Type 0
 no_refusal x = ⊥
 
--- the output for a value that is accepted, and a part of it that may stand alone
+-- the output for a value that is accepted
 abbrev pub IsOutput : {R : Type 0} → Reading R → Data → List ℕ → Type 0
 IsOutput r d text = (input : r.Input) × (r.input_of d ≡ Ok input) × r.due input text
 
--- a text that a run may have written where memory ended
+-- a part of it that may stand alone, where memory ended
 abbrev pub IsPart : {R : Type 0} → Reading R → Data → List ℕ → Type 0
 IsPart r d text = (input : r.Input) × (r.input_of d ≡ Ok input) × r.part input text
 

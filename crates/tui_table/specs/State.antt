@@ -9,7 +9,7 @@ use Rattle.tui_table.specs.contracts.state.TableState.{the_row}
 abbrev pub at_rest : TableState
 at_rest = record { offset = 0; selected = None; selected_column = None }
 
--- the row and the column of a selected cell, and the cell of both
+-- the row of a selected cell
 abbrev pub row_of_cell : Option (ℕ × ℕ) → Option ℕ
 row_of_cell None = None
 row_of_cell (Some cell) = Some cell.0

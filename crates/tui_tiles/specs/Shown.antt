@@ -16,10 +16,11 @@ use Rattle.tui_tiles.specs.Input.{InputData}
 use Rattle.tui_tiles.specs.Order.{numbers_of}
 use Rattle.tui_tiles.specs.declared.order.Order.{Order}
 
--- the area of the screen, and the leaves of the tree in their rectangles
+-- the area of the screen
 abbrev pub screen_area : InputData → Rect
 screen_area input = area_of 0 0 input.size.width input.size.height
 
+-- the leaves of the tree in their rectangles
 abbrev pub leaves_of : InputData → List PlacedData
 leaves_of input = placed_of (screen_area input) input.root
 

@@ -22,10 +22,11 @@ use Rattle.tui_tiles.specs.declared.field.PaneField.TheVariants as fields
 use Rattle.tui_tiles.specs.declared.refusal.PanesRefusal.{PanesRefusal}
 use Rattle.tui_tiles.specs.declared.shape.Shape.{Shape}
 
--- a field that has to be there, and one that may be absent or null
+-- a field that has to be there
 abbrev pub required : {A : Type 0} → (Data → Option A) → Option ℕ → PaneField → Data → Result A PanesRefusal
 required kind at field d = tests.required kind (field_name field) (bad_pane at field) d
 
+-- a field that may be absent or null
 abbrev pub optional : {A : Type 0} → (Data → Option A) → Option ℕ → PaneField → Data → Result (Option A) PanesRefusal
 optional kind at field d = tests.optional kind (field_name field) (bad_pane at field) d
 

@@ -18,7 +18,7 @@ pub data Call : Type 0 where
   press : Key → Call
   resize : ℕ → ℕ → Call
 
--- a pager at its start, and after a call
+-- a pager at its start
 abbrev pub pager_of : List EntryData → ℕ → ℕ → PagerData
 pager_of entries width height = record {
   width = width;

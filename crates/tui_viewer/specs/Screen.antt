@@ -47,7 +47,7 @@ use Rattle.tui_viewer.specs.Pager.{PagerData}
 use Rattle.tui_viewer.specs.Steps.{Sizes, most_of}
 use Rattle.tui_viewer.specs.declared.state.PagerState.{PagerState}
 
--- a third of the width for the titles, the rest for the body, and a row below both; the bar stands on the body's right border
+-- the screen: a third of its width for the titles, the rest for the body, and a row below both; the bar stands on the body's right border
 abbrev pub page_area : ℕ → ℕ → Rect
 page_area width height = record { x = 0; y = 0; width = width; height = height }
 
@@ -113,7 +113,7 @@ bar = record (scrollbar_of VerticalRight) { begin = None; end = None }
 abbrev pub bar_state : ℕ → ℕ → ℕ → ScrollbarState
 bar_state rows most line = record { content_length = most + 1; position = line; viewport_content_length = rows }
 
--- what a size comes to: the rows of both panes, the lines of the titles, and those of the bodies inside their borders
+-- how many lines a body is wrapped into at a width
 abbrev pub line_count : ℕ → List ℕ → ℕ
 line_count width body = length (wrap_text width (at_blanks true) Left (raw_text body))
 
@@ -129,12 +129,12 @@ sizes_of entries width height = record {
   lines = body_lines entries width;
 }
 
--- the place of the selected entry, from 1, and how many there are
+-- the place of the selected entry, from 1, and 0 for none
 abbrev pub number_of : Option ℕ → ℕ
 number_of None = 0
 number_of (Some place) = place + 1
 
--- the number of the selected entry and that of all
+-- that number and how many entries there are
 abbrev pub place_text : Option ℕ → ℕ → List ℕ
 place_text selected count = decimal (number_of selected) ++ (codes "/" ++ decimal count)
 

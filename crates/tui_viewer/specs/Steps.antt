@@ -24,7 +24,7 @@ lines_at lines (Some place) = slice_index lines place
 abbrev pub most_of : Sizes → Option ℕ → ℕ
 most_of z selected = most_in z.rows (lines_at z.lines selected)
 
--- where a key moves the selection, and the line of a body that stays
+-- where a key moves the selection
 abbrev pub selected_by : ℕ → ℕ → Key → ℕ → ℕ
 selected_by rows count Up place = place - 1
 selected_by rows count Down place = min (place + 1) (count - 1)
@@ -63,7 +63,7 @@ settled heights rows s = record { selected = s.selected; offset = (window_of hei
 abbrev pub first_place : List ℕ → Option ℕ
 first_place heights = if length heights == 0 then None else Some 0
 
--- the start, a key, and another size, which cuts the line
+-- the start: the first entry is selected, and shown from its first line on
 abbrev pub started : Sizes → PagerState
 started z = settled z.heights z.rows (record { selected = first_place z.heights; offset = 0; line = 0 })
 

@@ -27,7 +27,7 @@ is_share f = nat_lt 0 f.den && nat_le f.num f.den
 abbrev pub if_holds : {A : Type 0} → Bool → Option ℕ → Field → A → Result A Refusal
 if_holds test i f x = if test then Ok x else Err (record { item = i; field = f })
 
--- a gauge with a share, and with a percentage
+-- a gauge with a share, if one is given
 abbrev pub gauge_with_ratio : Option ℕ → GaugeData → Option Fraction → Result GaugeData Refusal
 gauge_with_ratio i g None = Ok g
 gauge_with_ratio i g (Some f) = if_holds (is_share f) i fields.Ratio (record g { num = f.num; den = f.den })

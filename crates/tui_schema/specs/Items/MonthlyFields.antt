@@ -16,10 +16,11 @@ use Rattle.tui_schema.specs.Kinds.Style.{style_of}
 use Rattle.tui_json.specs.Refusals.{◌>>=◌}
 use Rattle.tui_schema.specs.Refusals.{Refusal, required, optional}
 
--- the dates that have a style of their own, and a month
+-- the dates that have a style of their own, and the month
 abbrev pub calendar_data : Monthly CalendarEventStore → DatedStyles × MonthlyData
 calendar_data m = (dated_styles m.events, monthly_data m)
 
+-- a month in weeks alone, with its block and the styles of its events
 unfoldable pub month_with_events : Option ℕ → Data → Result (DatedStyles × MonthlyData) Refusal
 month_with_events i d = do
   block ← optional block_of i fields.Block d

@@ -23,7 +23,7 @@ use Rattle.tui_text.specs.declared.alignment.Alignment.{Alignment}
 use Rattle.tui_text.specs.declared.alignment.Alignment.TheVariants.{Left, Center, Right}
 use Rattle.tui_json.specs.Named.{Names}
 
--- each table: the names, all values, and that none is left out
+-- the names of the alignments: all of them, and none is left out; so are those below
 abbrev pub alignments : Names Alignment
 alignments = record {
   name = alignment.name_of;
