@@ -11,7 +11,7 @@ use Rattle.tui_para.specs.Rule.{Rule as Way, ends_piece}
 use Rattle.tui_para.specs.declared.wrap.Wrap.{Wrap}
 use Rattle.tui_para.specs.Hyphens.{glyph_rule, with_cuts, wrap}
 use Rattle.tui_para.specs.Places.{line_len, lines_of, wrap_kept}
-use Rattle.tui_para.specs.Wrapped.{after_break, kept, line_start}
+use Rattle.tui_para.specs.Wrapped.{after_break, not_wider, line_start}
 use Rattle.tui_para.specs.WrappedText.{wrap_text}
 use Rattle.tui_cells.specs.Style.{no_style, patched}
 use Rattle.tui_para.specs.Lines.{glyph_line}
@@ -74,7 +74,7 @@ length-with_cuts hyphens before (g ∷ gs) = ap suc (length-with_cuts hyphens (g
 
 length-wrap : (w : ℕ) (way : Wrap) (xs : List Glyph) → length (wrap w way xs) ≤ 1 + length xs
 length-wrap w way xs =
-    let kept_xs = kept glyph_width w xs in
+    let kept_xs = not_wider glyph_width w xs in
     let marked = with_cuts way.hyphens [] kept_xs in
     omega (
       arith,

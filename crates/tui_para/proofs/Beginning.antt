@@ -13,7 +13,7 @@ use Rattle.tui_para.specs.Answers.{both}
 use Rattle.tui_para.specs.Given.{IsGlyph, MayBe, MayGive, WillBe, WillGive, SourceGives, SourceReads, line_answers, source_answers}
 use Rattle.tui_para.specs.Lines.{GlyphLine, glyph_line, CutAll, IsFirstOf, PartsThenLines, LinesFrom, LinesOf, GivenUnlessDone, WrapsLine}
 use Rattle.tui_para.specs.Marked.{cuts_of, glyphs_of, part_of}
-use Rattle.tui_para.specs.Wrapped.{WrapsKept, kept}
+use Rattle.tui_para.specs.Wrapped.{WrapsKept, not_wider}
 use Rattle.tui_para.specs.Wrapping.{FindsLine, FindsPart, PartsWith, WrapperCuts, glyphs_from, wrapper_answers}
 use Rattle.tui_para.specs.declared.wrapping.part.Part.{Part}
 use Rattle.tui_para.specs.declared.wrapping.text_line.TextLine.{TextLine}
@@ -34,14 +34,14 @@ at_size K v w s t e f k = subst (λ b. K v b) (sym f) (subst (λ n. K n t) (sym 
 -- the lines of a text line of which nothing was read
 module _ {I : Type 0} (s : TextLine I) (w : ℕ) (way : Wrap) (a : Alignment) (empty : cuts_of s.line ≡ []) (start : s.line.hyphenation ≡ at_start s.wrap.hyphens) (new : s.is_new ≡ true) (width : s.width ≡ w) (ways : s.wrap ≡ way)
     (glyphs : List Glyph) where
-  unread : glyphs_from s s.place glyphs ≡ with_cuts s.wrap.hyphens [] (kept glyph_width s.width glyphs)
+  unread : glyphs_from s s.place glyphs ≡ with_cuts s.wrap.hyphens [] (not_wider glyph_width s.width glyphs)
   unread =
-      let left = marked_from s.line.hyphenation (kept glyph_width s.width glyphs) in
+      let left = marked_from s.line.hyphenation (not_wider glyph_width s.width glyphs) in
       ap (λ k. drop s.place k ++ left) empty ∙ (ap (λ k. k ++ left) (drop_all s.place [] (omega arith))
-      ∙ (ap (λ b. marked_from b (kept glyph_width s.width glyphs)) start ∙ marked_is s.wrap.hyphens (kept glyph_width s.width glyphs)))
+      ∙ (ap (λ b. marked_from b (not_wider glyph_width s.width glyphs)) start ∙ marked_is s.wrap.hyphens (not_wider glyph_width s.width glyphs)))
 
   abbrev Wraps : List (List (Glyph × Bool)) → ℕ → Wrap → Type 0
-  Wraps parts n k = WrapsKept (glyph_rule n k) (with_cuts k.hyphens [] (kept glyph_width n glyphs)) parts
+  Wraps parts n k = WrapsKept (glyph_rule n k) (with_cuts k.hyphens [] (not_wider glyph_width n glyphs)) parts
 
   pub begun_wraps : (parts : List (List Glyph)) → PartsWith s glyphs parts ↔ WrapsLine w way (glyph_line a glyphs) parts
   begun_wraps parts = (

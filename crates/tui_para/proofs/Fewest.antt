@@ -7,7 +7,7 @@ use Rattle.std.proofs.lemmas.List.Sums.{sum_by-cons, sum_by-append}
 use Rattle.std.proofs.lemmas.List.Elements.{All-from_recursion, recursion_from_All}
 use Rattle.std.proofs.lemmas.Bool.{cases_lt, le-leb, cond-true}
 use Rattle.tui_para.specs.Rule.{Rule, ends_piece}
-use Rattle.tui_para.specs.Wrapped.{up_to, next_piece, after_break, ends_in, no_blank, begins, IsLine, IsNextLine, HasLines, WrapsKept, kept, line_start}
+use Rattle.tui_para.specs.Wrapped.{up_to, next_piece, after_break, ends_in, no_blank, begins, IsLine, IsNextLine, HasLines, WrapsKept, not_wider, line_start}
 use Rattle.tui_para.specs.Division.{group_width, IsFewest, Spaced, SpacedWithin}
 use Rattle.tui_para.proofs.Unique.{same_next, cuts, ends_in-append}
 use Rattle.tui_para.proofs.Parts.{lines_some}
@@ -264,14 +264,14 @@ divided rule never (v ∷ vs) xs (l ∷ ls) s k h =
     record { groups = i.group ∷ d.groups; in_order = ap (λ t. i.group ++ t) d.in_order ∙ sym i.cut; fit = (i.fits, d.fit); count = ap suc d.count }
 
 -- no grapheme of the text is wider than w
-word_kept : {A : Type 0} (size : A → ℕ) (w : ℕ) (v xs : List A) → sum_by size v ≤ w → kept size w xs ≡ xs → kept size w (v ++ xs) ≡ v ++ xs
+word_kept : {A : Type 0} (size : A → ℕ) (w : ℕ) (v xs : List A) → sum_by size v ≤ w → not_wider size w xs ≡ xs → not_wider size w (v ++ xs) ≡ v ++ xs
 word_kept size w [] xs h e = e
 word_kept size w (x ∷ v) xs h e =
     let c = sum_by-cons size x v in
     let t = le-leb (size x) w (omega arith) in
-    cond-true (nat_le (size x) w) (x ∷ kept size w (v ++ xs)) (kept size w (v ++ xs)) t ∙ ap (λ z. x ∷ z) (word_kept size w v xs (omega arith) e)
+    cond-true (nat_le (size x) w) (x ∷ not_wider size w (v ++ xs)) (not_wider size w (v ++ xs)) t ∙ ap (λ z. x ∷ z) (word_kept size w v xs (omega arith) e)
 
-all_are_kept : {A : Type 0} (rule : Rule A) (words : List (List A)) (xs : List A) → 0 < rule.width → Spaced rule.blank rule.size words xs → WordsFit rule.size rule.width words → kept rule.size rule.width xs ≡ xs
+all_are_kept : {A : Type 0} (rule : Rule A) (words : List (List A)) (xs : List A) → 0 < rule.width → Spaced rule.blank rule.size words xs → WordsFit rule.size rule.width words → not_wider rule.size rule.width xs ≡ xs
 all_are_kept rule [] xs p s k = rw s refl
 all_are_kept rule (v ∷ []) xs p s k =
     let e : xs ≡ v ++ [] = s.1 ∙ sym (append-nil v) in
@@ -279,14 +279,14 @@ all_are_kept rule (v ∷ []) xs p s k =
 all_are_kept rule (v ∷ u ∷ vs) xs p s k =
     let one = s.5 in
     let t = le-leb (rule.size s.1) rule.width (omega arith) in
-    let rest : kept rule.size rule.width (s.1 ∷ s.2) ≡ s.1 ∷ s.2 = cond-true (nat_le (rule.size s.1) rule.width) (s.1 ∷ kept rule.size rule.width s.2) (kept rule.size rule.width s.2) t ∙ ap (λ z. s.1 ∷ z) (all_are_kept rule (u ∷ vs) s.2 p s.6 k.1) in
+    let rest : not_wider rule.size rule.width (s.1 ∷ s.2) ≡ s.1 ∷ s.2 = cond-true (nat_le (rule.size s.1) rule.width) (s.1 ∷ not_wider rule.size rule.width s.2) (not_wider rule.size rule.width s.2) t ∙ ap (λ z. s.1 ∷ z) (all_are_kept rule (u ∷ vs) s.2 p s.6 k.1) in
     rw s.3 (word_kept rule.size rule.width v (s.1 ∷ s.2) k.0 rest)
 
 -- the lines are a division of the words, and none has fewer groups
 pub fewest : {A : Type 0} (rule : Rule A) → NoCuts rule → (words : List (List A)) (xs : List A) (lines : List (List A)) → 0 < rule.width → SpacedWithin rule.blank rule.size rule.width words xs →
-    WrapsKept rule (kept rule.size rule.width xs) lines → IsFewest rule.size words rule.width (length lines)
+    WrapsKept rule (not_wider rule.size rule.width xs) lines → IsFewest rule.size words rule.width (length lines)
 fewest rule never [] xs lines p s h =
-    let one : length lines ≡ 1 = ⊎_elim (λ n. ap length n.1) (λ n. absurd (n.0 (ap (kept rule.size rule.width) s.spaced))) h in
+    let one : length lines ≡ 1 = ⊎_elim (λ n. ap length n.1) (λ n. absurd (n.0 (ap (not_wider rule.size rule.width) s.spaced))) h in
     record {
       divided = record { groups = [] ∷ []; in_order = refl; fit = All-from_recursion (λ g. group_width rule.size g ≤ rule.width) ([] ∷ []) (omega arith, tt); count = sym one; some = omega arith };
       least = λ n d. (let some = d.some in omega arith);

@@ -9,7 +9,7 @@ use Rattle.tui_para.specs.Rule.{Rule}
 use Rattle.tui_para.specs.Hyphenation.{marked_from}
 use Rattle.tui_para.specs.Hyphens.{glyph_rule}
 use Rattle.tui_para.specs.Marked.{cuts_of, glyphs_of}
-use Rattle.tui_para.specs.Wrapped.{HasLines, IsNextLine, kept}
+use Rattle.tui_para.specs.Wrapped.{HasLines, IsNextLine, not_wider}
 use Rattle.tui_para.specs.Wrapping.{FirstLine, IsNextPlace, glyphs_from}
 use Rattle.tui_para.specs.declared.wrapping.breaking.Place.{Place}
 use Rattle.tui_para.specs.declared.wrapping.text_line.TextLine.{TextLine}
@@ -41,7 +41,7 @@ next_of_all rule xs line ys next known n = ⊎_elim
 module _ {I : Type 0} (s : TextLine I) (glyphs : List Glyph) where
   first_empty : (p : Place) → p ≡ record { start = s.place; end = s.place; next = s.place; width = 0 } → s.is_new ≡ true → glyphs ≡ [] → drop s.place (cuts_of s.line) ≡ [] → FirstLine s p glyphs
   first_empty p at new none gone =
-      let empty : glyphs_from s s.place glyphs ≡ [] = ap (λ k. k ++ marked_from s.line.hyphenation (kept glyph_width s.width glyphs)) gone ∙ ap (λ k. marked_from s.line.hyphenation (kept glyph_width s.width k)) none in
+      let empty : glyphs_from s s.place glyphs ≡ [] = ap (λ k. k ++ marked_from s.line.hyphenation (not_wider glyph_width s.width glyphs)) gone ∙ ap (λ k. marked_from s.line.hyphenation (not_wider glyph_width s.width k)) none in
       rw at (record {
         lends = λ rest h.
             let ends = no_lines (glyph_rule s.width s.wrap) _ rest empty h in
@@ -65,11 +65,11 @@ module _ {I : Type 0} (s : TextLine I) (glyphs : List Glyph) where
     first_known =
         let all = cuts_of s.line in
         let xs = drop s.place all in
-        let ys = marked_from s.line.hyphenation (kept glyph_width s.width glyphs) in
+        let ys = marked_from s.line.hyphenation (not_wider glyph_width s.width glyphs) in
         let line = between start end xs in
         let has = HasLines (glyph_rule s.width s.wrap) in
         let first : IsNextLine (glyph_rule s.width s.wrap) (xs ++ ys) line (drop next xs ++ ys) =
-        next_of_all (glyph_rule s.width s.wrap) xs line ys next (⊎_elim (λ k. inl k) (λ e. inr (ap (λ k. marked_from s.line.hyphenation (kept glyph_width s.width k)) e)) known) n in
+        next_of_all (glyph_rule s.width s.wrap) xs line ys next (⊎_elim (λ k. inl k) (λ e. inr (ap (λ k. marked_from s.line.hyphenation (not_wider glyph_width s.width k)) e)) known) n in
         let some : xs ≢ [] = λ e. (let z = ap length e in let t = length-drop s.place all in absurd (omega arith)) in
         let more : xs ++ ys ≢ [] = some_append xs ys some in
         let at : between (s.place + start) (s.place + end) all ≡ line = sym (between-drop s.place start end all) in

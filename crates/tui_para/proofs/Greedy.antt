@@ -8,7 +8,7 @@ use Rattle.std.proofs.lemmas.Bool.{cases_Bool, false≢true, leb-true, leb-false
 use Rattle.std.proofs.lemmas.Bool.Decides.{nat_tests}
 use Rattle.std.proofs.Math.Seq.{drop-append_seam, take-append_seam, take-length, drop-length}
 use Rattle.tui_para.specs.Rule.{Rule, ends_piece}
-use Rattle.tui_para.specs.Wrapped.{up_to, next_piece, without_blanks, after_break, no_blank, ends_in, begins, IsLine, HasLines, WrapsKept, kept, line_start}
+use Rattle.tui_para.specs.Wrapped.{up_to, next_piece, without_blanks, after_break, no_blank, ends_in, begins, IsLine, HasLines, WrapsKept, not_wider, line_start}
 use Rattle.tui_para.specs.Places.{goes_on_for, line_len, lines_of, wrap_kept}
 use Rattle.tui_para.proofs.Unique.{breaks_there, ends_in-append, piece_ends}
 
@@ -181,7 +181,7 @@ line_is rule xs m e = line_is_read rule false 0 0 rule.width [] [] xs m e
 abbrev pub AllFit : {A : Type 0} → (A → ℕ) → ℕ → List A → Type 0
 AllFit size w xs = AllByRecursion (λ x. size x ≤ w) xs
 
-pub all_fit-kept : {A : Type 0} (size : A → ℕ) (w : ℕ) (xs : List A) → AllFit size w (kept size w xs)
+pub all_fit-kept : {A : Type 0} (size : A → ℕ) (w : ℕ) (xs : List A) → AllFit size w (not_wider size w xs)
 all_fit-kept size w [] = tt
 all_fit-kept size w (x ∷ xs) =
     ⊎_elim (λ b. rw b (leb-true (size x) w b, all_fit-kept size w xs)) (λ b. rw b (all_fit-kept size w xs)) (cases_Bool (nat_le (size x) w))

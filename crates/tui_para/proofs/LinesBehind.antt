@@ -7,7 +7,7 @@ use Rattle.tui_text.specs.Grapheme.{Glyph, glyph_blank, glyph_width}
 use Rattle.tui_para.specs.Hyphens.{Wrapped, glyph_rule, is_cut, uncut, with_cuts}
 use Rattle.tui_para.specs.LinesLeft.{GoesOnAfter, turned}
 use Rattle.tui_para.specs.Rule.{Rule}
-use Rattle.tui_para.specs.Wrapped.{HasLines, LeavesOutBlanks, WrapsKept, kept}
+use Rattle.tui_para.specs.Wrapped.{HasLines, LeavesOutBlanks, WrapsKept, not_wider}
 use Rattle.tui_para.specs.declared.wrap.Wrap.{Wrap}
 use Rattle.tui_para.proofs.Filled.{no_cons}
 use Rattle.tui_para.proofs.Greedy.{AllFit, all_fit-kept}
@@ -78,9 +78,9 @@ cut_split hyphens before (g ∷ gs) (x ∷ xs) ys e =
     }
 
 -- graphemes that fit stay
-fit_kept : (w : ℕ) (gs : List Glyph) → AllFit glyph_width w gs → kept glyph_width w gs ≡ gs
+fit_kept : (w : ℕ) (gs : List Glyph) → AllFit glyph_width w gs → not_wider glyph_width w gs ≡ gs
 fit_kept w [] h = refl
-fit_kept w (g ∷ gs) h = cond-true (nat_le (glyph_width g) w) (g ∷ kept glyph_width w gs) (kept glyph_width w gs) (le-leb (glyph_width g) w h.0) ∙ ap (λ t. g ∷ t) (fit_kept w gs h.1)
+fit_kept w (g ∷ gs) h = cond-true (nat_le (glyph_width g) w) (g ∷ not_wider glyph_width w gs) (not_wider glyph_width w gs) (le-leb (glyph_width g) w h.0) ∙ ap (λ t. g ∷ t) (fit_kept w gs h.1)
 
 fit_rest : (w : ℕ) (front rest : List Glyph) → AllFit glyph_width w (front ++ rest) → AllFit glyph_width w rest
 fit_rest w [] rest h = h
@@ -88,7 +88,7 @@ fit_rest w (g ∷ front) rest h = fit_rest w front rest h.1
 
 pub goes_on_after : (w : ℕ) (way : Wrap) (glyphs : List Glyph) (lines : List (List Glyph)) (k : ℕ) → Wrapped w way glyphs lines → k < length lines → GoesOnAfter w way glyphs lines k
 goes_on_after w way glyphs lines k (parts, h, e) near =
-    let xs = kept glyph_width w glyphs in
+    let xs = not_wider glyph_width w glyphs in
     let rule = glyph_rule w way in
     let many = ap length e ∙ length-map parts (map glyph_part) in
     let s = kept_split rule k (with_cuts way.hyphens [] xs) parts (omega arith) h in
@@ -97,7 +97,7 @@ goes_on_after w way glyphs lines k (parts, h, e) near =
     let later : drop k lines ≡ uncut (drop k parts) = ap (drop k) e ∙ drop-map (map glyph_part) k parts in
     let glyphs_are : map glyph_part s.front ≡ c.front = ap (map glyph_part) c.front_is ∙ glyphs-with_cuts way.hyphens [] c.front in
     let wraps = subst (λ ys. WrapsKept rule ys (drop k parts)) c.rest_is s.after in
-    let fits : kept glyph_width w c.rest ≡ c.rest = fit_kept w c.rest (fit_rest w c.front c.rest (subst (AllFit glyph_width w) c.whole (all_fit-kept glyph_width w glyphs))) in
+    let fits : not_wider glyph_width w c.rest ≡ c.rest = fit_kept w c.rest (fit_rest w c.front c.rest (subst (AllFit glyph_width w) c.whole (all_fit-kept glyph_width w glyphs))) in
     record {
       front = c.front;
       rest = c.rest;
@@ -105,7 +105,7 @@ goes_on_after w way glyphs lines k (parts, h, e) near =
       before = subst (λ gs. LeavesOutBlanks glyph_blank gs (take k lines)) glyphs_are (subst (LeavesOutBlanks glyph_blank (map glyph_part s.front)) first (left_out s.front (take k parts) s.before));
       after = (drop k parts, wraps, later);
       alone = λ off.
-          let here : with_cuts way.hyphens (turned c.front []) c.rest ≡ with_cuts way.hyphens [] (kept glyph_width w c.rest) =
+          let here : with_cuts way.hyphens (turned c.front []) c.rest ≡ with_cuts way.hyphens [] (not_wider glyph_width w c.rest) =
           ap (λ b. with_cuts b (turned c.front []) c.rest) off ∙ (no_cuts (turned c.front []) c.rest
           ∙ (sym (no_cuts [] c.rest) ∙ (ap (λ b. with_cuts b [] c.rest) (sym off) ∙ ap (with_cuts way.hyphens []) (sym fits)))) in
           (drop k parts, subst (λ ys. WrapsKept rule ys (drop k parts)) here wraps, later);

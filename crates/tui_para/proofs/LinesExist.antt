@@ -10,7 +10,7 @@ use Rattle.tui_para.specs.Hyphenation.{marked_from}
 use Rattle.tui_para.specs.Hyphens.{glyph_rule, uncut, wrap}
 use Rattle.tui_para.specs.Places.{lines_of, wrap_kept}
 use Rattle.tui_para.specs.Truncated.{truncate}
-use Rattle.tui_para.specs.Wrapped.{kept}
+use Rattle.tui_para.specs.Wrapped.{not_wider}
 use Rattle.tui_para.specs.Wrapping.{LinesOfRest, PartsWith, TruncatorCuts, WrapperCuts, glyphs_from}
 use Rattle.tui_para.specs.declared.wrapping.text_line.TextLine.{TextLine}
 use Rattle.tui_para.specs.declared.truncator.LineTruncator.{LineTruncator}
@@ -32,9 +32,9 @@ rest_exists false w way xs fit = (lines_of (glyph_rule w way) (length xs) xs, in
 parts_exist : {I : Type 0} (s : TextLine I) (glyphs : List Glyph) → (parts : List (List Glyph)) × PartsWith s glyphs parts
 parts_exist s glyphs =
     let fits = λ (x : Glyph × Bool). glyph_width x.0 ≤ s.width in
-    let left = marked_from s.line.hyphenation (kept glyph_width s.width glyphs) in
+    let left = marked_from s.line.hyphenation (not_wider glyph_width s.width glyphs) in
     let fit = All-append fits (drop s.place (cuts_of s.line)) left (All-drop fits s.place (cuts_of s.line) s.fit)
-    (All-from_recursion fits left (fit-marked s.width s.line.hyphenation (kept glyph_width s.width glyphs) (all_fit-kept glyph_width s.width glyphs))) in
+    (All-from_recursion fits left (fit-marked s.width s.line.hyphenation (not_wider glyph_width s.width glyphs) (all_fit-kept glyph_width s.width glyphs))) in
     let (cut, has) = rest_exists s.is_new s.width s.wrap (glyphs_from s s.place glyphs) (recursion_from_All fits (glyphs_from s s.place glyphs) fit) in
     (uncut cut, (cut, has, refl))
 

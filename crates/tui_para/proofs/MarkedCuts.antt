@@ -9,7 +9,7 @@ use Rattle.tui_para.specs.Hyphenation.{after_hyphen, after_letter, behind, behin
 use Rattle.tui_para.specs.Hyphens.{is_hyphen, is_letter}
 use Rattle.tui_para.specs.Mark.{AreMarks, mark_of}
 use Rattle.tui_para.specs.Marked.{HasPut, cuts_of}
-use Rattle.tui_para.specs.Wrapped.{kept}
+use Rattle.tui_para.specs.Wrapped.{not_wider}
 use Rattle.tui_para.specs.declared.wrapping.hyphenation.Hyphenation.{Hyphenation}
 use Rattle.tui_para.specs.declared.wrapping.hyphenation.Hyphenation.TheVariants.{Off, Apart, Letter, Hyphen}
 use Rattle.tui_para.specs.declared.wrapping.mark.Mark.{Mark}
@@ -41,9 +41,9 @@ cut_told Hyphen g = letter_is Hyphen g
 pub HasPut-then : (w : ℕ) (xs ys : List StyledGrapheme) (old middle new : Marked) → HasPut w xs old middle → HasPut w ys middle new → HasPut w (xs ++ ys) old new
 HasPut-then w xs ys old middle new a b =
     let both = sym (map-append glyph_of xs ys) in
-    let off = sym (behind_off (kept glyph_width w (map glyph_of xs))) in
+    let off = sym (behind_off (not_wider glyph_width w (map glyph_of xs))) in
     record {
-      behind = subst (λ k. cuts_of new ≡ cuts_of old ++ marked_from Off (kept glyph_width w k)) both
+      behind = subst (λ k. cuts_of new ≡ cuts_of old ++ marked_from Off (not_wider glyph_width w k)) both
           (marked_then w w Off Off (map glyph_of xs) (map glyph_of ys) refl off (cuts_of old) (cuts_of middle) (cuts_of new) a.behind b.behind);
       same = b.same ∙ a.same;
     }

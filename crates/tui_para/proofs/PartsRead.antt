@@ -11,7 +11,7 @@ use Rattle.tui_para.specs.Hyphenation.{behind_all, marked_from}
 use Rattle.tui_para.specs.Hyphens.{Uncut, glyph_rule, uncut}
 use Rattle.tui_para.specs.Lines.{IsFirstOf}
 use Rattle.tui_para.specs.Marked.{IsPart, cuts_of, glyphs_of, part_of}
-use Rattle.tui_para.specs.Wrapped.{HasLines, kept}
+use Rattle.tui_para.specs.Wrapped.{HasLines, not_wider}
 use Rattle.tui_para.specs.Wrapping.{CutPartsWith, FindsPart, HasRead, IsNextPlace, LinesOfRest, PartsWith, glyphs_from}
 use Rattle.tui_para.specs.declared.wrap.Wrap.{Wrap}
 use Rattle.tui_para.specs.declared.wrapping.breaking.Place.{Place}
@@ -21,7 +21,7 @@ use Rattle.tui_para.specs.declared.wrapping.part.Part.{Part}
 use Rattle.tui_para.specs.declared.wrapping.text_line.TextLine.{TextLine}
 use Rattle.tui_para.proofs.Lending.{first_along, same_lists}
 use Rattle.tui_para.proofs.Parts.{between-map, no_lines}
-use Rattle.tui_para.proofs.Sources.{kept-append, reads_none, reads_then}
+use Rattle.tui_para.proofs.Sources.{not_wider-append, reads_none, reads_then}
 use Rattle.tui_para.proofs.WithCuts.{behind-append, first_uncut, glyph_part, marked-append}
 
 -- what holds of equal values
@@ -38,7 +38,7 @@ same_has parts w v way other xs ys width ways whole h =
 -- the parts where no grapheme is left
 module _ {I : Type 0} (s : TextLine I) (old : s.is_new ≡ false) (gone : drop s.place (cuts_of s.line) ≡ []) (glyphs : List Glyph) (none : glyphs ≡ []) where
   empty : glyphs_from s s.place glyphs ≡ []
-  empty = ap (λ k. k ++ marked_from s.line.hyphenation (kept glyph_width s.width glyphs)) gone ∙ ap (λ k. marked_from s.line.hyphenation (kept glyph_width s.width k)) none
+  empty = ap (λ k. k ++ marked_from s.line.hyphenation (not_wider glyph_width s.width glyphs)) gone ∙ ap (λ k. marked_from s.line.hyphenation (not_wider glyph_width s.width k)) none
 
   cut_none : (parts : List (List (Glyph × Bool))) → CutPartsWith s glyphs parts → parts ≡ []
   cut_none parts h = ⊎_elim (λ e. absurd (false≢true (sym old ∙ e.0))) (λ e. no_lines (glyph_rule s.width s.wrap) _ parts empty e.1) h
@@ -54,22 +54,22 @@ pub no_parts : {I : Type 0} (s : TextLine I) → s.is_new ≡ false → cuts_of 
 no_parts s old none = only_none s old (ap (drop s.place) none ∙ drop_all s.place [] (omega arith))
 
 -- graphemes that are read behind others, and then more
-module _ (w v : ℕ) (b c : Hyphenation) (xs ys : List Glyph) (width : v ≡ w) (goes : c ≡ behind_all b (kept glyph_width w xs)) where
-  more_marked : marked_from b (kept glyph_width w xs) ++ marked_from c (kept glyph_width v ys) ≡ marked_from b (kept glyph_width w (xs ++ ys))
+module _ (w v : ℕ) (b c : Hyphenation) (xs ys : List Glyph) (width : v ≡ w) (goes : c ≡ behind_all b (not_wider glyph_width w xs)) where
+  more_marked : marked_from b (not_wider glyph_width w xs) ++ marked_from c (not_wider glyph_width v ys) ≡ marked_from b (not_wider glyph_width w (xs ++ ys))
   more_marked =
-      let first = kept glyph_width w xs in
-      ap (λ k. marked_from b first ++ k) (ap (λ n. marked_from c (kept glyph_width n ys)) width ∙ ap (λ d. marked_from d (kept glyph_width w ys)) goes)
-      ∙ (sym (marked-append b first (kept glyph_width w ys)) ∙ sym (ap (marked_from b) (kept-append glyph_width w xs ys)))
+      let first = not_wider glyph_width w xs in
+      ap (λ k. marked_from b first ++ k) (ap (λ n. marked_from c (not_wider glyph_width n ys)) width ∙ ap (λ d. marked_from d (not_wider glyph_width w ys)) goes)
+      ∙ (sym (marked-append b first (not_wider glyph_width w ys)) ∙ sym (ap (marked_from b) (not_wider-append glyph_width w xs ys)))
 
-  pub marked_then : (front before after : List (Glyph × Bool)) → before ≡ front ++ marked_from b (kept glyph_width w xs) → after ≡ before ++ marked_from c (kept glyph_width v ys) →
-      after ≡ front ++ marked_from b (kept glyph_width w (xs ++ ys))
+  pub marked_then : (front before after : List (Glyph × Bool)) → before ≡ front ++ marked_from b (not_wider glyph_width w xs) → after ≡ before ++ marked_from c (not_wider glyph_width v ys) →
+      after ≡ front ++ marked_from b (not_wider glyph_width w (xs ++ ys))
   marked_then front before after e h =
-      h ∙ (ap (λ k. k ++ marked_from c (kept glyph_width v ys)) e ∙ (append_assoc front (marked_from b (kept glyph_width w xs)) (marked_from c (kept glyph_width v ys)) ∙ ap (λ k. front ++ k) more_marked))
+      h ∙ (ap (λ k. k ++ marked_from c (not_wider glyph_width v ys)) e ∙ (append_assoc front (marked_from b (not_wider glyph_width w xs)) (marked_from c (not_wider glyph_width v ys)) ∙ ap (λ k. front ++ k) more_marked))
 
-  pub behind_then : (d : Hyphenation) → d ≡ behind_all c (kept glyph_width v ys) → d ≡ behind_all b (kept glyph_width w (xs ++ ys))
+  pub behind_then : (d : Hyphenation) → d ≡ behind_all c (not_wider glyph_width v ys) → d ≡ behind_all b (not_wider glyph_width w (xs ++ ys))
   behind_then d h =
-      h ∙ (ap (λ n. behind_all c (kept glyph_width n ys)) width ∙ (ap (λ k. behind_all k (kept glyph_width w ys)) goes
-      ∙ (sym (behind-append b (kept glyph_width w xs) (kept glyph_width w ys)) ∙ sym (ap (behind_all b) (kept-append glyph_width w xs ys)))))
+      h ∙ (ap (λ n. behind_all c (not_wider glyph_width n ys)) width ∙ (ap (λ k. behind_all k (not_wider glyph_width w ys)) goes
+      ∙ (sym (behind-append b (not_wider glyph_width w xs) (not_wider glyph_width w ys)) ∙ sym (ap (behind_all b) (not_wider-append glyph_width w xs ys)))))
 
 module _ {I : Type 0} (gives : I → Option StyledGrapheme → I → Type 0) where
   -- nothing is read yet
@@ -87,9 +87,9 @@ module _ {I : Type 0} (gives : I → Option StyledGrapheme → I → Type 0) whe
       record {
         taken = a.taken ++ b.taken;
         reads = reads_then gives s.source t.source u.source a.taken b.taken a.reads b.reads;
-        behind = subst (λ k. after ≡ front ++ marked_from h (kept glyph_width s.width k)) both
+        behind = subst (λ k. after ≡ front ++ marked_from h (not_wider glyph_width s.width k)) both
             (marked_then s.width t.width h t.line.hyphenation (map glyph_of a.taken) (map glyph_of b.taken) a.width a.goes_on front before after a.behind b.behind);
-        goes_on = subst (λ k. u.line.hyphenation ≡ behind_all h (kept glyph_width s.width k)) both
+        goes_on = subst (λ k. u.line.hyphenation ≡ behind_all h (not_wider glyph_width s.width k)) both
             (behind_then s.width t.width h t.line.hyphenation (map glyph_of a.taken) (map glyph_of b.taken) a.width a.goes_on u.line.hyphenation b.goes_on);
         is_new = b.is_new ∙ a.is_new;
         width = b.width ∙ a.width;
@@ -126,9 +126,9 @@ module _ {I : Type 0} (gives : I → Option StyledGrapheme → I → Type 0) whe
       (at : part ≡ record { start = p.start; end = p.end; width = p.width }) where
     from : (glyphs : List Glyph) → glyphs_from u u.place glyphs ≡ glyphs_from t p.next glyphs
     from glyphs =
-        ap (λ k. drop k (cuts_of u.line) ++ marked_from u.line.hyphenation (kept glyph_width u.width glyphs)) place
-        ∙ (ap (λ (m : Marked). drop p.next (cuts_of m) ++ marked_from m.hyphenation (kept glyph_width u.width glyphs)) line
-        ∙ ap (λ w. drop p.next (cuts_of t.line) ++ marked_from t.line.hyphenation (kept glyph_width w glyphs)) width)
+        ap (λ k. drop k (cuts_of u.line) ++ marked_from u.line.hyphenation (not_wider glyph_width u.width glyphs)) place
+        ∙ (ap (λ (m : Marked). drop p.next (cuts_of m) ++ marked_from m.hyphenation (not_wider glyph_width u.width glyphs)) line
+        ∙ ap (λ w. drop p.next (cuts_of t.line) ++ marked_from t.line.hyphenation (not_wider glyph_width w glyphs)) width)
 
     left : (glyphs : List Glyph) (parts : List (List Glyph)) → Uncut (HasLines (glyph_rule t.width t.wrap) (glyphs_from t p.next glyphs)) parts ↔ PartsWith u glyphs parts
     left glyphs parts = (

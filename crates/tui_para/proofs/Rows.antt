@@ -2,7 +2,7 @@
 use Rattle.std.proofs.Common.{ℕ, zero, suc, List, [], ◌∷◌, Bool, true, false, replicate}
 use Rattle.tui_para.specs.Rule.{Rule}
 use Rattle.tui_para.specs.Places.{wrap_kept}
-use Rattle.tui_para.specs.Wrapped.{WrapsKept, kept}
+use Rattle.tui_para.specs.Wrapped.{WrapsKept, not_wider}
 use Rattle.tui_para.proofs.Greedy.{all_fit-kept, wrap_kept_is}
 
 abbrev is_blank : ℕ → Bool
@@ -21,10 +21,10 @@ abbrev rule_of : ℕ → Bool → Rule ℕ
 rule_of w trim = record { blank = is_blank; cut = λ n. false; size = width; width = w; trim = trim }
 
 abbrev Rows : ℕ → Bool → List ℕ → List (List ℕ) → Type 0
-Rows w trim xs lines = WrapsKept (rule_of w trim) (kept width w xs) lines
+Rows w trim xs lines = WrapsKept (rule_of w trim) (not_wider width w xs) lines
 
-row_is : (w : ℕ) (trim : Bool) (xs : List ℕ) → Rows w trim xs (wrap_kept (rule_of w trim) (kept width w xs))
-row_is w trim xs = wrap_kept_is (rule_of w trim) (kept width w xs) (all_fit-kept width w xs)
+row_is : (w : ℕ) (trim : Bool) (xs : List ℕ) → Rows w trim xs (wrap_kept (rule_of w trim) (not_wider width w xs))
+row_is w trim xs = wrap_kept_is (rule_of w trim) (not_wider width w xs) (all_fit-kept width w xs)
 
 two : Rows 5 true (1 ∷ 1 ∷ 1 ∷ 0 ∷ 1 ∷ 1 ∷ 1 ∷ 1 ∷ 1 ∷ 1 ∷ []) ((1 ∷ 1 ∷ 1 ∷ []) ∷ (1 ∷ 1 ∷ 1 ∷ 1 ∷ 1 ∷ []) ∷ (1 ∷ []) ∷ [])
 two = row_is 5 true (1 ∷ 1 ∷ 1 ∷ 0 ∷ 1 ∷ 1 ∷ 1 ∷ 1 ∷ 1 ∷ 1 ∷ [])

@@ -6,14 +6,14 @@ use Rattle.std.specs.Iterator.{Drains, Yields}
 use Rattle.std.specs.Prelude.{nat_le}
 use Rattle.tui_text.specs.declared.grapheme.StyledGrapheme.{StyledGrapheme}
 use Rattle.tui_para.specs.Given.{SourceReads}
-use Rattle.tui_para.specs.Wrapped.{kept}
+use Rattle.tui_para.specs.Wrapped.{not_wider}
 
 pub Yields-append : {S A : Type 0} (gives : S → Option A → S → Type 0) (s t u : S) (xs ys : List A) → Yields gives s xs t → Yields gives t ys u → Yields gives s (xs ++ ys) u
 Yields-append gives s t u [] ys e h = subst (λ v. Yields gives v ys u) (sym e) h
 Yields-append gives s t u (x ∷ xs) ys (j, step, g) h = (j, step, Yields-append gives j t u xs ys g h)
 
-pub kept-append : {A : Type 0} (size : A → ℕ) (w : ℕ) (xs ys : List A) → kept size w (xs ++ ys) ≡ kept size w xs ++ kept size w ys
-kept-append size w xs ys = filter-append (λ x. nat_le (size x) w) xs ys
+pub not_wider-append : {A : Type 0} (size : A → ℕ) (w : ℕ) (xs ys : List A) → not_wider size w (xs ++ ys) ≡ not_wider size w xs ++ not_wider size w ys
+not_wider-append size w xs ys = filter-append (λ x. nat_le (size x) w) xs ys
 
 -- an iterator over graphemes that gave some, and then more
 pub reads_none : {I : Type 0} (gives : I → Option StyledGrapheme → I → Type 0) (source : Option I) → SourceReads gives source [] source

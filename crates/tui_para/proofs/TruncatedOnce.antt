@@ -9,7 +9,7 @@ use Rattle.std.proofs.lemmas.Bool.Decides.{nat_tests}
 use Rattle.tui_text.specs.Grapheme.{Glyph, glyph_width}
 use Rattle.tui_para.specs.Lines.{GlyphLine, is_left, IsFirstOf, TruncatesLine}
 use Rattle.tui_para.specs.Truncated.{IsLongestPrefix, FitsIn, IsPassedBy, Truncated, fitting_prefix, left_by, truncate}
-use Rattle.tui_para.specs.Wrapped.{kept, IsTheOne}
+use Rattle.tui_para.specs.Wrapped.{not_wider, IsTheOne}
 use Rattle.tui_para.proofs.Filled.{no_cons}
 use Rattle.tui_para.proofs.Unique.{cuts}
 
@@ -148,16 +148,16 @@ module _ {A : Type 0} (size : A → ℕ) where
   -- exactly one line
   pub truncate_is : (w : ℕ) (left : Bool) (offset : ℕ) (xs : List A) → Truncated size w left offset xs (truncate size w left offset xs)
   truncate_is w true offset xs =
-      let p = passed_is offset (kept size w xs) in
-      let f = fitting_is w (left_by size offset (kept size w xs)) in
-      record { shown = left_by size offset (kept size w xs); rest = f.0; passed = p.0; passes = λ e. p.1; stays = λ e. cc; fits = f.1 }
+      let p = passed_is offset (not_wider size w xs) in
+      let f = fitting_is w (left_by size offset (not_wider size w xs)) in
+      record { shown = left_by size offset (not_wider size w xs); rest = f.0; passed = p.0; passes = λ e. p.1; stays = λ e. cc; fits = f.1 }
   truncate_is w false offset xs =
-      let f = fitting_is w (kept size w xs) in
-      record { shown = kept size w xs; rest = f.0; passed = []; passes = λ e. cc; stays = λ e. refl; fits = f.1 }
+      let f = fitting_is w (not_wider size w xs) in
+      record { shown = not_wider size w xs; rest = f.0; passed = []; passes = λ e. cc; stays = λ e. refl; fits = f.1 }
 
   truncated_once : (w : ℕ) (left : Bool) (offset : ℕ) (xs line other : List A) → Truncated size w left offset xs line → Truncated size w left offset xs other → line ≡ other
   truncated_once w true offset xs line other t u =
-      let shown = (same_prefix (IsPassedBy size offset) (kept size w xs) t.passed t.shown u.passed u.shown (t.passes refl) (u.passes refl)).1 in
+      let shown = (same_prefix (IsPassedBy size offset) (not_wider size w xs) t.passed t.shown u.passed u.shown (t.passes refl) (u.passes refl)).1 in
       (same_prefix (FitsIn size w) u.shown line t.rest other u.rest (subst (λ s. IsLongestPrefix (FitsIn size w) s line t.rest) shown t.fits) u.fits).0
   truncated_once w false offset xs line other t u =
       let shown : t.shown ≡ u.shown = t.stays refl ∙ sym (u.stays refl) in

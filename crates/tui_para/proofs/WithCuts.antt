@@ -10,7 +10,7 @@ use Rattle.tui_para.specs.Hyphenation.{after_hyphen, after_letter, at_start, beh
 use Rattle.tui_para.specs.Hyphens.{Uncut, Wrapped, glyph_rule, is_cut, is_hyphen, is_letter, uncut, with_cuts, wrap}
 use Rattle.tui_para.specs.Lines.{IsFirstOf}
 use Rattle.tui_para.specs.Places.{wrap_kept}
-use Rattle.tui_para.specs.Wrapped.{IsTheOne, LeavesOutBlanks, WrapsKept, kept}
+use Rattle.tui_para.specs.Wrapped.{IsTheOne, LeavesOutBlanks, WrapsKept, not_wider}
 use Rattle.tui_para.specs.declared.wrap.Wrap.{Wrap}
 use Rattle.tui_para.specs.declared.wrapping.hyphenation.Hyphenation.{Hyphenation}
 use Rattle.tui_para.specs.declared.wrapping.hyphenation.Hyphenation.TheVariants.{Off, Apart, Letter, Hyphen}
@@ -153,10 +153,10 @@ marked_is hyphens gs = marked_behind hyphens [] gs
 -- exactly one list of lines
 module _ (w : ℕ) (way : Wrap) (glyphs : List Glyph) where
   abbrev marked : List (Glyph × Bool)
-  marked = with_cuts way.hyphens [] (kept glyph_width w glyphs)
+  marked = with_cuts way.hyphens [] (not_wider glyph_width w glyphs)
 
   pub fit_marked : AllFit (λ (p : Glyph × Bool). glyph_width p.0) w marked
-  fit_marked = fit-with_cuts w way.hyphens [] (kept glyph_width w glyphs) (all_fit-kept glyph_width w glyphs)
+  fit_marked = fit-with_cuts w way.hyphens [] (not_wider glyph_width w glyphs) (all_fit-kept glyph_width w glyphs)
 
   pub wrap_is : Wrapped w way glyphs (wrap w way glyphs)
   wrap_is = (wrap_kept (glyph_rule w way) marked, wrap_kept_is (glyph_rule w way) marked fit_marked, refl)
@@ -174,7 +174,7 @@ no_lines_uncut (p ∷ ps) e = absurd (cc)
 -- a text line has a line
 pub wraps_some : (w : ℕ) (way : Wrap) (glyphs : List Glyph) → Wrapped w way glyphs [] → ⊥
 wraps_some w way glyphs (parts, h, e) =
-    some_lines (glyph_rule w way) (with_cuts way.hyphens [] (kept glyph_width w glyphs)) (subst (WrapsKept (glyph_rule w way) (with_cuts way.hyphens [] (kept glyph_width w glyphs))) (no_lines_uncut parts e) h)
+    some_lines (glyph_rule w way) (with_cuts way.hyphens [] (not_wider glyph_width w glyphs)) (subst (WrapsKept (glyph_rule w way) (with_cuts way.hyphens [] (not_wider glyph_width w glyphs))) (no_lines_uncut parts e) h)
 
 -- what is left out is left out of the graphemes alone
 all_glyphs : (xs : List (Glyph × Bool)) → All (λ p. glyph_blank p.0 ≡ true) xs → All (λ g. glyph_blank g ≡ true) (map glyph_part xs)
@@ -187,9 +187,9 @@ left_out xs (line ∷ lines) (before, behind, rest, all_before, all_behind, whol
     ∙ ap (λ k. map glyph_part line ++ k) (map-append glyph_part behind rest)) in
     (map glyph_part before, map glyph_part behind, map glyph_part rest, all_glyphs before all_before, all_glyphs behind all_behind, ap (map glyph_part) whole ∙ cut, left_out rest lines more)
 
-pub wrapping_leaves : (w : ℕ) (way : Wrap) (glyphs : List Glyph) (lines : List (List Glyph)) → Wrapped w way glyphs lines → LeavesOutBlanks glyph_blank (kept glyph_width w glyphs) lines
+pub wrapping_leaves : (w : ℕ) (way : Wrap) (glyphs : List Glyph) (lines : List (List Glyph)) → Wrapped w way glyphs lines → LeavesOutBlanks glyph_blank (not_wider glyph_width w glyphs) lines
 wrapping_leaves w way glyphs lines (parts, h, e) =
-    let xs = kept glyph_width w glyphs in
+    let xs = not_wider glyph_width w glyphs in
     let out = left_out (with_cuts way.hyphens [] xs) parts (leaves_out_blanks (glyph_rule w way) (with_cuts way.hyphens [] xs) parts h) in
     subst (LeavesOutBlanks glyph_blank xs) (sym e) (subst (λ ys. LeavesOutBlanks glyph_blank ys (uncut parts)) (glyphs-with_cuts way.hyphens [] xs) out)
 
@@ -211,15 +211,15 @@ seen_columns xs start end n e =
 
 -- graphemes that are read behind some of those that fit
 pub fit_behind : (w n : ℕ) (b : Hyphenation) (xs front after : List (Glyph × Bool)) (ys : List Glyph) → All (λ (p : Glyph × Bool). glyph_width p.0 ≤ w) xs → front ≡ drop n xs →
-    after ≡ front ++ marked_from b (kept glyph_width w ys) → All (λ (p : Glyph × Bool). glyph_width p.0 ≤ w) after
+    after ≡ front ++ marked_from b (not_wider glyph_width w ys) → All (λ (p : Glyph × Bool). glyph_width p.0 ≤ w) after
 fit_behind w n b xs front after ys fit cut e =
     let fits = λ (p : Glyph × Bool). glyph_width p.0 ≤ w in
-    let left = marked_from b (kept glyph_width w ys) in
-    subst (All fits) (sym e) (All-append fits front left (subst (All fits) (sym cut) (All-drop fits n xs fit)) (All-from_recursion fits left (fit-marked w b (kept glyph_width w ys) (all_fit-kept glyph_width w ys))))
+    let left = marked_from b (not_wider glyph_width w ys) in
+    subst (All fits) (sym e) (All-append fits front left (subst (All fits) (sym cut) (All-drop fits n xs fit)) (All-from_recursion fits left (fit-marked w b (not_wider glyph_width w ys) (all_fit-kept glyph_width w ys))))
 
 -- the numbers count the lines
-pub counted_lines : (w : ℕ) (way : Wrap) (glyphs : List Glyph) → length (wrap w way glyphs) ≡ max (counted (steps (glyph_rule w way) no_lines (with_cuts way.hyphens [] (kept glyph_width w glyphs)))) 1
+pub counted_lines : (w : ℕ) (way : Wrap) (glyphs : List Glyph) → length (wrap w way glyphs) ≡ max (counted (steps (glyph_rule w way) no_lines (with_cuts way.hyphens [] (not_wider glyph_width w glyphs)))) 1
 counted_lines w way glyphs =
     let rule = glyph_rule w way in
-    let xs = with_cuts way.hyphens [] (kept glyph_width w glyphs) in
+    let xs = with_cuts way.hyphens [] (not_wider glyph_width w glyphs) in
     length-map (wrap_kept rule xs) (map glyph_part) ∙ wrap_count rule xs (wrap_kept rule xs) (fit_marked w way glyphs) (wrap_kept_is rule xs (fit_marked w way glyphs))

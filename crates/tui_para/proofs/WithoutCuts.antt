@@ -7,7 +7,7 @@ use Rattle.tui_para.specs.Division.{IsFewest, SpacedWithin}
 use Rattle.tui_para.specs.Hyphens.{glyph_rule, with_cuts, wrap}
 use Rattle.tui_para.specs.Places.{dropped_len, line_len, lines_of, start_len, wrap_kept}
 use Rattle.tui_para.specs.Rule.{Rule, ends_piece}
-use Rattle.tui_para.specs.Wrapped.{after_break, kept, line_start}
+use Rattle.tui_para.specs.Wrapped.{after_break, not_wider, line_start}
 use Rattle.tui_para.specs.declared.wrap.Wrap.{Wrap}
 use Rattle.tui_para.proofs.Fewest.{fewest}
 use Rattle.tui_para.proofs.Greedy.{all_fit-kept, wrap_kept_is}
@@ -65,7 +65,7 @@ no_cuts before (g ∷ gs) = ap (λ k. plain g ∷ k) (no_cuts (g ∷ before) gs)
 pub fewest_lines : (w : ℕ) (way : Wrap) (words : List (List Glyph)) (glyphs : List Glyph) → way.hyphens ≡ false → 0 < w → SpacedWithin glyph_blank glyph_width w words glyphs →
     IsFewest glyph_width words w (length (wrap w way glyphs))
 fewest_lines w way words glyphs off some h =
-    let xs = kept glyph_width w glyphs in
+    let xs = not_wider glyph_width w glyphs in
     let rule = seen_by plain (glyph_rule w way) in
     let lines = wrap_kept rule xs in
     let marked : with_cuts way.hyphens [] xs ≡ map plain xs = ap (λ b. with_cuts b [] xs) off ∙ no_cuts [] xs in

@@ -3,7 +3,7 @@ use Rattle.std.specs.Prelude.{◌≡◌, ℕ, Bool, false, not, ◌&&◌, List, 
 use Rattle.std.specs.Cmp.Lexicographic.{pointwise}
 use Rattle.tui_para.specs.Places.{wrap_kept}
 use Rattle.tui_para.specs.Rule.{Rule}
-use Rattle.tui_para.specs.Wrapped.{WrapsKept, kept}
+use Rattle.tui_para.specs.Wrapped.{WrapsKept, not_wider}
 use Rattle.tui_para.specs.declared.wrap.Wrap.{Wrap}
 use Rattle.tui_text.specs.Grapheme.{Glyph, glyph_blank, glyph_width}
 
@@ -53,8 +53,8 @@ WrappedBehind w wrap before glyphs lines = Uncut (WrapsKept (glyph_rule w wrap) 
 
 -- the graphemes, without those that are wider than w, are wrapped into these lines
 abbrev pub Wrapped : ℕ → Wrap → List Glyph → List (List Glyph) → Type 0
-Wrapped w wrap glyphs lines = WrappedBehind w wrap [] (kept glyph_width w glyphs) lines
+Wrapped w wrap glyphs lines = WrappedBehind w wrap [] (not_wider glyph_width w glyphs) lines
 
 -- the lines into which they are wrapped: the one list that `Wrapped` admits
 abbrev pub wrap : ℕ → Wrap → List Glyph → List (List Glyph)
-wrap w way glyphs = uncut (wrap_kept (glyph_rule w way) (with_cuts way.hyphens [] (kept glyph_width w glyphs)))
+wrap w way glyphs = uncut (wrap_kept (glyph_rule w way) (with_cuts way.hyphens [] (not_wider glyph_width w glyphs)))

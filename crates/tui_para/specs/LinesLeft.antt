@@ -2,7 +2,7 @@
 use Rattle.std.specs.Prelude.{◌≡◌, ℕ, false, List, [], ◌∷◌, ◌++◌, take, drop}
 use Rattle.tui_text.specs.Grapheme.{Glyph, glyph_blank, glyph_width}
 use Rattle.tui_para.specs.Hyphens.{Wrapped, WrappedBehind}
-use Rattle.tui_para.specs.Wrapped.{LeavesOutBlanks, kept}
+use Rattle.tui_para.specs.Wrapped.{LeavesOutBlanks, not_wider}
 use Rattle.tui_para.specs.declared.wrap.Wrap.{Wrap}
 
 -- graphemes in front of others, the last one first
@@ -15,7 +15,7 @@ turned (g ∷ gs) before = turned gs (g ∷ before)
 pub record GoesOnAfter (w : ℕ) (wrap : Wrap) (glyphs : List Glyph) (lines : List (List Glyph)) (k : ℕ) : Type 0 where
   pub front : List Glyph
   pub rest : List Glyph
-  pub whole : kept glyph_width w glyphs ≡ front ++ rest
+  pub whole : not_wider glyph_width w glyphs ≡ front ++ rest
   pub before : LeavesOutBlanks glyph_blank front (take k lines)
   pub after : WrappedBehind w wrap (turned front []) rest (drop k lines)
   pub alone : wrap.hyphens ≡ false → Wrapped w wrap rest (drop k lines)

@@ -4,7 +4,7 @@ use Rattle.std.specs.List.{between, zip}
 use Rattle.tui_text.specs.Grapheme.{Glyph, glyph_of, glyph_width}
 use Rattle.tui_text.specs.declared.grapheme.StyledGrapheme.{StyledGrapheme}
 use Rattle.tui_para.specs.Hyphenation.{behind_all, marked_from}
-use Rattle.tui_para.specs.Wrapped.{kept}
+use Rattle.tui_para.specs.Wrapped.{not_wider}
 use Rattle.tui_para.specs.Mark.{is_cut}
 use Rattle.tui_para.specs.declared.wrapping.hyphenation.Hyphenation.{Hyphenation}
 use Rattle.tui_para.specs.declared.wrapping.hyphenation.Hyphenation.TheVariants.{Off}
@@ -21,12 +21,12 @@ glyphs_of m = map (λ p. p.0) (cuts_of m)
 
 -- behind the graphemes that were there stand those of `taken` that are not wider than w, with their words cut as behind `before`
 abbrev pub StandBehind : Hyphenation → ℕ → List StyledGrapheme → Marked → Marked → Type 0
-StandBehind before w taken old new = cuts_of new ≡ cuts_of old ++ marked_from before (kept glyph_width w (map glyph_of taken))
+StandBehind before w taken old new = cuts_of new ≡ cuts_of old ++ marked_from before (not_wider glyph_width w (map glyph_of taken))
 
 -- so as behind the graphemes that were there
 pub record HasKept (w : ℕ) (taken : List StyledGrapheme) (old new : Marked) : Type 0 where
   pub behind : StandBehind old.hyphenation w taken old new
-  pub goes_on : new.hyphenation ≡ behind_all old.hyphenation (kept glyph_width w (map glyph_of taken))
+  pub goes_on : new.hyphenation ≡ behind_all old.hyphenation (not_wider glyph_width w (map glyph_of taken))
 
 -- the same with no word cut, which is told later
 pub record HasPut (w : ℕ) (taken : List StyledGrapheme) (old new : Marked) : Type 0 where

@@ -1,6 +1,6 @@
 -- The line of a text line that is not wrapped. `size` is a grapheme's width.
 use Rattle.std.specs.Prelude.{◌≡◌, ◌≢◌, ◌<◌, ◌≤◌, ℕ, ◌-◌, Bool, true, false, if◌then◌else◌, ◌&&◌, nat_le, nat_lt, List, [], ◌∷◌, ◌++◌, length, sum_by}
-use Rattle.tui_para.specs.Wrapped.{kept}
+use Rattle.tui_para.specs.Wrapped.{not_wider}
 
 -- the longest front of the list that P holds of, and what stands after it
 pub record IsLongestPrefix {A : Type 0} (P : List A → Type 0) (xs front after : List A) : Type 0 where
@@ -22,8 +22,8 @@ pub record Truncated {A : Type 0} (size : A → ℕ) (w : ℕ) (left : Bool) (of
   pub shown : List A
   pub rest : List A
   pub passed : List A
-  pub passes : left ≡ true → IsLongestPrefix (IsPassedBy size offset) (kept size w xs) passed shown
-  pub stays : left ≡ false → shown ≡ kept size w xs
+  pub passes : left ≡ true → IsLongestPrefix (IsPassedBy size offset) (not_wider size w xs) passed shown
+  pub stays : left ≡ false → shown ≡ not_wider size w xs
   pub fits : IsLongestPrefix (FitsIn size w) shown line rest
 
 -- the same as functions: the graphemes that fit a room
@@ -38,4 +38,4 @@ left_by size offset (x ∷ xs) = if nat_lt 0 offset && nat_le (size x) offset th
 
 -- the line: the one that `Truncated` admits
 abbrev pub truncate : {A : Type 0} → (A → ℕ) → ℕ → Bool → ℕ → List A → List A
-truncate size w left offset xs = fitting_prefix size w (if left then left_by size offset (kept size w xs) else kept size w xs)
+truncate size w left offset xs = fitting_prefix size w (if left then left_by size offset (not_wider size w xs) else not_wider size w xs)

@@ -110,8 +110,8 @@ HasLines {A} rule xs (line ∷ lines) =
     (xs ≢ []) × (rest : List A) × IsNextLine rule xs line rest × HasLines rule rest lines
 
 -- without the graphemes that are wider than w
-abbrev pub kept : {A : Type 0} → (A → ℕ) → ℕ → List A → List A
-kept size w xs = filter (λ x. nat_le (size x) w) xs
+abbrev pub not_wider : {A : Type 0} → (A → ℕ) → ℕ → List A → List A
+not_wider size w xs = filter (λ x. nat_le (size x) w) xs
 
 -- graphemes of which none is wider than w have these lines: one empty line where there is no grapheme
 abbrev pub WrapsKept : {A : Type 0} → Rule A → List A → List (List A) → Type 0

@@ -11,7 +11,7 @@ use Rattle.tui_para.specs.Lines.{GlyphLine, glyph_line, CutAll, IsFirst, IsFirst
 use Rattle.tui_para.specs.Marked.{IsPart, cuts_of, glyphs_of, part_of}
 use Rattle.tui_para.specs.Hyphenation.{behind_all, marked_from}
 use Rattle.tui_para.specs.Hyphens.{Uncut, glyph_rule}
-use Rattle.tui_para.specs.Wrapped.{HasLines, WrapsKept, kept}
+use Rattle.tui_para.specs.Wrapped.{HasLines, WrapsKept, not_wider}
 use Rattle.tui_para.specs.declared.wrap.Wrap.{Wrap}
 use Rattle.tui_para.specs.declared.wrapping.breaking.Place.{Place}
 use Rattle.tui_para.specs.declared.wrapping.part.Part.{Part}
@@ -21,7 +21,7 @@ use Rattle.tui_para.specs.declared.wrapper.WordWrapper.{WordWrapper}
 
 -- the graphemes of a text line from a place on, where these are still to be read, each with whether its word is cut before it
 abbrev pub glyphs_from : {I : Type 0} → TextLine I → ℕ → List Glyph → List (Glyph × Bool)
-glyphs_from s place glyphs = drop place (cuts_of s.line) ++ marked_from s.line.hyphenation (kept glyph_width s.width glyphs)
+glyphs_from s place glyphs = drop place (cuts_of s.line) ++ marked_from s.line.hyphenation (not_wider glyph_width s.width glyphs)
 
 -- the lines of the graphemes that are left of a text line: one at least where none was lent
 abbrev pub LinesOfRest : Bool → ℕ → Wrap → List (Glyph × Bool) → List (List (Glyph × Bool)) → Type 0
@@ -53,8 +53,8 @@ pub record HasRead {I : Type 0} (gives : I → Option StyledGrapheme → I → T
   pub taken : List StyledGrapheme
   pub reads : SourceReads gives old.source taken new.source
   pub behind : drop new.place (cuts_of new.line)
-      ≡ drop old.place (cuts_of old.line) ++ marked_from old.line.hyphenation (kept glyph_width old.width (map glyph_of taken))
-  pub goes_on : new.line.hyphenation ≡ behind_all old.line.hyphenation (kept glyph_width old.width (map glyph_of taken))
+      ≡ drop old.place (cuts_of old.line) ++ marked_from old.line.hyphenation (not_wider glyph_width old.width (map glyph_of taken))
+  pub goes_on : new.line.hyphenation ≡ behind_all old.line.hyphenation (not_wider glyph_width old.width (map glyph_of taken))
   pub is_new : new.is_new ≡ old.is_new
   pub width : new.width ≡ old.width
   pub wrap : new.wrap ≡ old.wrap

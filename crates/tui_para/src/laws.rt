@@ -9,7 +9,7 @@ ghost use Rattle.tui_para.specs.LinesLeft.{GoesOnAfter};
 ghost use Rattle.tui_para.specs.Hyphens.{Wrapped, wrap};
 ghost use Rattle.tui_para.specs.TextLines.{gives_graphemes, gives_lines};
 ghost use Rattle.tui_para.specs.Truncated.{Truncated, truncate};
-ghost use Rattle.tui_para.specs.Wrapped.{IsTheOne, LeavesOutBlanks, kept};
+ghost use Rattle.tui_para.specs.Wrapped.{IsTheOne, LeavesOutBlanks, not_wider};
 ghost use Rattle.tui_para.specs.WrappedText.{TruncatedText, WrappedText, truncate_text, wrap_text};
 ghost use Rattle.tui_para.specs.Wrapping.{TruncatorCanLend, TruncatorMayLend, TruncatorWillLend, WrapperCanLend, WrapperMayLend, WrapperWillLend};
 ghost use Rattle.tui_para.specs.declared.wrap.Wrap.{Wrap};
@@ -30,7 +30,7 @@ pub fn wraps_exactly_once()
 /// others stand in the lines, each once and in their order.
 pub fn wrapping_leaves_out_blanks()
     ensures { (w : ℕ) (way : Wrap) (graphemes : List Glyph) (lines : List (List Glyph)) → Wrapped w way graphemes lines
-        → LeavesOutBlanks glyph_blank (kept glyph_width w graphemes) lines }
+        → LeavesOutBlanks glyph_blank (not_wider glyph_width w graphemes) lines }
 {}
 
 /// The lines of a wrapping from any of them on are those of the graphemes that are left there, cut where their words are cut

@@ -15,7 +15,7 @@ use Rattle.tui_para.specs.Hyphens.{at_blanks, glyph_rule, uncut, with_cuts, wrap
 use Rattle.tui_para.specs.Lines.{GlyphLine, cut_all, glyph_line}
 use Rattle.tui_para.specs.Places.{wrap_kept}
 use Rattle.tui_para.specs.WrappedText.{text_glyph_line}
-use Rattle.tui_para.specs.Wrapped.{kept}
+use Rattle.tui_para.specs.Wrapped.{not_wider}
 use Rattle.tui_para.proofs.WithoutCuts.{no_cuts, plain, wrap_map}
 use Rattle.tui_places.specs.AfterLine.{wrapped_lines}
 use Rattle.tui_places.specs.Places.{behind_line, line_part, shown_in}
@@ -57,9 +57,9 @@ module _ (style : Style) (w : ℕ) (trim : Bool) where
       let way = at_blanks trim in
       let fit = filter (λ c. nat_le (width_of c) w) (clusters line) in
       let glyphs : line_graphemes style (raw_line line) ≡ map (glyph_in shown_style) (clusters line) = append-nil (map (glyph_in shown_style) (clusters line)) in
-      let fitting : kept glyph_width w (line_graphemes style (raw_line line)) ≡ map (glyph_in shown_style) fit = ap (kept glyph_width w) glyphs ∙ filter-map (glyph_in shown_style) (λ g. nat_le (glyph_width g) w) (clusters line) in
-      let cuts : with_cuts false [] (kept glyph_width w (line_graphemes style (raw_line line))) ≡ map marked fit =
-      no_cuts [] (kept glyph_width w (line_graphemes style (raw_line line))) ∙ ap (map plain) fitting ∙ map-map (glyph_in shown_style) plain fit in
+      let fitting : not_wider glyph_width w (line_graphemes style (raw_line line)) ≡ map (glyph_in shown_style) fit = ap (not_wider glyph_width w) glyphs ∙ filter-map (glyph_in shown_style) (λ g. nat_le (glyph_width g) w) (clusters line) in
+      let cuts : with_cuts false [] (not_wider glyph_width w (line_graphemes style (raw_line line))) ≡ map marked fit =
+      no_cuts [] (not_wider glyph_width w (line_graphemes style (raw_line line))) ∙ ap (map plain) fitting ∙ map-map (glyph_in shown_style) plain fit in
       let wraps : wrap_kept (glyph_rule w way) (map marked fit) ≡ map (map marked) (wrap_kept (cluster_rule w trim) fit) = wrap_map marked (glyph_rule w way) fit in
       ap (λ t. uncut (wrap_kept (glyph_rule w way) t)) cuts
       ∙ ap uncut wraps

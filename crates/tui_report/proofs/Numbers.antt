@@ -62,7 +62,7 @@ use Rattle.tui_para.specs.Rendering.{content_layers, paragraph_layers}
 use Rattle.tui_para.specs.Stays.{paragraph_stays}
 use Rattle.tui_para.specs.Strokes.{glyph_layers, glyph_line_layers, glyph_lines_layers, run_layers}
 use Rattle.tui_para.specs.Truncated.{fitting_prefix}
-use Rattle.tui_para.specs.Wrapped.{kept}
+use Rattle.tui_para.specs.Wrapped.{not_wider}
 use Rattle.tui_para.specs.WrappedText.{truncate_text}
 use Rattle.tui_text.specs.Grapheme.{Glyph, glyph_width, width_of}
 use Rattle.tui_text.specs.Graphemes.{clusters, glyph_in}
@@ -132,11 +132,11 @@ one_column b e = let range = printable_range b e in printable_width false (b ∷
 abbrev glyphs : List ℕ → List Glyph
 glyphs text = map (glyph_in no_style) (ones text)
 
-all_kept : (w : ℕ) (text : List ℕ) → 0 < w → IsPrintable text → kept glyph_width w (glyphs text) ≡ glyphs text
+all_kept : (w : ℕ) (text : List ℕ) → 0 < w → IsPrintable text → not_wider glyph_width w (glyphs text) ≡ glyphs text
 all_kept w [] some e = refl
 all_kept w (b ∷ text) some e =
     let both = first_printable b text e in
-    let rest = kept glyph_width w (glyphs text) in
+    let rest = not_wider glyph_width w (glyphs text) in
     let g = glyph_in no_style (b ∷ []) in
     let fits : nat_le 1 w ≡ true = grind (arith, nat_tests) in
     ap (λ n. cond (nat_le n w) (g ∷ rest) rest) (one_column b both.0) ∙ (ap (λ t. cond t (g ∷ rest) rest) fits ∙ ap (λ t. g ∷ t) (all_kept w text some both.1))
@@ -221,8 +221,8 @@ unfolding content_layers glyph_line_layers
 line_layers clip text e some wide =
     let w = clip.width in
     let under = stroke (covers clip) (dress no_style) in
-    let line : fitting_prefix glyph_width w (kept glyph_width w (map (glyph_in no_style) (clusters text) ++ [])) ≡ glyphs (take w text) =
-    ap (λ gs. fitting_prefix glyph_width w (kept glyph_width w gs))
+    let line : fitting_prefix glyph_width w (not_wider glyph_width w (map (glyph_in no_style) (clusters text) ++ [])) ≡ glyphs (take w text) =
+    ap (λ gs. fitting_prefix glyph_width w (not_wider glyph_width w gs))
     (append-nil (map (glyph_in no_style) (clusters text)) ∙ ap (map (glyph_in no_style)) (clusters_are text e))
     ∙ (ap (fitting_prefix glyph_width w) (all_kept w text wide e) ∙ fitting w text e) in
     let size : sum_by glyph_width (glyphs (take w text)) ≡ min w (length text) = columns (take w text) (part_printable w text e) ∙ length-take w text in

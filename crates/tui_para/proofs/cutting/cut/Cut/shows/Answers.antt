@@ -4,7 +4,7 @@ use Rattle.std.proofs.lemmas.Bool.Decides.{nat_tests}
 use Rattle.tui_text.specs.Grapheme.{Glyph, glyph_of, glyph_width}
 use Rattle.tui_para.specs.Cut.{shown_of}
 use Rattle.tui_para.specs.Truncated.{fitting_prefix}
-use Rattle.tui_para.specs.Wrapped.{kept}
+use Rattle.tui_para.specs.Wrapped.{not_wider}
 use Rattle.tui_para.specs.declared.cutting.cut.Cut.{Cut}
 use Rattle.tui_para.proofs.TruncatedOnce.{left_by_none}
 use Rattle.tui_para.proofs.cutting.cut.Cut.shows.Goals.{else-self-gt0-via-then-self-gt0+else-columns-self-2, else-self-gt0-via-else-self-gt0}
@@ -17,7 +17,7 @@ shown_next cut g rest columns e some_room narrow stop fits =
     let kept_too : nat_le (glyph_width g) cut.width ≡ true = grind (arith, nat_tests) in
     let not_passed : (nat_lt 0 cut.offset && nat_le (glyph_width g) cut.offset) ≡ false = grind (arith, nat_tests) in
     let fitting : nat_le (glyph_width g) cut.room ≡ true = grind (arith, nat_tests) in
-    rw (some_room, kept_too, not_passed, fitting, fits, e) (ap (λ k. g ∷ fitting_prefix glyph_width (cut.room - glyph_width g) k) (sym (left_by_none glyph_width (kept glyph_width cut.width rest))))
+    rw (some_room, kept_too, not_passed, fitting, fits, e) (ap (λ k. g ∷ fitting_prefix glyph_width (cut.room - glyph_width g) k) (sym (left_by_none glyph_width (not_wider glyph_width cut.width rest))))
 
 pub returns-clause-line : goal.returns-clause-line
 returns-clause-line c = λ rest.
