@@ -54,7 +54,7 @@ impl Sums {
     }
 
     /// The sum of the heights from place `a` to the one before place `b`. It counts one step.
-    pub(crate) fn window<L: Ledger>(&self, a: usize, b: usize, steps: &mut Steps<L>) -> u128
+    pub fn window<L: Ledger>(&self, a: usize, b: usize, steps: &mut Steps<L>) -> u128
         requires order { a ≤ b }
         requires within { b ≤ length self.now }
         ensures sum { result ≡ total self.now a b }
