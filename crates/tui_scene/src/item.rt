@@ -14,7 +14,6 @@ use tui_para::{Paragraph, RatatuiLogo};
 use tui_table::{Table, TableState};
 
 /// A widget of any kind, with its state where it has one.
-#[derive(Drop)]
 pub enum Item<'a> {
     Clear(Clear),
     Fill(Fill<'a>),
@@ -30,6 +29,28 @@ pub enum Item<'a> {
     Sparkline(Sparkline<'a>),
     Monthly(Monthly<'a, CalendarEventStore>),
     Logo(RatatuiLogo),
+}
+
+// Written out, so that a crate above proves nothing of what it holds to let it go.
+impl<'a> Drop for Item<'a> {
+    fn drop(self) {
+        match self {
+            Item::Clear(clear) => {}
+            Item::Fill(fill) => {}
+            Item::Block(block) => {}
+            Item::Paragraph(paragraph) => {}
+            Item::List(list, state) => {}
+            Item::Table(table, state) => {}
+            Item::Tabs(tabs) => {}
+            Item::Scrollbar(scrollbar, state) => {}
+            Item::Gauge(gauge) => {}
+            Item::LineGauge(gauge) => {}
+            Item::BarChart(chart) => {}
+            Item::Sparkline(sparkline) => {}
+            Item::Monthly(month) => {}
+            Item::Logo(logo) => {}
+        }
+    }
 }
 
 impl<'a> Item<'a> {
