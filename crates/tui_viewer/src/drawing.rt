@@ -183,6 +183,7 @@ fn number_of(selected: Option<usize>) -> usize
 
 /// Makes a screen a blank one of this size, at the origin. One that has the size keeps its cells and wants no memory; else it is
 /// made anew.
+#[tactic(auto, using(crate::proofs::Placing::wiped))]
 fn wipe_page(alloc: Global, width: u16, height: u16, screen: &mut Buffer) -> Mem<()>
     ensures { OnOk result (IsFilled (page_area width height) blank screen.new) }
 {
