@@ -1,14 +1,12 @@
 -- What is shown next.
-use Rattle.std.proofs.Common.{◌≡◌, ℕ, ◌-◌, ◌==◌, List, length, sym, ap, ◌∙◌, subst, Option, None, Some, Result, IfOk}
+use Rattle.std.proofs.Common.{◌≡◌, ℕ, ◌-◌, ◌==◌, List, length, sym, ap, ◌∙◌, subst, Option, None, Some}
 use Rattle.std.specs.Prelude.{map, if◌then◌else◌}
 use Rattle.tui_lists.specs.ListItem.{heights_of}
 use Rattle.tui_viewer.specs.Entry.{EntryData}
 use Rattle.tui_viewer.specs.Laws.{IsPlace, IsSound}
 use Rattle.tui_viewer.specs.Lines.{HavePlaces}
 use Rattle.tui_viewer.specs.Screen.{body_lines, sizes_of, title_item}
-use Rattle.tui_viewer.specs.Shown.{pager_data}
 use Rattle.tui_viewer.specs.Steps.{lines_at, most_in, most_of, settled, started}
-use Rattle.tui_viewer.specs.declared.shown.Shown.{Shown}
 use Rattle.tui_viewer.specs.declared.state.PagerState.{PagerState}
 use Rattle.tui_viewer.proofs.Sound.{count_heights}
 
@@ -33,12 +31,6 @@ start_is entries width height count place s c p e =
 pub sound_as : (entries : List EntryData) (width height : ℕ) (s t : PagerState) → s ≡ t → IsSound (sizes_of entries width height) t →
     IsSound (sizes_of entries width height) s
 sound_as entries width height s t e sound = subst (IsSound (sizes_of entries width height)) (sym e) sound
-
-pub data_as : {E : Type 0} (result : Result Shown E) (entries : List EntryData) (width height : ℕ) (s t : PagerState) → s ≡ t →
-    IfOk result (λ r. pager_data entries r ≡ record { width = width; height = height; entries = entries; state = s }) →
-    IfOk result (λ r. pager_data entries r ≡ record { width = width; height = height; entries = entries; state = t })
-data_as result entries width height s t e ok =
-    subst (λ (u : PagerState). IfOk result (λ r. pager_data entries r ≡ record { width = width; height = height; entries = entries; state = u })) e ok
 
 -- places that are kept
 pub places_as : (entries : List EntryData) (width kept : ℕ) (selected old : Option ℕ) (places : List ℕ) → width ≡ kept → selected ≡ old →

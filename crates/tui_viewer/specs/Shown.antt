@@ -1,5 +1,5 @@
 -- What a pager shows, as it is kept.
-use Rattle.std.specs.Prelude.{◌≤◌, List}
+use Rattle.std.specs.Prelude.{◌≡◌, ◌≤◌, List}
 use Rattle.tui_viewer.specs.Entry.{EntryData}
 use Rattle.tui_viewer.specs.Laws.{IsSoundPager}
 use Rattle.tui_viewer.specs.Lines.{HavePlaces}
@@ -18,3 +18,7 @@ pub record IsUpToDate (entries : List EntryData) (s : Shown) : Type 0 where
   pub sound : IsSoundPager (pager_data entries s)
   pub places : HavePlaces entries s.width s.state.selected s.places.items
   pub drawn : IsDrawn (pager_layers (pager_data entries s)) (page_area s.width s.height) s.screen
+
+-- all but the spare screen is as before
+abbrev pub IsKept : Shown → Shown → Type 0
+IsKept old new = new ≡ record old { spare = new.spare }

@@ -1,6 +1,6 @@
 //! What a pager keeps of its entries.
 
-ghost use Rattle.std.specs.Prelude.{◌≡◌, ◌≤◌, IfOk, length, map};
+ghost use Rattle.std.specs.Prelude.{◌≡◌, ◌≤◌, IfOk, OnOk, length, map};
 ghost use Rattle.tui_lists.specs.ListItem.{heights_of};
 ghost use Rattle.tui_viewer.specs.Entry.{entry_data};
 ghost use Rattle.tui_viewer.specs.Laws.{IsPlace};
@@ -95,7 +95,7 @@ impl<'a> Contents<'a> {
         follow(&self.heights, rows, state)
     }
 
-    /// The screen of a state, by itself. `places` are where the lines of the selected body begin.
+    /// The screen of a state, by itself, whatever the buffer held. `places` are where the lines of the selected body begin.
     pub(crate) fn draw(
         &self,
         alloc: Global,
@@ -103,12 +103,14 @@ impl<'a> Contents<'a> {
         height: u16,
         state: PagerState,
         places: &[usize],
-    ) -> Mem<Buffer>
+        screen: &mut Buffer,
+    ) -> Mem<()>
         requires wide { 12 ≤ width }
         requires high { 5 ≤ height }
         requires place { IsPlace (length self.now) state.selected }
         requires places { HavePlaces self.now width state.selected places.now }
-        ensures { IfOk result (IsDrawn (pager_layers (record { width = width; height = height; entries = self.now; state = state })) (page_area width height)) }
+        ensures { OnOk result (IsDrawn (pager_layers (record { width = width; height = height; entries = self.now; state = state }))
+            (page_area width height) screen.new) }
     {
         draw_screen(
             alloc,
@@ -118,6 +120,7 @@ impl<'a> Contents<'a> {
             height,
             state,
             places,
+            screen,
         )
     }
 }

@@ -181,9 +181,11 @@ fn number_of(selected: Option<usize>) -> usize
     }
 }
 
-/// A blank screen at the origin.
-fn blank_page(alloc: Global, width: u16, height: u16) -> Mem<Buffer>
-    ensures { IfOk result (IsFilled (page_area width height) blank) }
+/// Makes a screen a blank one of this size, at the origin. One that has the size keeps its cells and wants no memory; else it is
+/// made anew.
+#[tactic(auto, using(crate::proofs::Placing::wiped))]
+fn wipe_page(alloc: Global, width: u16, height: u16, screen: &mut Buffer) -> Mem<()>
+    ensures { OnOk result (IsFilled (page_area width height) blank screen.new) }
 {
     let page = Rect {
         x: 0,
@@ -191,10 +193,15 @@ fn blank_page(alloc: Global, width: u16, height: u16) -> Mem<Buffer>
         width,
         height,
     };
-    Buffer::empty(alloc, page)
+    if screen.area() == page {
+        screen.reset(page);
+        return Ok(());
+    }
+    *screen = Buffer::empty(alloc, page)?;
+    Ok(())
 }
 
-/// The screen of entries in a state, by itself. `places` are where the lines of the selected body begin.
+/// The screen of entries in a state, by itself, whatever the buffer held. `places` are where the lines of the selected body begin.
 pub(crate) fn draw_screen(
     alloc: Global,
     titles: &List<'_>,
@@ -203,28 +210,29 @@ pub(crate) fn draw_screen(
     height: u16,
     state: PagerState,
     places: &[usize],
-) -> Mem<Buffer>
+    screen: &mut Buffer,
+) -> Mem<()>
     requires wide { 12 ≤ width }
     requires high { 5 ≤ height }
     requires titles { list_data titles.now ≡ titles_list (map entry_data entries.now) }
     requires place { IsPlace (length entries.now) state.selected }
     requires places { HavePlaces (map entry_data entries.now) width state.selected places.now }
-    ensures { IfOk result (IsDrawn (pager_layers (record {
+    ensures { OnOk result (IsDrawn (pager_layers (record {
       width = width;
       height = height;
       entries = map entry_data entries.now;
       state = state;
-    })) (page_area width height)) }
+    })) (page_area width height) screen.new) }
 {
-    let mut screen = blank_page(alloc, width, height)?;
-    draw_titles(alloc, titles, width, height, state, &mut screen)?;
+    wipe_page(alloc, width, height, screen)?;
+    draw_titles(alloc, titles, width, height, state, screen)?;
     let body = selected_body(entries, state.selected);
-    draw_body(alloc, body, places, state.line, width, height, &mut screen)?;
+    draw_body(alloc, body, places, state.line, width, height, screen)?;
     let most = greatest_line(places.len(), height - 3);
-    draw_bar(alloc, most, state.line, width, height, &mut screen)?;
+    draw_bar(alloc, most, state.line, width, height, screen)?;
     let count = entries.len();
-    draw_place(alloc, state.selected, count, width, height, &mut screen)?;
+    draw_place(alloc, state.selected, count, width, height, screen)?;
     // The shape of the rows is told by their count.
     let _height = screen.height();
-    Ok(screen)
+    Ok(())
 }

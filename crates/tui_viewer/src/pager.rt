@@ -23,6 +23,9 @@ const LEAST_HEIGHT: u16 = 5;
 /// Entries on a screen: at the left the list of their titles, of which one is selected, at the right its body, in lines of the
 /// width that there is, with a bar, and in the last row the selected place and how many entries there are. Keys move the selection
 /// and the body. The list scrolls as far as it has to for the selected title and one on each side of it to be seen, and no further.
+///
+/// A pager keeps two screens: the one that is shown, and a spare one, in whose cells the next one is drawn. The first key, and the
+/// first one behind another size, make the spare one.
 pub struct Pager<'a> {
     alloc: Global,
     contents: Contents<'a>,

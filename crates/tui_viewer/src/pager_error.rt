@@ -9,7 +9,7 @@ pub enum PagerError {
     /// The width is below 12 or the height below 5.
     #[error("TooSmall")]
     TooSmall,
-    /// The memory that the pager and its screen take was not there.
+    /// The memory that the pager and its screens take was not there.
     #[error("NoMemory")]
     NoMemory,
 }

@@ -5,7 +5,7 @@ ghost use Rattle.tui_viewer.specs.Laws.{IsPlace, IsSoundPager, after_call, pager
 ghost use Rattle.tui_viewer.specs.Lines.{HavePlaces};
 ghost use Rattle.tui_viewer.specs.Pager.{PagerData};
 ghost use Rattle.tui_viewer.specs.Screen.{body_lines, sizes_of};
-ghost use Rattle.tui_viewer.specs.Shown.{IsUpToDate, pager_data};
+ghost use Rattle.tui_viewer.specs.Shown.{IsKept, IsUpToDate, pager_data};
 ghost use Rattle.tui_viewer.specs.Steps.{lines_at, pressed, resized};
 
 use crate::contents::Contents;
@@ -13,9 +13,11 @@ use crate::key::Key;
 use crate::state::PagerState;
 use crate::steps::{greatest_line, moved};
 use std::alloc::Global;
-use tui_cells::{Buffer, Mem};
+use std::mem;
+use tui_cells::{Buffer, Mem, Rect};
 
-/// The size of the screen, the state, where the lines of the selected body begin, in bytes, and the screen.
+/// The size of the screen, the state, where the lines of the selected body begin, in bytes, and the screen. Beside it stands a spare
+/// one of any size: what is shown next is drawn there, and the two change places.
 #[derive(Drop)]
 pub(crate) struct Shown {
     pub(crate) width: u16,
@@ -23,32 +25,7 @@ pub(crate) struct Shown {
     pub(crate) state: PagerState,
     pub(crate) places: Vec<usize>,
     pub(crate) screen: Buffer,
-}
-
-/// What entries in a state show, on a screen of its own. `places` are where the lines of the selected body begin.
-fn show(
-    alloc: Global,
-    contents: &Contents<'_>,
-    width: u16,
-    height: u16,
-    state: PagerState,
-    places: Vec<usize>,
-) -> Mem<Shown>
-    requires wide { 12 ≤ width }
-    requires high { 5 ≤ height }
-    requires sound { IsSoundPager (record { width = width; height = height; entries = contents.now; state = state }) }
-    requires places { HavePlaces contents.now width state.selected places.items }
-    ensures up_to_date { IfOk result (IsUpToDate contents.now) }
-    ensures is { IfOk result (λ shown. pager_data contents.now shown ≡ record { width = width; height = height; entries = contents.now; state = state }) }
-{
-    let screen = contents.draw(alloc, width, height, state, &places)?;
-    Ok(Shown {
-        width,
-        height,
-        state,
-        places,
-        screen,
-    })
+    spare: Buffer,
 }
 
 /// The first of so many entries, if there is one.
@@ -74,7 +51,19 @@ pub(crate) fn started(alloc: Global, contents: &Contents<'_>, width: u16, height
     };
     let state = contents.follow(height - 3, first);
     let places = contents.places(alloc, width, state.selected)?;
-    show(alloc, contents, width, height, state, places)
+    // The first screen is drawn as every other one, on the spare one, so that a pager begins with two that have no cells.
+    let screen = Buffer::empty(alloc, Rect::ZERO)?;
+    let spare = Buffer::empty(alloc, Rect::ZERO)?;
+    let mut shown = Shown {
+        width,
+        height,
+        state,
+        places,
+        screen,
+        spare,
+    };
+    shown.redraw(alloc, contents, height, state)?;
+    Ok(shown)
 }
 
 /// A state on a screen of another size, where the selected body has so many lines: the line is cut where the body ends earlier.
@@ -89,23 +78,22 @@ fn cut(contents: &Contents<'_>, height: u16, lines: usize, state: PagerState) ->
 }
 
 impl Shown {
-    /// Takes a key. At `NoMemory` all is as before.
+    /// Takes a key. At `NoMemory` all that is shown is as before.
     pub(crate) fn press_key(&mut self, alloc: Global, contents: &Contents<'_>, key: Key) -> Mem<()>
         requires { IsUpToDate contents.now self.old }
         ensures up_to_date { OnOk result (IsUpToDate contents.now self.new) }
         ensures is { OnOk result (pager_data contents.now self.new ≡ after_call (pager_data contents.now self.old) (press key)) }
-        ensures err { OnErr result (self.new ≡ self.old) }
+        ensures err { OnErr result (IsKept self.old self.new) }
     {
         let state = self.after_key(contents, key);
         if is_same(state.selected, self.state.selected) {
             return self.redraw(alloc, contents, self.height, state);
         }
         let places = contents.places(alloc, self.width, state.selected)?;
-        *self = show(alloc, contents, self.width, self.height, state, places)?;
-        Ok(())
+        self.show(alloc, contents, self.width, self.height, state, places)
     }
 
-    /// Takes another size. At `NoMemory` all is as before.
+    /// Takes another size. At `NoMemory` all that is shown is as before.
     pub(crate) fn take_size(
         &mut self,
         alloc: Global,
@@ -118,7 +106,7 @@ impl Shown {
         requires up_to_date { IsUpToDate contents.now self.old }
         ensures up_to_date { OnOk result (IsUpToDate contents.now self.new) }
         ensures is { OnOk result (pager_data contents.now self.new ≡ after_call (pager_data contents.now self.old) (resize width height)) }
-        ensures err { OnErr result (self.new ≡ self.old) }
+        ensures err { OnErr result (IsKept self.old self.new) }
     {
         if width == self.width {
             let state = cut(contents, height, self.places.len(), self.state);
@@ -126,8 +114,7 @@ impl Shown {
         }
         let places = contents.places(alloc, width, self.state.selected)?;
         let state = cut(contents, height, places.len(), self.state);
-        *self = show(alloc, contents, width, height, state, places)?;
-        Ok(())
+        self.show(alloc, contents, width, height, state, places)
     }
 
     /// The state after a key.
@@ -142,7 +129,8 @@ impl Shown {
         contents.follow(rows, next)
     }
 
-    /// Shows a state of the same selected body on a screen of the same width. The places are kept. At `NoMemory` all is as before.
+    /// Shows a state of the same selected body on a screen of the same width. The places are kept. At `NoMemory` all that is shown is
+    /// as before.
     fn redraw(
         &mut self,
         alloc: Global,
@@ -157,12 +145,41 @@ impl Shown {
         ensures up_to_date { OnOk result (IsUpToDate contents.now self.new) }
         ensures is { OnOk result (pager_data contents.now self.new
             ≡ record { width = self.old.width; height = height; entries = contents.now; state = state }) }
-        ensures err { OnErr result (self.new ≡ self.old) }
+        ensures err { OnErr result (IsKept self.old self.new) }
     {
-        let screen = contents.draw(alloc, self.width, height, state, &self.places)?;
+        let width = self.width;
+        contents.draw(alloc, width, height, state, &self.places, &mut self.spare)?;
         self.height = height;
         self.state = state;
-        self.screen = screen;
+        mem::swap(&mut self.screen, &mut self.spare);
+        Ok(())
+    }
+
+    /// Shows a state on a screen of a size. `places` are where the lines of the selected body begin. At `NoMemory` all that is shown is
+    /// as before.
+    fn show(
+        &mut self,
+        alloc: Global,
+        contents: &Contents<'_>,
+        width: u16,
+        height: u16,
+        state: PagerState,
+        places: Vec<usize>,
+    ) -> Mem<()>
+        requires wide { 12 ≤ width }
+        requires high { 5 ≤ height }
+        requires sound { IsSoundPager (record { width = width; height = height; entries = contents.now; state = state }) }
+        requires places { HavePlaces contents.now width state.selected places.items }
+        ensures up_to_date { OnOk result (IsUpToDate contents.now self.new) }
+        ensures is { OnOk result (pager_data contents.now self.new ≡ record { width = width; height = height; entries = contents.now; state = state }) }
+        ensures err { OnErr result (IsKept self.old self.new) }
+    {
+        contents.draw(alloc, width, height, state, &places, &mut self.spare)?;
+        self.width = width;
+        self.height = height;
+        self.state = state;
+        self.places = places;
+        mem::swap(&mut self.screen, &mut self.spare);
         Ok(())
     }
 }

@@ -1,5 +1,8 @@
+use Rattle.std.proofs.Common.{◌∙◌, ap}
+use Rattle.tui_viewer.specs.Pager.{PagerData}
+use Rattle.tui_viewer.specs.declared.state.PagerState.{PagerState}
 use Rattle.tui_viewer.proofs.Sound.{start_sound}
-use Rattle.tui_viewer.proofs.Stepping.{data_as, place_of, sound_as, start_is}
+use Rattle.tui_viewer.proofs.Stepping.{place_of, sound_as, start_is}
 use Rattle.tui_viewer.proofs.shown.started.Goals as goal
 
 pub places-requires-clause-place : goal.places-requires-clause-place
@@ -8,8 +11,8 @@ places-requires-clause-place c =
     let eq = start_is entries c.args.width c.args.height _ _ _ c.len-count.ensures c.first_place-selected.ensures c.follow-state.ensures in
     place_of entries c.args.width c.args.height _ (sound_as entries c.args.width c.args.height _ _ eq (start_sound entries c.args.width c.args.height))
 
-pub show-requires-clause-sound : goal.show-requires-clause-sound
-show-requires-clause-sound c =
+pub redraw-requires-clause-sound : goal.redraw-requires-clause-sound
+redraw-requires-clause-sound c =
     let entries = c.args.contents.now in
     let eq = start_is entries c.args.width c.args.height _ _ _ c.len-count.ensures c.first_place-selected.ensures c.follow-state.ensures in
     sound_as entries c.args.width c.args.height _ _ eq (start_sound entries c.args.width c.args.height)
@@ -18,4 +21,5 @@ pub returns-clause-is : goal.returns-clause-is
 returns-clause-is c =
     let entries = c.args.contents.now in
     let eq = start_is entries c.args.width c.args.height _ _ _ c.len-count.ensures c.first_place-selected.ensures c.follow-state.ensures in
-    data_as c.show.result entries c.args.width c.args.height _ _ eq c.show.ensures.is
+    let of : PagerState → PagerData = λ s. record { width = c.args.width; height = c.args.height; entries = entries; state = s } in
+    c.in_ok-redraw.ensures.is ∙ ap of eq

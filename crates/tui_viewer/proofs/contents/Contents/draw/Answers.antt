@@ -1,5 +1,5 @@
 use Rattle.std.proofs.Common.{◌∙◌, ap, length, map, subst, sym, List}
-use Rattle.std.specs.Prelude.{IfOk}
+use Rattle.std.specs.Prelude.{OnOk}
 use Rattle.std.proofs.lemmas.List.{length-map}
 use Rattle.tui_viewer.specs.Entry.{EntryData, entry_data}
 use Rattle.tui_viewer.specs.Laws.{IsPlace}
@@ -23,9 +23,9 @@ draw_screen-requires-clause-places c =
 pub returns : goal.returns
 returns c =
     let here = ap (map entry_data) c.deref.ensures.value ∙ c.self.view_is in
-    subst (λ (es : List EntryData). IfOk c.draw_screen.result (IsDrawn (pager_layers (record {
+    subst (λ (es : List EntryData). OnOk c.draw_screen.result (IsDrawn (pager_layers (record {
       width = c.args.width;
       height = c.args.height;
       entries = es;
       state = c.args.state;
-    })) (page_area c.args.width c.args.height))) here c.draw_screen.ensures
+    })) (page_area c.args.width c.args.height) c.draw_screen.new.screen)) here c.draw_screen.ensures

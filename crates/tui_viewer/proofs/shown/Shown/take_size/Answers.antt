@@ -1,5 +1,5 @@
-use Rattle.std.proofs.Common.{◌≡◌, ◌∙◌, ap, length, refl, rules}
-use Rattle.std.specs.Prelude.{vec_len}
+use Rattle.std.proofs.Common.{◌≡◌, ◌∙◌, ap, length, refl, rules, subst}
+use Rattle.std.specs.Prelude.{OnOk, vec_len}
 use Rattle.tui_viewer.specs.Laws.{resize}
 use Rattle.tui_viewer.specs.Pager.{PagerData}
 use Rattle.tui_viewer.specs.Shown.{pager_data}
@@ -51,4 +51,4 @@ returns-clause-is c =
     let count = count_is entries c.args.width s.state.selected kept.items (place_of entries s.width s.height s.state u.sound) c.in_ok-places.ensures in
     let state = c.cut-state-2.ensures c.args.width (c.len-2.ensures ∙ (items ∙ count)) in
     let of : PagerState → PagerData = λ t. record { width = c.args.width; height = c.args.height; entries = entries; state = t } in
-    c.in_ok-self.ensures.is ∙ ap of state
+    subst (λ (t : PagerState). OnOk c.show.result (pager_data entries c.show.new.self ≡ of t)) state c.show.ensures.is

@@ -1,7 +1,7 @@
 use Rattle.std.proofs.Common.{subst, sym}
 use Rattle.tui_viewer.specs.Lines.{HavePlaces}
 use Rattle.tui_viewer.proofs.Stepping.{place_of}
-use Rattle.tui_viewer.proofs.shown.show.Goals as goal
+use Rattle.tui_viewer.proofs.shown.Shown.show.Goals as goal
 
 pub draw-requires-clause-place : goal.draw-requires-clause-place
 draw-requires-clause-place c = place_of c.args.contents.now c.args.width c.args.height c.args.state c.requires.sound
@@ -9,12 +9,3 @@ draw-requires-clause-place c = place_of c.args.contents.now c.args.width c.args.
 pub draw-requires-clause-places : goal.draw-requires-clause-places
 draw-requires-clause-places c =
     subst (λ ps. HavePlaces c.args.contents.now c.args.width c.args.state.selected ps) (sym c.deref.ensures.value) c.requires.places
-
-pub returns-clause-up_to_date : goal.returns-clause-up_to_date
-returns-clause-up_to_date c = record {
-  wide = c.requires.wide;
-  high = c.requires.high;
-  sound = c.requires.sound;
-  places = c.requires.places;
-  drawn = c.in_ok-screen.ensures;
-}
