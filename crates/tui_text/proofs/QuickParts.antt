@@ -182,6 +182,19 @@ quick_before text bytes n m u some e is less h next more =
     let size = ap length e in
     subst (λ k. IsPlainFirst text k) (sym len) (plain_before text u some (omega arith) (omega arith) (omega arith))
 
+-- a printable byte is a plain character by itself
+pub printable_is_one : (b : ℕ) → (nat_le 32 b && nat_le b 126) ≡ true → plain_len b ≡ 1
+unfolding plain_len
+printable_is_one b h = grind (arith, nat_tests)
+
+-- so it is before another one, and at the text's end
+pub quick_printable : (text bytes : List ℕ) → IsUtf8 text → 0 < length text → bytes ≡ text → plain_len (get_or bytes 0 0) ≡ 1
+    → (1 < length bytes → plain_len (get_or bytes 1 0) ≡ 1) → IsPlainFirst text 1
+quick_printable text bytes u some e first second = ⊎_elim
+    (λ less. quick_alone text bytes 1 u some e (sym first) (omega arith) (omega arith))
+    (λ more. quick_before text bytes 1 1 u some e (sym first) (omega arith) (omega arith) (sym (second (omega arith))) (omega arith))
+    (cases_lt (length bytes) 2)
+
 -- what a list of clusters shows where it has none before a text, and the text begins with such a character
 pub shown-first : (none left : List (List ℕ)) (text cluster rest : List ℕ) (n : ℕ) → none ≡ [] → left ≡ [] → IsPlainFirst text n → cluster ≡ take n text → rest ≡ drop n text
     → filter is_shown (none ++ graphemes true text) ≡ cluster ∷ filter is_shown (left ++ graphemes true rest)

@@ -1,8 +1,10 @@
 //! Plain characters: no rule on grapheme clusters joins one with another.
 
-ghost use Rattle.std.specs.Prelude.{◌≡◌, ◌<◌, ◌≤◌, ◌&&◌, nat_le, [], ◌∷◌, ◌++◌, chars, length, encode_utf8, IfSome, IsTrue};
+ghost use Rattle.std.specs.Prelude.{◌≡◌, ◌<◌, ◌≤◌, ◌&&◌, nat_le, [], ◌∷◌, ◌++◌, chars, length, encode_utf8, slice_index, IfSome, IsTrue};
 ghost use Rattle.std.specs.Str.{IsUtf8};
 ghost use Rattle.tui_text.specs.Plain.{is_plain, plain_len, IsIdeograph, IsLetter, IsPlainChar, IsPlainFirst};
+
+use crate::printable::is_printable;
 
 /// Whether the character is a plain one.
 #[inline]
@@ -50,7 +52,7 @@ fn is_within(code: u32, low: u32, high: u32) -> bool
 }
 
 /// How many bytes a plain character has that begins with this byte, as far as the byte alone tells one, and else 0.
-#[inline(always)]
+#[inline]
 #[tactic(auto, unfolding(crate::specs::Plain::plain_len))]
 fn plain_len(byte: u8) -> usize
     ensures { result ≡ plain_len byte }
@@ -70,6 +72,29 @@ fn plain_len(byte: u8) -> usize
 /// The length of the plain character at a text's start, where first bytes alone tell it and one behind it, if there is one. Else 0.
 #[inline(always)]
 pub(crate) fn quick_len(text: &str) -> usize
+    requires { 0 < length text.now }
+    ensures { 0 < result → IsPlainFirst text.now result }
+{
+    if begins_printable(text.as_bytes()) {
+        1
+    } else {
+        told_len(text)
+    }
+}
+
+/// Whether bytes begin with a printable character of one byte and then end, or go on with another one.
+#[inline(always)]
+fn begins_printable(bytes: &[u8]) -> bool
+    requires { 0 < length bytes.now }
+    ensures first { IsTrue result → plain_len (slice_index bytes.now 0) ≡ 1 }
+    ensures second { IsTrue result → 1 < length bytes.now → plain_len (slice_index bytes.now 1) ≡ 1 }
+{
+    is_printable(bytes[0]) && (bytes.len() == 1 || is_printable(bytes[1]))
+}
+
+/// The same length by the bytes of any plain character. Never inlined, so that printable bytes cost no call.
+#[inline(never)]
+fn told_len(text: &str) -> usize
     requires { 0 < length text.now }
     ensures { 0 < result → IsPlainFirst text.now result }
 {

@@ -1,12 +1,8 @@
-use Rattle.std.proofs.Common.{arith}
-use Rattle.tui_text.proofs.QuickParts.{quick_alone, quick_before}
+use Rattle.std.proofs.Common.{refl}
+use Rattle.tui_text.proofs.QuickParts.{quick_printable}
 use Rattle.tui_text.proofs.plain.quick_len.Goals as goal
 
-pub returns-then-len-bytes : goal.returns-then-len-bytes
-returns-then-len-bytes c =
-    quick_alone c.args.text.now c.as_bytes-bytes.result.now c.plain_len-len.result c.utf8.text c.requires c.as_bytes-bytes.ensures.value c.plain_len-len.ensures (omega arith)
-
-pub returns-then-plain_len-gt0 : goal.returns-then-plain_len-gt0
-returns-then-plain_len-gt0 c =
-    λ some. quick_before c.args.text.now c.as_bytes-bytes.result.now c.plain_len-len.result c.plain_len.result c.utf8.text c.requires c.as_bytes-bytes.ensures.value c.plain_len-len.ensures (omega arith) some
-    c.plain_len.ensures (omega arith)
+pub returns-then-begins_printable : goal.returns-then-begins_printable
+returns-then-begins_printable c = λ _.
+    let printable = c.if-begins_printable.ensures in
+    quick_printable c.args.text.now c.as_bytes.result.now c.utf8.text c.requires c.as_bytes.ensures.value (printable.first refl) (printable.second refl)
