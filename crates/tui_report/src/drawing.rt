@@ -26,11 +26,11 @@ use crate::column::Column;
 use crate::measuring::cell_paragraph;
 use crate::piece::Piece;
 use crate::records::Record;
+use crate::shown::shown_part;
 use std::alloc::Global;
 use tui_cells::{Buffer, Mem, Position, Rect, Style, Widget};
 use tui_layout::Segment;
 use tui_para::Paragraph;
-use tui_places::first_part;
 use tui_text::{Text, set_stringn_in};
 
 /// The first row of the pieces, below the title and the names.
@@ -81,6 +81,7 @@ fn draw_from(
     area: Rect,
     buf: &mut Buffer,
 ) -> Mem<()>
+    requires wide { 0 < clip.width }
     requires goes_on { GoesOn clip.width line cell.now from.start }
     requires clip { clip ≡ intersection_of area buf.old.area }
     ensures ok { OnOk result (Painted (drawn_in buf.old.area area (cell_from line cell.now)) buf.old buf.new) }
@@ -89,7 +90,7 @@ fn draw_from(
     match cell.split_at_checked(from.start) {
         Some((_, rest)) => {
             let rows = usize::from(clip.height);
-            let shown = first_part(rest, clip.width, true, rows, from.near);
+            let shown = shown_part(rest, clip.width, rows, from.near);
             draw_cell(alloc, shown, 0, area, buf)
         }
         None => draw_in(alloc, &Paragraph::new(Text::new(alloc)), area, buf),
