@@ -53,7 +53,7 @@ same_cuts room place from (height ∷ heights) (p ∷ ps) (q ∷ qs) c d =
 pub lt_test : (a b : ℕ) → a < b → nat_lt a b ≡ true
 lt_test a b h = grind (arith, nat_tests)
 
-ge_test : (a b : ℕ) → b ≤ a → nat_lt a b ≡ false
+pub ge_test : (a b : ℕ) → b ≤ a → nat_lt a b ≡ false
 ge_test a b h = grind (arith, nat_tests)
 
 pub cut_done : (room place height from n : ℕ) → height ≤ from → cut room place height from n ≡ []

@@ -1,5 +1,5 @@
 -- Cells that go on with a line.
-use Rattle.std.proofs.Common.{◌≡◌, ℕ, zero, suc, ◌+◌, ◌-◌, ◌<◌, List, [], ◌∷◌, ◌++◌, length, take, drop, sym, ap, refl, ◌∙◌, subst, arith}
+use Rattle.std.proofs.Common.{◌≡◌, ℕ, zero, suc, ◌+◌, ◌-◌, ◌<◌, List, [], ◌∷◌, ◌++◌, length, take, drop, ◌⊎◌, inl, inr, sym, ap, refl, ◌∙◌, subst, arith}
 use Rattle.std.specs.Str.{IsCharBoundary, IsUtf8}
 use Rattle.std.proofs.Math.Seq.{drop-append_seam}
 use Rattle.std.proofs.lemmas.List.{append_assoc, length-append, take-append-drop}
@@ -66,3 +66,10 @@ begins width cell u = record {
   lines = λ _. refl;
   none = λ away. absurd (away (IsCharBoundary-start cell u));
 }
+
+-- and so it does where nothing else is known
+pub goes_on_from : (width line start : ℕ) (cell : List ℕ) → IsUtf8 cell → 0 < width →
+    (line ≡ 0) × (start ≡ 0) ⊎ (0 < width → GoesOn width line cell start) → GoesOn width line cell start
+goes_on_from width line start cell u wide (inl (l, s)) =
+    subst (λ t. GoesOn width t cell start) (sym l) (subst (λ t. GoesOn width 0 cell t) (sym s) (begins width cell u))
+goes_on_from width line start cell u wide (inr g) = g wide

@@ -1,10 +1,12 @@
 -- Pages as one list of pieces and the places of their ends.
 use Rattle.std.proofs.Common.{◌≡◌, ℕ, zero, suc, ◌+◌, ◌-◌, ◌<◌, ◌≤◌, min, List, [], ◌∷◌, ◌++◌, length, get_or, take, drop, refl, sym, ap, ◌∙◌, subst, arith, inl, inr}
 use Rattle.std.specs.Prelude.{slice_get, slice_range, Some, Result, Ok, Err, IfOk}
-use Rattle.std.proofs.lemmas.List.{append_assoc, take_rest, drop-append-le, take-append-le, length-drop, drop_more, get_or_default}
+use Rattle.std.proofs.lemmas.List.{append_assoc, length-append, length-take, take_rest, drop-append-le, take-append-le, length-drop, drop_more, get_or_default}
 use Rattle.std.proofs.lemmas.Bool.{cases_lt, cond-true, cond-false}
 use Rattle.tui_report.specs.declared.piece.Piece.{Piece}
-use Rattle.tui_report.specs.Pages.{size_of, lines_on}
+use Rattle.std.proofs.lemmas.List.Folds.{drop_split}
+use Rattle.tui_report.specs.Pages.{joined, size_of, lines_on}
+use Rattle.tui_report.specs.Starts.{pieces_before}
 use Rattle.tui_report.specs.Filling.{cut, pieces_from, fill, Draft, IsDraft, with_piece, pages_by, parts_of, EndAt}
 use Rattle.tui_report.proofs.Cutting.{cut_next, cut_done}
 use Rattle.tui_report.proofs.Turns.{fill_fits, fill_wide, le_test, gt_test}
@@ -190,15 +192,14 @@ part_at start last (stop ∷ ends) pieces (suc i) e h = part_at stop last ends p
 
 pub page_read : (ends ends' : List ℕ) (pieces pieces' part : List Piece) (view : List (List Piece)) (i start stop : ℕ)
     → parts_of 0 ends pieces ≡ view
-    → (last : ℕ) × EndAt 0 ends last × (last ≤ length pieces) → i < length view → ends' ≡ ends → pieces' ≡ pieces
+    → EndAt 0 ends (length pieces) → i < length view → ends' ≡ ends → pieces' ≡ pieces
     → start ≡ get_or (0 ∷ ends') i 0 → stop ≡ get_or ends i stop
     → (start ≤ stop) × (stop ≤ length pieces') × (part ≡ slice_range pieces' start stop → slice_get view i ≡ Some part)
 page_read ends ends' pieces pieces' part view i start stop v inv h e f a b =
     let n : i < length ends = omega (arith, ap length v, length-parts 0 ends pieces) in
-    let at = part_at 0 inv.0 ends pieces i inv.1 n in
+    let at = part_at 0 (length pieces) ends pieces i inv n in
     let le = at.0 in
     let within = at.1 in
-    let inside = inv.2 in
     let a' : start ≡ get_or (0 ∷ ends) i 0 = a ∙ ap (λ es. get_or (0 ∷ es) i 0) e in
     let b' : stop ≡ get_or ends i 0 = b ∙ get_or_default ends i stop 0 n in (
       omega arith,
@@ -207,6 +208,41 @@ page_read ends ends' pieces pieces' part view i start stop v inv h e f a b =
           ∙ ap (λ k. Some (slice_range pieces start k)) (sym b')
           ∙ ap (λ ps. Some (slice_range ps start stop)) (sym f) ∙ ap Some (sym is)),
     )
+
+-- the last page ended where the pieces do
+pub all_ended : (pieces : List Piece) (ends : List ℕ) (start used : ℕ) → IsDraft pieces ends start used → drop start pieces ≡ []
+    → EndAt 0 ends (length pieces)
+all_ended pieces ends start used d none =
+    let inside = d.inside in
+    let same : start ≡ length pieces = omega (arith, length-drop start pieces, ap length none) in
+    subst (EndAt 0 ends) same d.in_order
+
+-- all pages together are the pieces
+pub joined-parts : (start : ℕ) (ends : List ℕ) (pieces : List Piece) → EndAt start ends (length pieces)
+    → joined (parts_of start ends pieces) ≡ drop start pieces
+joined-parts start [] pieces e = sym (drop_past start pieces (omega (arith, e)))
+joined-parts start (stop ∷ ends) pieces e =
+    ap (λ ps. slice_range pieces start stop ++ ps) (joined-parts stop ends pieces e.1) ∙ sym (drop_split pieces start stop e.0)
+
+-- so many pieces stand before a page
+before_at : (start last : ℕ) (ends : List ℕ) (pieces : List Piece) (at : ℕ) → EndAt start ends last → last ≤ length pieces → at < length ends
+    → get_or (start ∷ ends) at 0 ≡ start + pieces_before (parts_of start ends pieces) at
+before_at start last [] pieces at e h n = absurd (omega arith)
+before_at start last (stop ∷ ends) pieces zero e h n = omega arith
+before_at start last (stop ∷ ends) pieces (suc at) e h n =
+    let le = e.0 in
+    let within = end_after stop last ends e.1 in
+    let part = slice_range pieces start stop in
+    let size : length part ≡ stop - start = omega (arith, length-take (stop - start) (drop start pieces), length-drop start pieces) in
+    let rest = before_at stop last ends pieces at e.1 h (omega arith) in
+    omega (arith, length-append part (joined (take at (parts_of stop ends pieces))))
+
+pub before_read : (ends ends' : List ℕ) (pieces : List Piece) (view : List (List Piece)) (at start : ℕ) → parts_of 0 ends pieces ≡ view
+    → EndAt 0 ends (length pieces) → at < length view → ends' ≡ ends → start ≡ get_or (0 ∷ ends') at 0 → start ≡ pieces_before view at
+before_read ends ends' pieces view at start v inv h e a =
+    let n : at < length ends = omega (arith, ap length v, length-parts 0 ends pieces) in
+    let there : get_or (0 ∷ ends) at 0 ≡ pieces_before (parts_of 0 ends pieces) at = omega (arith, before_at 0 (length pieces) ends pieces at inv (omega arith) n) in
+    a ∙ (ap (λ es. get_or (0 ∷ es) at 0) e ∙ (there ∙ ap (λ pages. pieces_before pages at) v))
 
 pub filled_ok : {E : Type 0} (result : Result (List (List Piece)) E) (room i : ℕ) (heights : List ℕ) (now : Draft) (pages : List (List Piece)) → length heights ≤ i
     → pages_by room now (pieces_from room i (drop i heights)) ≡ pages → IfOk result (λ r. r ≡ now.ended ++ now.current ∷ [])

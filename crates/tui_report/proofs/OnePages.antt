@@ -141,7 +141,7 @@ known_of heights room pages high some are =
 
 -- pages that are filled in turn
 
-fill_joined : (room : ℕ) (page ps : List Piece) → joined (fill room page ps) ≡ page ++ ps
+pub fill_joined : (room : ℕ) (page ps : List Piece) → joined (fill room page ps) ≡ page ++ ps
 unfolding fill
 fill_joined room page [] = refl
 fill_joined room page (p ∷ ps) =

@@ -1,7 +1,7 @@
 //! What stands on a page.
 
 ghost use Rattle.std.specs.List.{list_all};
-ghost use Rattle.std.specs.Prelude.{◌≡◌, ◌+◌, ◌-◌, ◌<◌, ◌≤◌, [], All, IfSome, None, OnOk, Some, length, map, option_map, slice_get, slice_index_or, true};
+ghost use Rattle.std.specs.Prelude.{◌≡◌, ◌+◌, ◌-◌, ◌<◌, ◌≤◌, ◌⊎◌, [], All, IfSome, None, OnOk, Some, length, map, slice_get, slice_index_or, true};
 ghost use Rattle.tui_cells.specs.Layers.{KeptOutside, Painted};
 ghost use Rattle.tui_cells.specs.Rect.{covers, intersection_of, rows_from};
 ghost use Rattle.tui_para.specs.Paragraph.{paragraph_data};
@@ -26,11 +26,11 @@ use crate::column::Column;
 use crate::measuring::cell_paragraph;
 use crate::piece::Piece;
 use crate::records::Record;
+use crate::shown::shown_part;
 use std::alloc::Global;
 use tui_cells::{Buffer, Mem, Position, Rect, Style, Widget};
 use tui_layout::Segment;
 use tui_para::Paragraph;
-use tui_places::first_part;
 use tui_text::{Text, set_stringn_in};
 
 /// The first row of the pieces, below the title and the names.
@@ -81,6 +81,7 @@ fn draw_from(
     area: Rect,
     buf: &mut Buffer,
 ) -> Mem<()>
+    requires wide { 0 < clip.width }
     requires goes_on { GoesOn clip.width line cell.now from.start }
     requires clip { clip ≡ intersection_of area buf.old.area }
     ensures ok { OnOk result (Painted (drawn_in buf.old.area area (cell_from line cell.now)) buf.old buf.new) }
@@ -89,15 +90,15 @@ fn draw_from(
     match cell.split_at_checked(from.start) {
         Some((_, rest)) => {
             let rows = usize::from(clip.height);
-            let shown = first_part(rest, clip.width, true, rows, from.near);
+            let shown = shown_part(rest, clip.width, rows, from.near);
             draw_cell(alloc, shown, 0, area, buf)
         }
         None => draw_in(alloc, &Paragraph::new(Text::new(alloc)), area, buf),
     }
 }
 
-/// The same, where the byte may be known from which the cell goes on with that line at a width: what stands before it is then not
-/// read.
+/// The same, where the byte may be known from which the cell goes on with that line at a width, as is the beginning of the first
+/// line: what stands before it is then not read.
 fn draw_rest(
     alloc: Global,
     cell: &str,
@@ -107,7 +108,7 @@ fn draw_rest(
     area: Rect,
     buf: &mut Buffer,
 ) -> Mem<()>
-    requires { IfSome from (λ r. 0 < width → GoesOn width line cell.now r.start) }
+    requires { IfSome from (λ r. (line ≡ 0) × (r.start ≡ 0) ⊎ (0 < width → GoesOn width line cell.now r.start)) }
     ensures ok { OnOk result (Painted (drawn_in buf.old.area area (cell_from line cell.now)) buf.old buf.new) }
     ensures kept { KeptOutside (covers area) buf.old buf.new }
 {
@@ -172,14 +173,20 @@ pub(crate) fn draw_names(
     Ok(())
 }
 
-/// From where the cell in a column goes on, where that is known.
-fn from_where(starts: &[usize], i: usize, columns: usize) -> Option<Resumed>
-    ensures { option_map (λ r. r.start) result ≡ slice_get starts.now i }
+/// From where the cell in a column goes on with a line, where that is known.
+fn from_where(starts: &[usize], line: u16, i: usize, columns: usize) -> Option<Resumed>
+    ensures { IfSome result (λ r. (line ≡ 0) × (r.start ≡ 0) ⊎ (0 < line) × (slice_get starts.now i ≡ Some r.start)) }
 {
-    let start = *starts.get(i)?;
+    let first = *starts.get(i)?;
+    if line == 0 {
+        return Some(Resumed {
+            start: 0,
+            near: first,
+        });
+    }
     Some(Resumed {
-        start,
-        near: next_start(starts, i, columns).saturating_sub(start),
+        start: first,
+        near: next_start(starts, i, columns).saturating_sub(first),
     })
 }
 
@@ -189,8 +196,8 @@ fn next_start(starts: &[usize], i: usize, columns: usize) -> usize {
     if next < starts.len() { starts[next] } else { 0 }
 }
 
-/// The cells of a record from one of its lines on, side by side. `starts` are the bytes from which they go on with it, as far as these
-/// are known, and behind them those from which the next page goes on.
+/// The cells of a record from one of its lines on, side by side. `starts` are the bytes from which they go on with it, if it is not the
+/// first and as far as these are known, and behind them those from which the next page goes on with the record.
 fn draw_cells(
     alloc: Global,
     entry: &Record<'_>,
@@ -200,7 +207,7 @@ fn draw_cells(
     rows: Rect,
     buf: &mut Buffer,
 ) -> Mem<()>
-    requires { RowStarts line places.now (cells_of entry.now) starts.now }
+    requires { 0 < line → RowStarts line places.now (cells_of entry.now) starts.now }
     ensures ok { OnOk result (Painted (cells_layers line buf.old.area rows places.now (cells_of entry.now)) buf.old buf.new) }
     ensures kept { KeptOutside (covers rows) buf.old buf.new }
 {
@@ -208,13 +215,13 @@ fn draw_cells(
     'cells: for i in 0..places.len().min(cells.len()) {
         let place = places[i];
         let area = rows.columns_from(place.start, place.width);
-        let from = from_where(starts, i, places.len());
+        let from = from_where(starts, line, i, places.len());
         draw_rest(alloc, cells[i], line, from, place.width, area, buf)?;
     }
     Ok(())
 }
 
-/// The pieces of a page, one below the other. `starts` are the bytes from which the cells of the first one go on, and so on page by page.
+/// The pieces of a page, one below the other. `starts` are those of the first one, and of the next page.
 pub(crate) fn draw_pieces(
     alloc: Global,
     pieces: &[Piece],
@@ -226,7 +233,7 @@ pub(crate) fn draw_pieces(
 ) -> Mem<()>
     requires drawable { All (IsDrawable (length records.now)) pieces.now }
     requires fit { lines_on pieces.now + 3 ≤ page.height }
-    requires starts { (p : Piece) → slice_get pieces.now 0 ≡ Some p
+    requires starts { (p : Piece) → slice_get pieces.now 0 ≡ Some p → 0 < p.from
         → RowStarts p.from places.now (slice_index_or (map cells_of records.now) p.place []) starts.now }
     ensures ok { OnOk result (Painted (pieces_layers buf.old.area page places.now (map cells_of records.now) 2 pieces.now) buf.old buf.new) }
     ensures kept { KeptOutside (covers (rows_from page 2 (page.height - 2))) buf.old buf.new }

@@ -11,6 +11,7 @@ pub mod piece;
 pub mod records;
 pub mod report;
 pub mod report_error;
+mod shown;
 mod starts;
 
 pub use column::Column;

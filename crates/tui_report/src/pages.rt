@@ -2,7 +2,8 @@
 
 ghost use Rattle.std.specs.Prelude.{◌≡◌, ◌<◌, ◌≤◌, ◌∷◌, List, length, slice_get, slice_index, slice_range, Some, All, IfOk};
 ghost use Rattle.tui_report.specs.Filling.{pages_of};
-ghost use Rattle.tui_report.specs.Pages.{ArePages, KeepWhole};
+ghost use Rattle.tui_report.specs.Pages.{ArePages, KeepWhole, joined};
+ghost use Rattle.tui_report.specs.Starts.{pieces_before};
 ghost use Rattle.tui_report.specs.declared.piece.Piece.{Piece};
 
 use crate::filling::Filling;
@@ -20,7 +21,7 @@ pub struct Pages {
 }
 
 impl Model for Pages {
-    ghost use Rattle.std.specs.Prelude.{◌≤◌, ℕ, List, length};
+    ghost use Rattle.std.specs.Prelude.{List, length};
     ghost use Rattle.tui_report.specs.Filling.{EndAt, parts_of};
     ghost use Rattle.tui_report.specs.declared.piece.Piece.{Piece};
 
@@ -28,7 +29,7 @@ impl Model for Pages {
 
     ghost view = { λ s. parts_of 0 s.ends.items s.pieces.items };
 
-    ghost invariant = { λ s. (last : ℕ) × EndAt 0 s.ends.items last × (last ≤ length s.pieces.items) };
+    ghost invariant = { λ s. EndAt 0 s.ends.items (length s.pieces.items) };
 }
 
 impl Pages {
@@ -63,6 +64,21 @@ impl Pages {
         let start = start_of(&self.ends, at);
         let end = self.ends[at];
         part(&self.pieces, start, end)
+    }
+
+    /// The pieces of all pages, one after another.
+    pub(crate) fn pieces(&self) -> &[Piece]
+        ensures { result.now ≡ joined self.now }
+    {
+        &self.pieces
+    }
+
+    /// How many pieces stand before a page.
+    pub(crate) fn pieces_before(&self, at: usize) -> usize
+        requires { at < length self.now }
+        ensures { result ≡ pieces_before self.now at }
+    {
+        start_of(&self.ends, at)
     }
 }
 

@@ -16,7 +16,7 @@ use crate::pages::Pages;
 use crate::piece::Piece;
 use crate::records::Record;
 use crate::report_error::ReportError;
-use crate::starts::{starts_from, starts_if_tall};
+use crate::starts::{starts, starts_from};
 use std::alloc::Global;
 use std::marker::Model;
 use tui_cells::{Buffer, Mem, Rect};
@@ -32,7 +32,7 @@ pub struct Report<'a> {
     places: Vec<Segment>,
     records: Vec<Record<'a>>,
     pages: Pages,
-    // The bytes from which the cells of each page's first piece go on, column by column; none where no record is taller than a page.
+    // The bytes from which the cells of each piece go on that goes on with a record, the first one of its page, column by column.
     starts: Vec<usize>,
 }
 
@@ -53,9 +53,10 @@ impl<'a> Drop for Report<'a> {
 }
 
 impl<'a> Model for Report<'a> {
-    ghost use Rattle.std.specs.Prelude.{map};
+    ghost use Rattle.std.specs.Prelude.{length, map};
+    ghost use Rattle.tui_report.specs.Pages.{joined};
     ghost use Rattle.tui_report.specs.Report.{IsReport, ReportData, column_data, cells_of};
-    ghost use Rattle.tui_report.specs.Starts.{HaveStarts};
+    ghost use Rattle.tui_report.specs.Starts.{HaveRows, going_on};
 
     ghost Value = { ReportData };
 
@@ -69,7 +70,7 @@ impl<'a> Model for Report<'a> {
     } };
 
     ghost invariant = { λ r. IsReport r.places.items r.width r.height (map column_data r.columns.items) (map cells_of r.records.items) r.pages
-        × HaveStarts r.places.items (map cells_of r.records.items) r.pages r.starts.items };
+        × HaveRows r.places.items (map cells_of r.records.items) (joined r.pages) (length (going_on (joined r.pages))) r.starts.items };
 }
 
 impl<'a> Report<'a> {
@@ -108,7 +109,7 @@ impl<'a> Report<'a> {
         }
         let room = usize::from(height) - 3;
         let pages = Pages::new(alloc, &heights, room)?;
-        let starts = starts_if_tall(alloc, &heights, room, &places, &records, &pages)?;
+        let starts = starts(alloc, &places, &records, pages.pieces())?;
         Ok(Report {
             width,
             height,
@@ -169,7 +170,9 @@ impl<'a> Report<'a> {
     {
         let page = Rect::new(0, 0, self.width, self.height);
         let pieces = self.pages.page(at);
-        let starts = starts_from(&self.starts, at, self.places.len());
+        let before = self.pages.pieces_before(at);
+        let columns = self.places.len();
+        let starts = starts_from(&self.starts, self.pages.pieces(), before, columns);
         draw_pieces(
             alloc,
             pieces,

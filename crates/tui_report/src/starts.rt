@@ -3,6 +3,7 @@
 ghost use Rattle.std.specs.Prelude.{
   ◌≡◌,
   ◌+◌,
+  ◌-◌,
   ◌<◌,
   ◌≤◌,
   ◌*◌,
@@ -11,24 +12,30 @@ ghost use Rattle.std.specs.Prelude.{
   ◌++◌,
   ℕ,
   List,
-  [],
   drop,
   length,
   map,
   IfOk,
-  IfSome,
-  None,
+  OnOk,
   Some,
   slice_get,
-  slice_index,
   option_map,
 };
 ghost use Rattle.std.specs.Str.{IsCharBoundary};
 ghost use Rattle.tui_report.specs.Report.{cells_of};
-ghost use Rattle.tui_report.specs.Starts.{GoesOn, HaveStarts, IsBegun, StartsAt, cell_at, cell_lines, first_piece};
+ghost use Rattle.tui_report.specs.Starts.{
+  ArePartFrom,
+  GoesOn,
+  HaveRows,
+  HaveStarts,
+  IsBegun,
+  IsLast,
+  StartsAt,
+  cell_at,
+  going_on,
+};
 ghost use Rattle.tui_report.specs.declared.piece.Piece.{Piece};
 
-use crate::pages::Pages;
 use crate::piece::Piece;
 use crate::records::Record;
 use std::alloc::Global;
@@ -62,13 +69,6 @@ fn moved_on(cell: &str, start: usize, width: u16, lines: usize) -> usize
     }
 }
 
-fn first_piece(pages: &Pages, at: usize) -> Option<Piece>
-    requires { at < length pages.now }
-    ensures { result ≡ first_piece pages.now at }
-{
-    pages.page(at).first().copied()
-}
-
 fn cell_at<'a>(records: &[Record<'a>], place: usize, i: usize) -> Option<&'a str>
     ensures { option_map (λ cell. cell.now) result ≡ cell_at (map cells_of records.now) place i }
 {
@@ -76,97 +76,150 @@ fn cell_at<'a>(records: &[Record<'a>], place: usize, i: usize) -> Option<&'a str
     entry.cells.as_slice().get(i).copied()
 }
 
-/// A place from which a piece's cell is reached: that of the page before, where that shows the same record, or else its beginning.
+/// A place from which a piece's cell is reached: that of the piece before, where that shows the same record, or else its beginning.
 /// Answers the byte and its line.
-fn place_before(piece: Piece, pages: &Pages, columns: usize, known: &[usize]) -> (usize, usize)
-    requires some { 0 < columns }
-    requires within { length known.now / columns < length pages.now }
+fn place_before(
+    piece: Piece,
+    before: Option<Piece>,
+    columns: usize,
+    known: &[usize],
+) -> (usize, usize)
+    requires { 0 < columns }
     ensures line { result.1 ≤ piece.from }
-    ensures place { IsBegun pages.now columns known.now piece.place result.0 result.1 }
+    ensures place { IsBegun before columns known.now piece.place result.0 result.1 }
 {
-    let at = known.len() / columns;
-    if at > 0 {
-        if let Some(before) = first_piece(pages, at - 1) {
-            if before.place == piece.place && before.from <= piece.from {
-                return (known[known.len() - columns], before.from);
-            }
+    if let Some(before) = before {
+        let is_behind = before.place == piece.place && before.from <= piece.from;
+        if is_behind && columns <= known.len() {
+            return (known[known.len() - columns], before.from);
         }
     }
     (0, 0)
 }
 
-/// Where the next cell goes on, behind those that are known: of the first piece of the page, in the column.
-fn next_start(places: &[Segment], records: &[Record<'_>], pages: &Pages, known: &[usize]) -> usize
-    requires some { 0 < length places.now }
-    requires within { length known.now / length places.now < length pages.now }
-    ensures { HaveStarts places.now (map cells_of records.now) pages.now known.now
-        → StartsAt places.now (map cells_of records.now) pages.now (length known.now / length places.now) (length known.now % length places.now) result }
+/// Where the next cell of a piece goes on, behind those that are known of it and of the pieces before.
+fn next_start(
+    places: &[Segment],
+    records: &[Record<'_>],
+    piece: Piece,
+    before: Option<Piece>,
+    known: &[usize],
+) -> usize
+    requires { 0 < length places.now }
+    ensures { (pieces : List Piece) → HaveStarts places.now (map cells_of records.now) pieces known.now
+        → IsLast pieces (length known.now / length places.now) before
+        → StartsAt places.now (map cells_of records.now) piece (length known.now % length places.now) result }
 {
     let i = known.len() % places.len();
     let width = places[i].width;
     if width == 0 {
         return NOWHERE;
     }
-    let Some(piece) = first_piece(pages, known.len() / places.len()) else {
-        return NOWHERE;
-    };
     let Some(cell) = cell_at(records, piece.place, i) else {
         return NOWHERE;
     };
-    let (start, line) = place_before(piece, pages, places.len(), known);
+    let (start, line) = place_before(piece, before, places.len(), known);
     moved_on(cell, start, width, piece.from - line)
 }
 
-/// Where each cell of the first piece of each page goes on, page by page and column by column.
-fn starts(
+/// Adds where each cell of a piece goes on, column by column, behind what is known of the pieces before.
+fn add_row(
+    places: &[Segment],
+    records: &[Record<'_>],
+    piece: Piece,
+    before: Option<Piece>,
+    starts: &mut Vec<usize>,
+) -> Mem<()>
+    ensures { OnOk result ((pieces : List Piece) (count : ℕ) → slice_get (going_on pieces) count ≡ Some piece
+        → IsLast pieces count before → HaveRows places.now (map cells_of records.now) pieces count starts.old.items
+        → HaveRows places.now (map cells_of records.now) pieces (count + 1) starts.new.items) }
+{
+    'columns: for _column in 0..places.len() {
+        let start = next_start(places, records, piece, before, starts);
+        starts.push(start)?;
+    }
+    Ok(())
+}
+
+/// How many pieces go on with a record. No clause: it decides only how much memory is taken at once.
+fn count_going_on(pieces: &[Piece]) -> usize {
+    pieces.iter().filter(|piece| piece.from > 0).count()
+}
+
+/// Where each cell of each piece goes on that goes on with a record, piece by piece and column by column.
+pub(crate) fn starts(
     alloc: Global,
     places: &[Segment],
     records: &[Record<'_>],
-    pages: &Pages,
+    pieces: &[Piece],
 ) -> Mem<Vec<usize>>
-    ensures { IfOk result (λ starts. HaveStarts places.now (map cells_of records.now) pages.now starts.items) }
+    ensures { IfOk result (λ starts. HaveRows places.now (map cells_of records.now) pieces.now (length (going_on pieces.now)) starts.items) }
 {
-    let count = places.len().saturating_mul(pages.page_count());
+    let count = places.len().saturating_mul(count_going_on(pieces));
     let mut starts = Vec::with_capacity(alloc, count)?;
-    'starts: for _start in 0..count {
-        let start = next_start(places, records, pages, &starts);
-        starts.push(start)?;
+    let mut before = None;
+    'pieces: for at in 0..pieces.len() {
+        let piece = pieces[at];
+        if piece.from == 0 {
+            continue;
+        }
+        add_row(places, records, piece, before, &mut starts)?;
+        before = Some(piece);
     }
     Ok(starts)
 }
 
-/// The same where a record is taller than a page, and else none.
-pub(crate) fn starts_if_tall(
-    alloc: Global,
-    heights: &[usize],
-    room: usize,
-    places: &[Segment],
-    records: &[Record<'_>],
-    pages: &Pages,
-) -> Mem<Vec<usize>>
-    ensures { IfOk result (λ starts. HaveStarts places.now (map cells_of records.now) pages.now starts.items) }
+/// How many pieces go on before this one, which so many stand before: all but the first of each record up to its own.
+fn row_of(piece: Piece, before: usize) -> usize
+    ensures { 0 < piece.from → result ≡ before - (piece.place + 1) }
 {
-    if is_any_taller(heights, room) {
-        starts(alloc, places, records, pages)
+    let count = before.saturating_sub(piece.place);
+    if piece.from > 0 {
+        count.saturating_sub(1)
     } else {
-        Ok(Vec::new(alloc))
+        count
     }
 }
 
-// No clause: it decides only whether places are kept.
-fn is_any_taller(heights: &[usize], room: usize) -> bool {
-    heights.iter().any(|height| *height > room)
+/// How many pieces go on up to this one, and with the next one if that shows the same record. No clause: it decides only how much of
+/// the record is read.
+fn end_of(piece: Piece, before: usize, next: Option<&Piece>) -> usize {
+    let count = before.saturating_sub(piece.place);
+    match next {
+        Some(next) if next.place == piece.place => count.saturating_add(1),
+        _ => count,
+    }
 }
 
-/// Those from a page on, or none where they are not known.
-pub(crate) fn starts_from(starts: &[usize], at: usize, columns: usize) -> &[usize]
-    ensures { (i : ℕ) → i < length result.now
-        → (at * columns + i < length starts.now) × (slice_index result.now i ≡ slice_index starts.now (at * columns + i)) }
+/// The rows from one to the one before another, as far as they are there.
+fn rows(starts: &[usize], from: usize, to: usize, columns: usize) -> &[usize]
+    ensures { ArePartFrom (from * columns) starts.now result.now }
 {
-    let from = at.saturating_mul(columns);
-    if from < starts.len() {
-        &starts[from..]
+    let first = from.saturating_mul(columns);
+    let end = to.saturating_mul(columns).min(starts.len());
+    if first < end {
+        &starts[first..end]
     } else {
         &[]
     }
+}
+
+/// Where the cells of a piece go on, which so many stand before, if it goes on with its record, and behind that where those of the next
+/// one do, if that goes on with the same one.
+pub(crate) fn starts_from<'a>(
+    starts: &'a [usize],
+    pieces: &[Piece],
+    before: usize,
+    columns: usize,
+) -> &'a [usize]
+    ensures { (piece : Piece) → slice_get pieces.now before ≡ Some piece → 0 < piece.from
+        → ArePartFrom ((before - (piece.place + 1)) * columns) starts.now result.now }
+{
+    let Some(piece) = pieces.get(before).copied() else {
+        return &[];
+    };
+    let next = pieces.get(before.saturating_add(1));
+    let from = row_of(piece, before);
+    let to = end_of(piece, before, next);
+    rows(starts, from, to, columns)
 }

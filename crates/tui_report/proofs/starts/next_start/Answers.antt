@@ -4,10 +4,10 @@ use Rattle.tui_report.proofs.Known.{next_starts, no_width}
 use Rattle.tui_report.proofs.starts.next_start.Goals as goal
 
 pub returns-then-width-eq0 : goal.returns-then-width-eq0
-returns-then-width-eq0 c = λ have.
-    no_width c.args.places.now (map cells_of c.args.records.now) c.args.pages.now c.args.known.now _ _ c.if-width-eq0.true
+returns-then-width-eq0 c = λ pieces have last.
+    no_width c.args.places.now (map cells_of c.args.records.now) pieces c.args.known.now c.args.piece _ _ c.if-width-eq0.true
 
 pub returns : goal.returns
-returns c = λ have.
-    next_starts c.args.places.now (map cells_of c.args.records.now) c.args.pages.now c.args.known.now c.in-Some.piece c.in-Some-cell_at.cell.now
-    _ _ _ c.moved_on.result c.requires.some have (sym c.in-Some.ensures) (sym c.in-Some-cell_at.ensures) c.moved_on.ensures.begins c.place_before-start.ensures.line c.place_before-start.ensures.place c.moved_on.ensures.further
+returns c = λ pieces have last.
+    next_starts c.args.places.now (map cells_of c.args.records.now) pieces c.args.known.now c.args.piece c.args.before c.in-Some.cell.now
+    _ _ _ c.moved_on.result c.requires have last (sym c.in-Some.ensures) c.moved_on.ensures.begins c.place_before-start.ensures.line c.place_before-start.ensures.place c.moved_on.ensures.further

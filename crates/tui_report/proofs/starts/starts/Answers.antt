@@ -1,12 +1,24 @@
-use Rattle.std.proofs.Common.{[], ◌∷◌, arith, ap, length, map}
-use Rattle.std.proofs.lemmas.List.{length-append}
+use Rattle.std.proofs.Common.{◌≡◌, ◌<◌, ◌+◌, ◌-◌, ◌∙◌, ap, arith, get_or, length, map, subst, sym, take}
+use Rattle.std.specs.Prelude.{slice_get}
 use Rattle.tui_report.specs.Report.{cells_of}
-use Rattle.tui_report.proofs.Known.{have_more}
+use Rattle.tui_report.specs.Starts.{HaveRows, going_on}
+use Rattle.tui_report.specs.declared.piece.Piece.{Piece}
+use Rattle.tui_report.proofs.GoingOn.{next_going, one_more}
 use Rattle.tui_report.proofs.starts.starts.Goals as goal
 
-pub starts-preserved : goal.starts-preserved
-starts-preserved c = record {
-  known = have_more c.args.places.now (map cells_of c.args.records.now) c.args.pages.now c.starts.starts.items c.deref.result.now c.push.new.self.items
-      c.next_start-start.result c.starts.invariant.known c.deref.ensures.value c.next_start-start.ensures c.in_ok-push.ensures.items;
-  count = omega (arith, ap length c.in_ok-push.ensures.items, length-append c.starts.starts.items (c.next_start-start.result ∷ []), c.starts.invariant.count);
-}
+pub pieces-preserved : goal.pieces-preserved
+pieces-preserved c =
+    let ps = c.args.pieces.now in
+    let at = c.pieces.at in
+    let d : Piece = record { place = 0; from = 0; to = 0 } in
+    let h : at < length ps = c.pieces-test.true in
+    let on : 0 < (get_or ps at d).from = omega (arith, c.if-piece-eq0.false) in
+    let next = next_going ps at d h on in
+    let more = one_more ps at d h on in
+    let count = length (going_on (take at ps)) in
+    let one : length (going_on (take (at + 1) ps)) - 1 ≡ count = omega arith in
+    record {
+      rows = subst (λ n. HaveRows c.args.places.now (map cells_of c.args.records.now) ps n c.add_row.new.starts.items) (sym more)
+          (c.in_ok-add_row.ensures ps count next c.pieces.invariant.last c.pieces.invariant.rows);
+      last = λ b e. ap (slice_get (going_on ps)) one ∙ (next ∙ e);
+    }

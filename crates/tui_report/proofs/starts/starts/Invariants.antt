@@ -1,10 +1,10 @@
-use Rattle.std.proofs.Common.{◌≡◌, length, map}
+use Rattle.std.proofs.Common.{◌≡◌, length, map, take}
 use Rattle.tui_report.specs.Report.{cells_of}
-use Rattle.tui_report.specs.Starts.{HaveStarts}
+use Rattle.tui_report.specs.Starts.{HaveRows, IsLast, going_on}
 use Rattle.tui_report.proofs.starts.starts.Given as goal
 
-abbrev pub invariant-starts : goal.invariant-starts
-invariant-starts l = record {
-  known : HaveStarts l.places (map cells_of l.records) l.pages l.starts.items;
-  count : length l.starts.items ≡ l._start;
+abbrev pub invariant-pieces : goal.invariant-pieces
+invariant-pieces l = record {
+  rows : HaveRows l.places (map cells_of l.records) l.pieces (length (going_on (take l.at l.pieces))) l.starts.items;
+  last : IsLast l.pieces (length (going_on (take l.at l.pieces))) l.before;
 }

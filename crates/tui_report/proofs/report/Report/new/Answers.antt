@@ -1,4 +1,4 @@
-use Rattle.std.proofs.Common.{◌∙◌, ap, arith, map, refl, rules}
+use Rattle.std.proofs.Common.{◌∙◌, ap, arith, map, rules}
 use Rattle.tui_report.specs.Report.{column_data, places_of}
 use Rattle.tui_report.proofs.Known.{have_read}
 use Rattle.tui_report.proofs.Made.{counted_heights, made, made_fewest, made_is, made_kept, measured, too_tall}
@@ -24,7 +24,8 @@ invariant_of-result c =
       made_kept c.args.width c.args.height _ _ _ _ (omega arith) (omega arith)
           (c.in_ok-places.ensures ∙ ap (λ cs. places_of c.args.width (map column_data cs)) c.deref.ensures.value)
           (made c.args.width c.args.height _ _ _ _ _ (omega arith) c.from-room.ensures m c.in_ok-pages.ensures.pages),
-      have_read _ c.deref-7.result.now _ c.deref-8.result.now _ _ _ c.deref-7.ensures.value c.deref-8.ensures.value refl c.in_ok-starts.ensures,
+      have_read _ c.deref-6.result.now _ c.deref-7.result.now _ c.pieces.result.now _ c.deref-6.ensures.value c.deref-7.ensures.value c.pieces.ensures
+          c.in_ok-starts.ensures,
     )
 
 pub returns : goal.returns
