@@ -1,5 +1,6 @@
 pub mod Equality
 pub mod Gathering
+pub mod Lines
 pub mod Outside
 pub mod RowLemmas
 pub mod RunLemmas

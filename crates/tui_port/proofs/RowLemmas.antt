@@ -1,6 +1,6 @@
 -- Rows of the print.
 use Rattle.std.proofs.Common.{◌≡◌, ℕ, ◌+◌, ◌-◌, ◌<◌, ◌≤◌, List, [], ◌∷◌, ◌++◌, length, get_or, take, slice_index_or, flat_map, refl, ap, sym, ◌∙◌, add-one, min, append_assoc, slice_set, arith, rules, false, true}
-use Rattle.std.proofs.lemmas.List.{append-nil, take_more_set}
+use Rattle.std.proofs.lemmas.List.{append-nil, length-set, take_more_set}
 use Rattle.std.proofs.lemmas.Grind.{flat_map-append}
 use Rattle.std.proofs.lemmas.List.Concat.{flat_map-cons}
 use Rattle.std.proofs.Math.Seq.{take-suc}
@@ -34,6 +34,43 @@ pub plain_more : (row piece text : List ℕ) (n b : ℕ) (rest : List ℕ) → n
     text ≡ take (n + 1) (slice_set piece n b) ++ rest
 plain_more row piece text n b rest lt before is =
     rw (take_more_set piece n b lt) (before ∙ (ap (λ (l : List ℕ). take n piece ++ l) is ∙ sym (append_assoc (take n piece) (b ∷ []) rest)))
+
+-- a symbol of one column
+pub row_narrow : (row : List Look) (i : ℕ) (bytes : List ℕ) (c : Look) → i < length row → c ≡ get_or row i c → c.symbol ≡ bytes → step_of bytes ≡ 1 →
+    symbols_from row i ≡ bytes ++ symbols_from row (i + 1)
+row_narrow row i bytes c lt e is one =
+    let step : step_of c.symbol ≡ 1 = rw is one in
+    row_step row i 1 c lt e (omega (arith, step, lt)) ∙ ap (λ (l : List ℕ). l ++ symbols_from row (i + 1)) is
+
+-- and three of its bytes are copied
+pub three_more : (row piece text symbol rest : List ℕ) (at next : ℕ) → length symbol ≡ 3 → at + 3 ≤ length piece → next ≡ at + 3 →
+    text ≡ take at piece ++ row → row ≡ symbol ++ rest →
+    text ≡ take next (slice_set (slice_set (slice_set piece at (slice_index_or symbol 0 0)) (at + 1) (slice_index_or symbol 1 0)) (at + 2) (slice_index_or symbol 2 0)) ++ rest
+three_more row piece text [] rest at next len room is before tail = absurd (omega (arith, len))
+three_more row piece text (a ∷ []) rest at next len room is before tail = absurd (omega (arith, len))
+three_more row piece text (a ∷ b ∷ []) rest at next len room is before tail = absurd (omega (arith, len))
+three_more row piece text (a ∷ b ∷ c ∷ d ∷ s) rest at next len room is before tail = absurd (omega (arith, len))
+three_more row piece text (a ∷ b ∷ c ∷ []) rest at next len room is before tail =
+    let one = plain_more row piece text at a (b ∷ c ∷ rest) (omega arith) before tail in
+    let second : at + 1 < length (slice_set piece at a) = omega (arith, length-set piece at a) in
+    let two = plain_more (b ∷ c ∷ rest) (slice_set piece at a) text (at + 1) b (c ∷ rest) second one refl in
+    let third : at + 2 < length (slice_set (slice_set piece at a) (at + 1) b) = omega (arith, length-set piece at a, length-set (slice_set piece at a) (at + 1) b) in
+    let there : at + 1 + 1 ≡ at + 2 = omega arith in
+    let end : at + 2 + 1 ≡ next = omega arith in
+    rw end at (plain_more (c ∷ rest) (slice_set (slice_set piece at a) (at + 1) b) text (at + 2) c rest third (rw there at two) refl)
+
+-- a text of three bytes
+pub three_bytes : (s t : List ℕ) → length s ≡ 3 → length t ≡ 3 → slice_index_or s 0 0 ≡ slice_index_or t 0 0 → slice_index_or s 1 0 ≡ slice_index_or t 1 0 →
+    slice_index_or s 2 0 ≡ slice_index_or t 2 0 → s ≡ t
+three_bytes (a ∷ b ∷ c ∷ []) (x ∷ y ∷ z ∷ []) m n e f g = λ i. e i ∷ f i ∷ g i ∷ []
+three_bytes [] t m n e f g = absurd (omega (arith, m))
+three_bytes (a ∷ []) t m n e f g = absurd (omega (arith, m))
+three_bytes (a ∷ b ∷ []) t m n e f g = absurd (omega (arith, m))
+three_bytes (a ∷ b ∷ c ∷ d ∷ s) t m n e f g = absurd (omega (arith, m))
+three_bytes (a ∷ b ∷ c ∷ []) [] m n e f g = absurd (omega (arith, n))
+three_bytes (a ∷ b ∷ c ∷ []) (x ∷ []) m n e f g = absurd (omega (arith, n))
+three_bytes (a ∷ b ∷ c ∷ []) (x ∷ y ∷ []) m n e f g = absurd (omega (arith, n))
+three_bytes (a ∷ b ∷ c ∷ []) (x ∷ y ∷ z ∷ w ∷ t) m n e f g = absurd (omega (arith, n))
 
 pub row_end : (row : List Look) (i : ℕ) → length row ≤ i → symbols_from row i ≡ []
 row_end row i le = ap symbols_of (none_visible row i i le)

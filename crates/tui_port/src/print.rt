@@ -5,6 +5,7 @@ ghost use Rattle.tui_port.specs.Causes.{Puts};
 ghost use Rattle.tui_port.specs.Gathers.{Gathers};
 ghost use Rattle.tui_port.specs.Print.{AreRunLines, IsPrint, place_text, row_line, state_lines};
 
+mod line;
 mod rows;
 mod runs;
 mod states;

@@ -1,8 +1,9 @@
 //! Reading a source to its end.
 
-ghost use Rattle.std.specs.Prelude.{◌≡◌, ◌≢◌, ◌≤◌, Err, length, IfOk, IsErrOf};
+ghost use Rattle.std.specs.Prelude.{◌≡◌, ◌≢◌, ◌≤◌, ◌+◌, Err, length, IfOk, IsErrOf};
 ghost use Rattle.std.specs.Io.KnownBytes.{Consumes, IsAtEnd};
 ghost use Rattle.tui_port.specs.Causes.{Gave, Rose};
+ghost use Rattle.tui_port.specs.Limits.{chunk, limit};
 ghost use Rattle.tui_port.specs.declared.read.ReadEnd.TheVariants.{NoMemory};
 
 use crate::source::Source;
@@ -13,10 +14,6 @@ pub const LIMIT: usize = 1_048_576;
 
 /// How many bytes are read at a time, at most.
 pub const CHUNK: usize = 8192;
-
-const _: () = prove!(LIMIT == 1_048_576);
-
-const _: () = prove!(LIMIT + CHUNK == 1_056_768);
 
 /// Why an input was not read to its end.
 #[derive(Clone, Copy, Debug, PartialEq, Eq)]
@@ -42,15 +39,15 @@ impl From<AllocError> for ReadEnd {
 pub fn read_all<S: Source>(alloc: Global, source: &mut S) -> Result<Vec<u8>, ReadEnd>
     ensures ok { IfOk result (λ v. Consumes (S.told source.old).bytes (S.told source.new).bytes v.items
         × IsAtEnd (S.told source.new).bytes
-        × (length v.items ≤ 1048576)) }
+        × (length v.items ≤ limit)) }
 
     // What the source gave else: a byte past the limit at `TooLong` alone, all of it in one read.
     ensures too_long { IsErrOf result ReadEnd.TooLong →
-        Gave (S.told source.old).bytes (S.told source.new).bytes 1048577 1056768 }
+        Gave (S.told source.old).bytes (S.told source.new).bytes (limit + 1) (limit + chunk) }
     ensures read_fault { IsErrOf result ReadEnd.ReadFault →
-        Gave (S.told source.old).bytes (S.told source.new).bytes 0 1048576 }
+        Gave (S.told source.old).bytes (S.told source.new).bytes 0 limit }
     ensures no_memory { IsErrOf result ReadEnd.NoMemory →
-        Gave (S.told source.old).bytes (S.told source.new).bytes 0 1048576 }
+        Gave (S.told source.old).bytes (S.told source.new).bytes 0 limit }
 
     // The count of faults: `ReadFault` has its cause, and every other ending leaves the count.
     ensures cause { IsErrOf result ReadEnd.ReadFault → Rose (S.told source.old).faults (S.told source.new).faults }

@@ -5,6 +5,7 @@ use Rattle.std.proofs.lemmas.List.{append-nil, length-append}
 use Rattle.std.specs.Io.KnownBytes.{Consumes, IsAtEnd}
 use Rattle.serde_json.specs.Data.{Data}
 use Rattle.tui_port.specs.Causes.{Rose}
+use Rattle.tui_port.specs.Limits.{limit}
 use Rattle.tui_run.specs.Call.{Call, ReadJson, ReadWhole}
 use Rattle.tui_run.specs.Complete.{AreJson, CallFor, IsCompleteBy, IsCompleteReading, IsCompleteTelling}
 use Rattle.tui_run.specs.Endings.{EndsBy, EndsReading, EndsTelling}
@@ -29,7 +30,7 @@ whole_is call bytes xs e w = is_all bytes xs call.source_then.bytes (rw e at w.t
 json_of : (call : Call) (bytes xs : List ℕ) (d : Data) → call.source.bytes ≡ Some bytes → ReadJson call xs d → AreJson bytes d
 json_of call bytes xs d e json =
     let same = whole_is call bytes xs e json.whole in
-    record { within = subst (λ (b : List ℕ). length b ≤ 1048576) same json.whole.within; utf8 = subst IsUtf8 same json.utf8; json = rw same at json.json }
+    record { within = subst (λ (b : List ℕ). length b ≤ limit) same json.whole.within; utf8 = subst IsUtf8 same json.utf8; json = rw same at json.json }
 
 -- a run without faults that had its memory ends as the bytes call for
 called : {R : Type 0} (r : Reading R) (call : Call) (e : Ending R) → EndsReading r call e →
@@ -47,7 +48,7 @@ called r call (ending.Written written.TooLong) h quiet writes some bytes left =
 called r call (ending.Written written.NotJson) h quiet writes some bytes left =
     let w = h.1.0 in
     let same = whole_is call bytes w.0 left w.1 in
-    (subst (λ (b : List ℕ). length b ≤ 1048576) same w.1.within, λ utf8. rw same at (w.2 (subst IsUtf8 (sym same) utf8)))
+    (subst (λ (b : List ℕ). length b ≤ limit) same w.1.within, λ utf8. rw same at (w.2 (subst IsUtf8 (sym same) utf8)))
 called r call (ending.Written written.Usage) h quiet writes some bytes left = absurd h.1.3
 called r call (ending.Broken broken.NoMemory) h quiet writes some bytes left = absurd (some refl)
 called r call (ending.Broken broken.ReadFault) h quiet writes some bytes left = absurd (quiet h.2)

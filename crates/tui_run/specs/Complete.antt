@@ -4,6 +4,7 @@ use Rattle.std.specs.declared.alloc.Global.{Global}
 use Rattle.serde_json.specs.Data.{Data}
 use Rattle.serde_json.specs.Read.{read}
 use Rattle.tui_port.specs.Causes.{Rose}
+use Rattle.tui_port.specs.Limits.{limit}
 use Rattle.tui_run.specs.Call.{Call}
 use Rattle.tui_run.specs.Endings.{NameNone}
 use Rattle.tui_run.specs.Rules.{Reading, Rules, Task, reads, tells}
@@ -14,14 +15,14 @@ use Rattle.tui_run.specs.declared.written.Written.TheVariants as written
 
 -- bytes within the limit that are JSON for this value
 pub record AreJson (bytes : List ℕ) (value : Data) : Type 0 where
-  pub within : length bytes ≤ 1048576
+  pub within : length bytes ≤ limit
   pub utf8 : IsUtf8 bytes
   pub json : read bytes ≡ Some value
 
 -- the ending that the bytes of a source call for
 abbrev pub CallFor : {R : Type 0} → Reading R → List ℕ → Ending R → Type 0
-CallFor r bytes (ending.Written written.TooLong) = 1048576 < length bytes
-CallFor r bytes (ending.Written written.NotJson) = (length bytes ≤ 1048576) × (IsUtf8 bytes → read bytes ≡ None)
+CallFor r bytes (ending.Written written.TooLong) = limit < length bytes
+CallFor r bytes (ending.Written written.NotJson) = (length bytes ≤ limit) × (IsUtf8 bytes → read bytes ≡ None)
 CallFor r bytes (ending.Written (written.Refused x)) = (d : Data) × AreJson bytes d × (r.input_of d ≡ Err x)
 CallFor r bytes (ending.Written written.Output) = (d : Data) × AreJson bytes d × ((input : r.Input) × (r.input_of d ≡ Ok input))
 CallFor r bytes e = ⊥

@@ -1,8 +1,9 @@
 //! The rows of the print.
 
-ghost use Rattle.std.specs.Prelude.{◌≡◌, ◌+◌, ◌++◌, ◌<◌, ◌≤◌, ℕ, List, flat_map, length, take};
+ghost use Rattle.std.specs.Prelude.{◌≡◌, ◌+◌, ◌++◌, ◌*◌, ◌<◌, ◌≤◌, ℕ, List, IsTrue, flat_map, length, take};
 ghost use Rattle.tui_port.specs.Gathers.{Gathers};
 ghost use Rattle.tui_port.specs.Print.{row_line, symbols_from};
+ghost use Rattle.tui_text.specs.Visible.{step_of};
 
 use crate::print::Print;
 use crate::print::steps::{Steps, plain_byte};
@@ -18,8 +19,8 @@ pub(crate) fn put_rows<K: Sink>(print: &mut Print, buf: &Buffer, sink: &mut K)
     }
 }
 
-/// How many printable bytes are copied at once.
-const PIECE: usize = 64;
+/// How many bytes are copied at once.
+const PIECE: usize = 192;
 
 fn put_row<K: Sink>(print: &mut Print, row: &[Cell], sink: &mut K)
     ensures { Gathers (K.told sink.old) (K.told sink.new) print.old print.new (row_line row.now) }
@@ -34,7 +35,7 @@ fn put_row<K: Sink>(print: &mut Print, row: &[Cell], sink: &mut K)
     print.push(sink, b'\n');
 }
 
-// Adds the printable bytes from a column on, else its symbol, and answers the next column that shows.
+// Adds the printable bytes from a column on, else its symbol as often as it goes on, and answers the next column that shows.
 #[inline]
 fn put_next<'r, K: Sink>(
     print: &mut Print,
@@ -50,13 +51,98 @@ fn put_next<'r, K: Sink>(
         × Gathers (K.told sink.old) (K.told sink.new) print.old print.new text }
 {
     let plain = copy_plain(row, column, piece);
-    if plain > 0 {
+    if plain == 1 {
+        print.push(sink, piece[0]);
+        return column + 1;
+    }
+    if plain > 1 {
         print.extend(sink, &piece[..plain]);
         return column + plain;
     }
     let symbol = row[column].symbol();
-    print.extend(sink, symbol.as_bytes());
-    column + steps.step(symbol).min(row.len() - column)
+    let step = steps.step(symbol);
+    put_symbol(print, symbol, sink);
+    let next = column + step.min(row.len() - column);
+    if step == 1 {
+        return put_same(print, row, next, symbol, piece, sink);
+    }
+    next
+}
+
+// Most symbols have two or three bytes, and a copy of a known length needs no call.
+#[inline]
+fn put_symbol<K: Sink>(print: &mut Print, symbol: &str, sink: &mut K)
+    ensures { Gathers (K.told sink.old) (K.told sink.new) print.old print.new symbol.now }
+{
+    let bytes = symbol.as_bytes();
+    if let Some(three) = bytes.as_array::<3>() {
+        print.extend(sink, three);
+    } else if let Some(two) = bytes.as_array::<2>() {
+        print.extend(sink, two);
+    } else {
+        print.extend(sink, bytes);
+    }
+}
+
+// Adds a symbol of one column as long as the cells from a column on have it, and answers the column behind them. One of other
+// than three bytes is left to `put_next`.
+#[inline]
+fn put_same<K: Sink>(
+    print: &mut Print,
+    row: &[Cell],
+    from: usize,
+    symbol: &str,
+    piece: &mut [u8; PIECE],
+    sink: &mut K,
+) -> usize
+    requires within { from ≤ length row.now }
+    requires narrow { step_of symbol.now ≡ 1 }
+    ensures within { (from ≤ result) × (result ≤ length row.now) }
+    ensures put { (text : List ℕ) × (symbols_from row.now from ≡ text ++ symbols_from row.now result)
+        × Gathers (K.told sink.old) (K.told sink.new) print.old print.new text }
+{
+    let Some(bytes) = symbol.as_bytes().as_array::<3>() else {
+        return from;
+    };
+    if from == row.len() || !is_text(row[from].symbol(), *bytes) {
+        return from;
+    }
+    let count = copy_same(row, from, *bytes, piece);
+    print.extend(sink, &piece[..3 * count]);
+    from + count
+}
+
+// Copies a symbol of one column as long as the cells from a column on have it, and answers how many there are.
+fn copy_same(row: &[Cell], from: usize, symbol: [u8; 3], piece: &mut [u8; PIECE]) -> usize
+    requires within { from ≤ length row.now }
+    requires narrow { step_of symbol ≡ 1 }
+    ensures within { (3 * result ≤ PIECE) × (from + result ≤ length row.now) }
+    ensures copied { symbols_from row.now from ≡ take (3 * result) piece.new ++ symbols_from row.now (from + result) }
+{
+    let most = (row.len() - from).min(PIECE / 3);
+    let mut count = 0;
+    while count < most {
+        if !is_text(row[from + count].symbol(), symbol) {
+            return count;
+        }
+        let at = 3 * count;
+        piece[at] = symbol[0];
+        piece[at + 1] = symbol[1];
+        piece[at + 2] = symbol[2];
+        count += 1;
+    }
+    count
+}
+
+// Byte by byte, since a comparison of texts is a call.
+#[inline]
+fn is_text(symbol: &str, bytes: [u8; 3]) -> bool
+    ensures { IsTrue result → symbol.now ≡ bytes }
+{
+    match symbol.as_bytes() {
+        [a, b, c] if *a == bytes[0] && *b == bytes[1] && *c == bytes[2] => true,
+        _ => false,
+    }
 }
 
 // Copies the symbols from a column on as long as each is one printable byte, and answers how many there are.

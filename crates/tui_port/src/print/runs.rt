@@ -7,7 +7,7 @@ ghost use Rattle.tui_port.specs.Print.{AreRunLines, run_line};
 ghost use Rattle.tui_port.specs.Runs.{AreStyleRuns, StyleRun, at_rest, attributes_at};
 
 use crate::print::Print;
-use crate::print::words::{put_color, put_number};
+use crate::print::line::Line;
 use crate::sink::Sink;
 use tui_cells::{Attributes, Buffer, Cell, Color};
 
@@ -49,12 +49,28 @@ fn attributes_in(row: &[Cell], column: usize) -> Attributes
 
 // The first column from `start` on whose cell has other attributes, or the end of the row.
 fn run_end(row: &[Cell], start: usize, attributes: Attributes) -> usize
-    requires { start ≤ length row.now }
+    requires within { start < length row.now }
+    requires first { attributes_at row.now start ≡ Some attributes }
     ensures within { (start ≤ result) × (result ≤ length row.now) }
     ensures alike { (x : ℕ) → start ≤ x → x < result → attributes_at row.now x ≡ Some attributes }
     ensures other { attributes_at row.now result ≢ Some attributes }
 {
-    'columns: for column in start..row.len() {
+    // Most cells are at rest, and those compare with constants.
+    if is_same(attributes, Attributes::at_rest()) {
+        return same_end(row, start, Attributes::at_rest());
+    }
+    same_end(row, start, attributes)
+}
+
+#[inline]
+fn same_end(row: &[Cell], start: usize, attributes: Attributes) -> usize
+    requires within { start < length row.now }
+    requires first { attributes_at row.now start ≡ Some attributes }
+    ensures within { (start ≤ result) × (result ≤ length row.now) }
+    ensures alike { (x : ℕ) → start ≤ x → x < result → attributes_at row.now x ≡ Some attributes }
+    ensures other { attributes_at row.now result ≢ Some attributes }
+{
+    'columns: for column in start + 1..row.len() {
         if !is_same(attributes_in(row, column), attributes) {
             return column;
         }
@@ -107,17 +123,13 @@ fn put_run_line<K: Sink>(
     ensures { Gathers (K.told sink.old) (K.told sink.new) print.old print.new
         (run_line number (record { start = start; len = len; attributes = attributes })) }
 {
-    print.extend(sink, b"s ");
-    put_number(print, number, sink);
-    print.push(sink, b' ');
-    put_number(print, start, sink);
-    print.push(sink, b' ');
-    put_number(print, len, sink);
-    print.push(sink, b' ');
-    put_color(print, attributes.fg, sink);
-    print.push(sink, b' ');
-    put_color(print, attributes.bg, sink);
-    print.push(sink, b' ');
-    put_number(print, attributes.modifier.bits() as usize, sink);
-    print.push(sink, b'\n');
+    let mut line = Line::new();
+    line.extend(b"s ");
+    line.number(number, b' ');
+    line.number(start, b' ');
+    line.number(len, b' ');
+    line.color(attributes.fg);
+    line.color(attributes.bg);
+    line.number(attributes.modifier.bits() as usize, b'\n');
+    print.extend(sink, line.bytes());
 }

@@ -1,10 +1,18 @@
-use Rattle.tui_port.specs.Print.{run_line}
-use Rattle.tui_port.proofs.Gathering.{Gathers-then}
+use Rattle.std.proofs.Common.{◌≡◌, codes, decimal}
+use Rattle.tui_cells.specs.ColorText.{color_text}
+use Rattle.tui_port.specs.Print.{newline, run_line}
+use Rattle.tui_port.specs.Runs.{StyleRun}
+use Rattle.tui_port.proofs.Lines.{words_of_line}
 use Rattle.tui_port.proofs.print.runs.put_run_line.Goals as goal
 
 pub returns : goal.returns
 unfolding run_line
 returns g c =
-    Gathers-then c.extend.ensures (Gathers-then c.put_number.ensures (Gathers-then c.push.ensures (Gathers-then c.put_number-2.ensures
-    (Gathers-then c.push-2.ensures (Gathers-then c.put_number-3.ensures (Gathers-then c.push-3.ensures (Gathers-then c.put_color.ensures
-    (Gathers-then c.push-4.ensures (Gathers-then c.put_color-2.ensures (Gathers-then c.push-5.ensures (Gathers-then (rw c.bits.ensures at c.put_number-4.ensures) c.push-6.ensures)))))))))))
+    let run : StyleRun = record { start = c.args.start; len = c.args.len; attributes = c.args.attributes } in
+    let last = rw c.bits.ensures at c.number-4.ensures.text in
+    let line : c.number-4.new.self ≡ run_line c.args.number run =
+    words_of_line c.new-line.result c.extend.new.self c.number.new.self c.number-2.new.self c.number-3.new.self c.color.new.self c.color-2.new.self c.number-4.new.self
+    (codes "s ") (codes " ") (decimal c.args.number) (decimal c.args.start) (decimal c.args.len) (color_text c.args.attributes.fg) (color_text c.args.attributes.bg)
+    (decimal c.args.attributes.modifier.bits) newline
+    c.new-line.ensures c.extend.ensures.text c.number.ensures.text c.number-2.ensures.text c.number-3.ensures.text c.color.ensures.text c.color-2.ensures.text last in
+    rw (c.bytes.ensures, line) at c.extend-2.ensures
