@@ -50,7 +50,7 @@ pub(crate) fn char_symbol(c: char) -> ArrayString<SHORT>
 
 /// A character of one byte.
 #[inline]
-fn byte_symbol(byte: u8) -> ArrayString<SHORT>
+pub(crate) fn byte_symbol(byte: u8) -> ArrayString<SHORT>
     requires { byte < 128 }
     ensures { result.bytes ≡ byte ∷ [] }
 {
