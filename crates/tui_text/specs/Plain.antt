@@ -2,6 +2,7 @@
 use Rattle.std.specs.Prelude.{
   ◌≡◌,
   ℕ,
+  ◌<◌,
   ◌≤◌,
   Bool,
   true,
@@ -14,14 +15,18 @@ use Rattle.std.specs.Prelude.{
   [],
   ◌∷◌,
   ◌++◌,
+  length,
+  slice_index,
   take,
   drop,
   encode_utf8,
   encode_utf8_all,
   chars,
 }
+use Rattle.std.specs.List.{list_all}
 use Rattle.std.specs.Str.{IsCharBoundary}
 use Rattle.tui_text.specs.Grapheme.{has_control}
+use Rattle.tui_text.specs.Part.{is_printable}
 use Rattle.ucd_table.specs.Rows.{Range, in_ranges}
 use Rattle.unicode_segmentation.specs.Grapheme.{graphemes}
 
@@ -88,6 +93,13 @@ plain_len b =
     else if nat_le 0xE4 b && nat_le b 0xE9 then 3
     else if (nat_le 0xC3 b && nat_le b 0xCB) || (nat_le 0xCE b && nat_le b 0xD1) then 2
     else 0
+
+-- the text begins with n printable bytes, each of which is a cluster by itself: past the last one the text ends, or a byte tells
+-- that a plain character begins
+pub record IsRun (text : List ℕ) (n : ℕ) : Type 0 where
+  pub within : n ≤ length text
+  pub printable : list_all is_printable (take n text) ≡ true
+  pub apart : 0 < n → n < length text → 0 < plain_len (slice_index text n)
 
 -- the first cluster of the text has n bytes, and is shown
 pub record IsPlainFirst (text : List ℕ) (n : ℕ) : Type 0 where

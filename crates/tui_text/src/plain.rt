@@ -2,7 +2,9 @@
 
 ghost use Rattle.std.specs.Prelude.{◌≡◌, ◌<◌, ◌≤◌, ◌&&◌, nat_le, [], ◌∷◌, ◌++◌, chars, length, encode_utf8, IfSome, IsTrue};
 ghost use Rattle.std.specs.Str.{IsUtf8};
-ghost use Rattle.tui_text.specs.Plain.{is_plain, plain_len, IsIdeograph, IsLetter, IsPlainChar, IsPlainFirst};
+ghost use Rattle.tui_text.specs.Plain.{is_plain, plain_len, IsIdeograph, IsLetter, IsPlainChar, IsPlainFirst, IsRun};
+
+use crate::printable::printable_len;
 
 /// Whether the character is a plain one.
 #[inline]
@@ -79,6 +81,21 @@ pub(crate) fn quick_len(text: &str) -> usize
         return len;
     }
     if plain_len(bytes[len]) > 0 { len } else { 0 }
+}
+
+/// How many printable bytes a text begins with, `room` at most, each of them a cluster by itself.
+#[inline]
+pub(crate) fn run_len(text: &str, room: usize) -> usize
+    ensures run { IsRun text.now result }
+    ensures room { result ≤ room }
+{
+    let bytes = text.as_bytes();
+    let end = printable_len(bytes, room);
+    if end < bytes.len() && plain_len(bytes[end]) == 0 {
+        end.saturating_sub(1)
+    } else {
+        end
+    }
 }
 
 /// A text's first character, and the text behind it.

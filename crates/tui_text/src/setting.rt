@@ -1,11 +1,12 @@
 //! Texts set from a position on.
 
-ghost use Rattle.std.specs.Prelude.{◌≡◌, ◌+◌, ◌≤◌, [], ◌∷◌, All, IfOk, IsOk, OnOk, map, true};
+ghost use Rattle.std.specs.Prelude.{◌≡◌, ◌+◌, ◌-◌, ◌≤◌, [], ◌∷◌, All, IfOk, IsOk, OnOk, length, map, true};
+ghost use Rattle.tui_cells.specs.Buffer.{Screen};
 ghost use Rattle.tui_cells.specs.Cell.{IsLight};
 ghost use Rattle.tui_cells.specs.Layers.{KeptOutside, Painted};
 ghost use Rattle.tui_cells.specs.Rect.{covers, intersection_of, right_of};
 ghost use Rattle.tui_text.specs.Grapheme.{width_of};
-ghost use Rattle.tui_text.specs.Graphemes.{clusters};
+ghost use Rattle.tui_text.specs.Graphemes.{clusters, clusters_left};
 ghost use Rattle.tui_text.specs.Line.{line_data};
 ghost use Rattle.tui_text.specs.Painting.{cells_at};
 ghost use Rattle.tui_text.specs.Span.{span_data};
@@ -51,6 +52,29 @@ fn put_cluster(buf: &mut Buffer, x: u16, y: u16, text: &str, style: Style, width
     put_glyph(buf, x, y, &grapheme, width)
 }
 
+/// Sets the printable bytes that come next, as many as the room takes, and answers how many these are.
+#[inline]
+fn set_run(
+    buf: &mut Buffer,
+    at: Position,
+    room: u16,
+    clusters: &mut Clusters<'_>,
+    style: Style,
+) -> u16
+    requires { at.x + room ≤ 65535 }
+    ensures rest { (final : Screen) → Painted (set_clusters (at.x + result) at.y (room - result) style (clusters_left clusters.new)) buf.new final
+        → Painted (set_clusters at.x at.y room style (clusters_left clusters.old)) buf.old final }
+    ensures end { set_end (at.x + result) (room - result) (clusters_left clusters.new) ≡ set_end at.x room (clusters_left clusters.old) }
+    ensures within { result ≤ room }
+    ensures kept { KeptOutside (covers (cells_at at.x at.y room)) buf.old buf.new }
+    ensures light { All IsLight (clusters_left clusters.old) → All IsLight (clusters_left clusters.new) }
+    ensures fewer { length (clusters_left clusters.new) ≤ length (clusters_left clusters.old) }
+{
+    let run = clusters.next_run(room as usize);
+    buf.set_ascii(at, run, style);
+    run.len() as u16
+}
+
 /// Sets graphemes in a room of columns, and answers the column after the last one used.
 fn set_clusters(buf: &mut Buffer, at: Position, room: u16, text: &str, style: Style) -> Mem<u16>
     requires { at.x + room ≤ 65535 }
@@ -60,9 +84,16 @@ fn set_clusters(buf: &mut Buffer, at: Position, room: u16, text: &str, style: St
     ensures kept { KeptOutside (covers (cells_at at.x at.y room)) buf.old buf.new }
     ensures light { All IsLight (clusters text.now) → IsOk result }
 {
+    let mut clusters = Clusters::new(text);
     let mut x = at.x;
     let mut left = room;
-    for cluster in Clusters::new(text) {
+    'clusters: loop {
+        let run = set_run(buf, Position { x, y: at.y }, left, &mut clusters, style);
+        x += run;
+        left -= run;
+        let Some(cluster) = clusters.next() else {
+            return Ok(x);
+        };
         let width = cell_width(cluster);
         if width > left {
             return Ok(x);
@@ -71,7 +102,6 @@ fn set_clusters(buf: &mut Buffer, at: Position, room: u16, text: &str, style: St
         x += width;
         left -= width;
     }
-    Ok(x)
 }
 
 /// Sets the spans of a line one after another, each in what is left of the room.
