@@ -10,13 +10,13 @@ use Rattle.tui_cells.specs.declared.rect.Rect.{Rect}
 use Rattle.tui_cells.specs.declared.style.Style.{Style}
 use Rattle.tui_cells.specs.Buffer.{IsScreen, Screen, cell_at, look_at}
 use Rattle.tui_cells.specs.Cell.{Edit, IsAtRest, Look, blank, dress, dressed, edited, put}
-use Rattle.tui_cells.specs.Keeping.{IsRow}
+use Rattle.tui_cells.specs.Keeping.{IsRow, row_cells}
 use Rattle.tui_cells.specs.Layers.{Painted, StayIn, ascii_layers, at_place, edits, in_row, layers_at}
 use Rattle.tui_cells.specs.Rect.{bottom_of, covers, right_of}
 use Rattle.tui_cells.specs.Spelt.{RowSpelt}
 use Rattle.tui_cells.specs.Style.{no_style}
 use Rattle.tui_cells.proofs.Dressing.{undressed}
-use Rattle.tui_cells.proofs.Making.{kept_row}
+use Rattle.tui_cells.proofs.Making.{kept_row, made}
 use Rattle.tui_cells.proofs.Painting.{Painted-inside, Painted-none}
 
 -- a style that sets nothing may be set after the bytes
@@ -45,6 +45,11 @@ pub spelt_row : (width room : ℕ) (styled : Bool) (from to : ℕ) (text : List 
     (length old ≡ width) × (styled ≡ false → All IsAtRest old) → RowSpelt from to text [] old new → IsRow width room styled new
 spelt_row width room styled from to text old new is k =
     kept_row width room styled new (k.len ∙ is.0) (λ unstyled. spelt_rest from to text old new k (is.1 unstyled))
+
+-- cells that are made are those of the row
+pub spelt_made : (width : ℕ) {from to : ℕ} {text : List ℕ} {after : List Edit} {old new : List Look} → length old ≡ width →
+    RowSpelt from to text after old new → RowSpelt from to text after (row_cells width old) (row_cells width new)
+spelt_made width {old = old} {new = new} len k = rw (made width old len) (rw (made width new (k.len ∙ len)) k)
 
 -- a cell of a row in which a text stands from a column on
 abbrev pub spelt_cell : ℕ → ℕ → Style → List ℕ → ℕ → ℕ → Look → Look

@@ -55,7 +55,8 @@ pub(crate) fn byte_symbol(byte: u8) -> ArrayString<SHORT>
     ensures { result.bytes ≡ byte ∷ [] }
 {
     let mut symbol = ArrayString::new();
-    symbol.push(byte as char);
+    // The remainder is the byte; it tells the compiler that the character has one byte.
+    symbol.push((byte % 128) as char);
     symbol
 }
 

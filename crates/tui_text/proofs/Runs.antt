@@ -11,7 +11,7 @@ use Rattle.tui_cells.specs.Buffer.{Screen, look_at}
 use Rattle.tui_cells.specs.Cell.{IsLight, Look, dress, edited, put, wipe}
 use Rattle.tui_cells.specs.Layers.{KeptOutside, Layer, Painted, ascii_layers, at_place, layers_at, over}
 use Rattle.tui_cells.specs.Rect.{covers}
-use Rattle.tui_cells.proofs.Painting.{Painted-inside, Painted-then, layers_at-append}
+use Rattle.tui_cells.proofs.Painting.{Painted-inside, Painted-none, Painted-then, layers_at-append}
 use Rattle.tui_cells.proofs.Spelling.{ascii_stays}
 use Rattle.tui_text.specs.Grapheme.{width_of}
 use Rattle.tui_text.specs.Graphemes.{clusters, one_byte}
@@ -19,6 +19,7 @@ use Rattle.tui_text.specs.Painting.{cells_at}
 use Rattle.tui_text.specs.Part.{is_printable}
 use Rattle.tui_text.specs.Plain.{IsPlainFirst, IsRun, plain_len}
 use Rattle.tui_text.specs.Setting.{set_cluster, set_clusters, set_end}
+use Rattle.tui_text.proofs.EmptyText.{clusters-nil}
 use Rattle.tui_text.proofs.LightTexts.{printable_ascii}
 use Rattle.tui_text.proofs.OneByte.{printable_width}
 use Rattle.tui_text.proofs.QuickParts.{quick_alone, quick_before, shown-first}
@@ -158,3 +159,13 @@ light_behind run cs all e light = behind run (subst (λ ts. All IsLight ts) e li
 
 pub fewer_behind : (run : List ℕ) (cs all : List (List ℕ)) → all ≡ map one_byte run ++ cs → length cs ≤ length all
 fewer_behind run cs all e = omega (arith, ap length e, length-append (map one_byte run) cs)
+
+-- no byte, and no cluster
+pub none_spelt : (x y : ℕ) (style : Style) (run : List ℕ) (b : Screen) → length run ≡ 0 → Painted (ascii_layers x y style run) b b
+unfolding ascii_layers
+none_spelt x y style [] b e = Painted-none b
+none_spelt x y style (r ∷ rs) b e = absurd (omega (arith, e))
+
+pub clusters-none : (text : List ℕ) → length text ≡ 0 → clusters text ≡ []
+clusters-none [] e = clusters-nil
+clusters-none (b ∷ bs) e = absurd (omega (arith, e))

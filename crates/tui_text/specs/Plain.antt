@@ -9,6 +9,7 @@ use Rattle.std.specs.Prelude.{
   false,
   ◌&&◌,
   ◌||◌,
+  ◌==◌,
   nat_le,
   if◌then◌else◌,
   List,
@@ -84,6 +85,20 @@ pub record IsLetter (text : List ℕ) : Type 0 where
   pub char : ℕ
   pub is : chars text ≡ char ∷ []
   pub within : in_ranges letter_ranges char ≡ true
+
+-- the text is one sign of lines, blocks or shapes: U+2500 to U+25BF
+abbrev pub sign_ranges : List Range
+sign_ranges = (0x2500, 0x25BF) ∷ []
+
+pub record IsSign (text : List ℕ) : Type 0 where
+  pub char : ℕ
+  pub is : chars text ≡ char ∷ []
+  pub low : 0x2500 ≤ char
+  pub high : char ≤ 0x25BF
+
+-- whether two bytes tell that they begin one
+abbrev pub is_sign_start : ℕ → ℕ → Bool
+is_sign_start first second = (first == 0xE2) && (nat_le 0x94 second && nat_le second 0x96)
 
 -- of a character's first byte: how many bytes the character has, where that byte tells a plain one, and else 0. It tells U+0020 to
 -- U+007E, U+00C0 to U+02FF, U+0380 to U+047F, and U+4000 to U+9FFF

@@ -1,47 +1,45 @@
-use Rattle.std.proofs.Common.{All, sym, subst, ◌∙◌, arith}
-use Rattle.std.proofs.lemmas.List.Elements.{All-tail}
-use Rattle.tui_cells.specs.Cell.{IsLight}
+use Rattle.std.proofs.Common.{◌≡◌, ◌∙◌, arith, length, refl, rules, sym}
 use Rattle.tui_cells.proofs.Painting.{KeptOutside-then}
-use Rattle.tui_text.proofs.Settings.{end_more, end_none, end_stop, kept_in, set_more, set_none, set_stop}
+use Rattle.tui_text.proofs.Elements.{if_ok, on_ok}
+use Rattle.tui_text.proofs.LightTexts.{printable_ascii}
+use Rattle.tui_text.proofs.Runs.{clusters-none, end_spelt, kept_spelt, light_behind, set_spelt}
+use Rattle.tui_text.proofs.Settings.{end_none, kept_in, set_none}
 use Rattle.tui_text.proofs.setting.set_clusters.Goals as goal
 
-pub returns-in_default-clause-ok : goal.returns-in_default-clause-ok
-returns-in_default-clause-ok c =
-    let ended = rw c.in_default.is at c.next.ensures.steps in
-    c.clusters.invariant.rest _ (c.set_run-run.ensures.rest _ (set_none _ _ _ _ _ _ ended.0))
+pub set_bytes-requires : goal.set_bytes-requires
+set_bytes-requires c = printable_ascii c.split_run.result.0.now c.split_run.ensures.printable
 
-pub returns-in_default-clause-end : goal.returns-in_default-clause-end
-returns-in_default-clause-end c =
-    let ended = rw c.in_default.is at c.next.ensures.steps in
-    sym (end_none _ _ _ ended.0) ∙ (c.set_run-run.ensures.end ∙ c.clusters.invariant.end)
+pub returns-then-is_empty-clause-ok : goal.returns-then-is_empty-clause-ok
+returns-then-is_empty-clause-ok c =
+    let none : length c.split_run.result.1.now ≡ 0 = grind (arith, c.is_empty.ensures) in
+    set_spelt c.args.at.x c.args.at.y c.args.room (length c.split_run.result.0.now) c.args.style c.split_run.result.0.now _ _ _ _ _
+    c.split_run.ensures.clusters c.split_run.ensures.printable (search rules) refl c.set_bytes.ensures
+    (set_none _ _ _ _ _ _ (clusters-none c.split_run.result.1.now none))
 
-pub returns-then-width-left-clause-ok : goal.returns-then-width-left-clause-ok
-returns-then-width-left-clause-ok c =
-    c.clusters.invariant.rest _ (c.set_run-run.ensures.rest _
-    (set_stop _ _ _ _ _ _ _ _ c.in-Some.ensures.steps (rw c.cell_width-width.ensures at c.if-width-left.true)))
+pub returns-then-is_empty-clause-end : goal.returns-then-is_empty-clause-end
+returns-then-is_empty-clause-end c =
+    let none : length c.split_run.result.1.now ≡ 0 = grind (arith, c.is_empty.ensures) in
+    sym (end_none _ _ _ (clusters-none c.split_run.result.1.now none))
+    ∙ end_spelt c.args.at.x c.args.room _ c.split_run.result.0.now _ _ c.split_run.ensures.clusters c.split_run.ensures.printable (search rules) (search rules)
 
-pub returns-then-width-left-clause-end : goal.returns-then-width-left-clause-end
-returns-then-width-left-clause-end c =
-    sym (end_stop _ _ _ _ _ c.in-Some.ensures.steps (rw c.cell_width-width.ensures at c.if-width-left.true))
-    ∙ (c.set_run-run.ensures.end ∙ c.clusters.invariant.end)
+pub returns-then-is_empty-clause-kept : goal.returns-then-is_empty-clause-kept
+returns-then-is_empty-clause-kept c =
+    kept_spelt c.args.at.x c.args.at.y c.args.room c.args.style c.split_run.result.0.now _ _ (search rules) c.set_bytes.ensures
 
-pub clusters-preserved : goal.clusters-preserved
-clusters-preserved c =
-    let wide = c.cell_width-width.ensures in
-    let room = c.if-width-left.false in
-    let run = c.set_run-run.ensures.within in
-    let columns = c.clusters.invariant.columns in
-    let left = c.clusters.invariant.left in
-    let steps = c.in-Some.ensures.steps in
-    record {
-      columns = omega (arith, columns, room, run);
-      left = omega (arith, left);
-      end = end_more _ _ _ _ _ _ _ steps (omega (arith, wide, room)) (omega (arith, wide)) (omega (arith, wide))
-          ∙ (c.set_run-run.ensures.end ∙ c.clusters.invariant.end);
-      rest = λ final q. c.clusters.invariant.rest final (c.set_run-run.ensures.rest final
-          (set_more _ _ _ _ _ _ _ _ _ _ _ final steps (omega (arith, wide, room)) (omega (arith, wide)) (omega (arith, wide)) c.in_ok-put_cluster.ensures.ok q));
-      light = λ all. All-tail IsLight _ _ (subst (λ cs. All IsLight cs) steps (c.set_run-run.ensures.light (c.clusters.invariant.light all)));
-      kept = KeptOutside-then (KeptOutside-then c.clusters.invariant.kept
-          (kept_in c.args.at.x _ _ c.args.room _ _ _ (omega (arith, columns, left)) (omega (arith, columns)) c.set_run-run.ensures.kept))
-          (kept_in c.args.at.x _ _ c.args.room _ _ _ (omega (arith, columns, left)) (omega (arith, columns, room, run)) c.in_ok-put_cluster.ensures.kept);
-    }
+pub returns-clause-ok : goal.returns-clause-ok
+returns-clause-ok c = on_ok c.set_others.result
+    (λ p. set_spelt c.args.at.x c.args.at.y c.args.room _ c.args.style c.split_run.result.0.now _ _ _ _ _
+    c.split_run.ensures.clusters c.split_run.ensures.printable (search rules) (search rules) c.set_bytes.ensures p) c.set_others.ensures.ok
+
+pub returns-clause-end : goal.returns-clause-end
+returns-clause-end c = if_ok c.set_others.result
+    (λ x p. p ∙ end_spelt c.args.at.x c.args.room _ c.split_run.result.0.now _ _ c.split_run.ensures.clusters c.split_run.ensures.printable (search rules) (search rules))
+    c.set_others.ensures.end
+
+pub returns-clause-kept : goal.returns-clause-kept
+returns-clause-kept c = KeptOutside-then
+    (kept_spelt c.args.at.x c.args.at.y c.args.room c.args.style c.split_run.result.0.now _ _ (search rules) c.set_bytes.ensures)
+    (kept_in c.args.at.x _ _ c.args.room _ _ _ (omega arith) (search (rules, arith)) c.set_others.ensures.kept)
+
+pub returns-clause-light : goal.returns-clause-light
+returns-clause-light c = λ all. c.set_others.ensures.light (light_behind c.split_run.result.0.now _ _ c.split_run.ensures.clusters all)
