@@ -8,7 +8,7 @@ use Rattle.tui_cells.specs.Layers.{Painted, stroke}
 use Rattle.tui_cells.specs.Style.{no_style}
 
 -- a style that sets nothing leaves a cell as it is
-undressed : (s : Style) (c : Look) → s ≡ no_style → dressed s c ≡ c
+pub undressed : (s : Style) (c : Look) → s ≡ no_style → dressed s c ≡ c
 undressed s c e = ap (λ t. dressed t c) e ∙ ap (λ m. record { symbol = c.symbol; fg = c.fg; bg = c.bg; modifier = m })
     (xor_zero_r (bit_or (bit_or c.modifier 0) 0) ∙ (or_zero_r (bit_or c.modifier 0) ∙ or_zero_r c.modifier))
 

@@ -5,3 +5,4 @@ pub mod Charts
 pub mod Joining
 pub mod Showing
 pub mod Making
+pub mod Spelling

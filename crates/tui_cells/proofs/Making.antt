@@ -70,16 +70,20 @@ pub made_row : {width room : ℕ} {styled : Bool} {cells made : List Look} → I
 made_row {width = width} {cells = cells} is e =
     (ap length e ∙ is.wide, λ unstyled. subst (λ all. All IsAtRest all) (sym e) (made_rest width cells (is.rest unstyled)))
 
+-- a row whose cells are all made
+pub kept_row : (width room : ℕ) (styled : Bool) (cells : List Look) → length cells ≡ width → (styled ≡ false → All IsAtRest cells) →
+    IsRow width room styled cells
+kept_row width room styled cells len rest = record {
+  wide = ap length (made width cells len) ∙ len;
+  unmade = λ none. elim (cases_lt 0 width) [
+    | inl lt ↦ absurd (omega (arith, lt, ap length none, len))
+    | inr le ↦ omega (arith, le)
+  ];
+  rest = rest;
+}
+
 -- a row after a change that sets no style
 pub plain_row : (width room : ℕ) (styled : Bool) (from to : ℕ) (edit : Edit) (old new : List Look) → ((d : Look) → IsAtRest d → IsAtRest (edited edit d)) →
     (length old ≡ width) × (styled ≡ false → All IsAtRest old) → RowEdited from to edit old new → IsRow width room styled new
 plain_row width room styled from to edit old new keeps is k =
-    let len : length new ≡ width = k.len ∙ is.0 in
-    record {
-      wide = ap length (made width new len) ∙ len;
-      unmade = λ none. elim (cases_lt 0 width) [
-        | inl lt ↦ absurd (omega (arith, lt, ap length none, len))
-        | inr le ↦ omega (arith, le)
-      ];
-      rest = λ unstyled. rest_kept from to edit old new keeps k (is.1 unstyled);
-    }
+    kept_row width room styled new (k.len ∙ is.0) (λ unstyled. rest_kept from to edit old new keeps k (is.1 unstyled))

@@ -109,6 +109,19 @@ Painted-within R S es a b p e = record {
     at_place x y true is = ap Some (same_place R S es x y (R x y) refl (e x y is) (look_at a x y))
     at_place x y false is = refl
 
+-- strokes that do the same at each place of the buffer
+pub Painted-inside : {ls ms : List Layer} {a b : Screen} →
+    ((x y : ℕ) → covers a.area x y ≡ true → (c : Look) → layers_at ls x y c ≡ layers_at ms x y c) → Painted ls a b → Painted ms a b
+Painted-inside {ls = ls} {ms = ms} {a = a} e p = record {
+  area = p.area;
+  cells = λ x y. p.cells x y ∙ at_place x y (covers a.area x y) refl;
+}
+  where
+    at_place : (x y : ℕ) (here : Bool) → covers a.area x y ≡ here →
+        option_map (layers_at ls x y) (if here then Some (look_at a x y) else None) ≡ option_map (layers_at ms x y) (if here then Some (look_at a x y) else None)
+    at_place x y true is = ap Some (e x y is (look_at a x y))
+    at_place x y false is = refl
+
 pub KeptOutside-weaker : {R S : ℕ → ℕ → Bool} {a b : Screen} → ((x y : ℕ) → S x y ≡ false → R x y ≡ false) → KeptOutside R a b → KeptOutside S a b
 KeptOutside-weaker e p = record { area = p.area; cells = λ x y out. p.cells x y (e x y out) }
 

@@ -12,6 +12,7 @@ pub mod Keeping
 pub mod ColorText
 pub mod Text
 pub mod Layers
+pub mod Spelt
 pub mod Stays
 pub mod Drawing
 pub mod Symbols

@@ -50,12 +50,13 @@ pub(crate) fn char_symbol(c: char) -> ArrayString<SHORT>
 
 /// A character of one byte.
 #[inline]
-fn byte_symbol(byte: u8) -> ArrayString<SHORT>
+pub(crate) fn byte_symbol(byte: u8) -> ArrayString<SHORT>
     requires { byte < 128 }
     ensures { result.bytes ≡ byte ∷ [] }
 {
     let mut symbol = ArrayString::new();
-    symbol.push(byte as char);
+    // The remainder is the byte; it tells the compiler that the character has one byte.
+    symbol.push((byte % 128) as char);
     symbol
 }
 

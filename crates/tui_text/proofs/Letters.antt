@@ -32,18 +32,18 @@ narrow : (c : ℕ) → narrow_at c ≡ true
 unfolding tables kind_number_stepped narrow_stepped
 narrow = Stepped-everywhere narrow_at narrow_stepped refl
 
-inside : (p q : Bool) → (not p || q) ≡ true → p ≡ true → q ≡ true
+pub inside : (p q : Bool) → (not p || q) ≡ true → p ≡ true → q ≡ true
 inside true q h e = h
 inside false q h e = cc
 
-number_from : (n m : ℕ) → (n == m) ≡ true → n ≡ m
+pub number_from : (n m : ℕ) → (n == m) ≡ true → n ≡ m
 number_from n m h = grind (arith, nat_tests)
 
-alone_narrow : (c : ℕ) → kind c ≡ kinds.Narrow → (alone false c).0 ≡ 1
+pub alone_narrow : (c : ℕ) → kind c ≡ kinds.Narrow → (alone false c).0 ≡ 1
 unfolding alone
 alone_narrow c e = rw e refl
 
-alone_ambiguous : (c : ℕ) → kind c ≡ kinds.Ambiguous → (alone false c).0 ≡ 1
+pub alone_ambiguous : (c : ℕ) → kind c ≡ kinds.Ambiguous → (alone false c).0 ≡ 1
 unfolding alone
 alone_ambiguous c e = rw e refl
 

@@ -15,6 +15,8 @@ pub mod RowStays
 pub mod RowStrokes
 pub mod SetStays
 pub mod Settings
+pub mod Runs
+pub mod Signs
 pub mod TextRows
 pub mod Elements
 pub mod Computing

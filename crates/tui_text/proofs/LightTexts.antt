@@ -24,7 +24,7 @@ below_128 b e = grind (arith, nat_tests)
 printable_range : (b : ℕ) → is_printable b ≡ true → (32 ≤ b) × (b ≤ 126)
 printable_range b e = (grind (arith, nat_tests), grind (arith, nat_tests))
 
-printable_ascii : (text : List ℕ) → list_all is_printable text ≡ true → IsAscii text
+pub printable_ascii : (text : List ℕ) → list_all is_printable text ≡ true → IsAscii text
 printable_ascii [] e i = omega arith
 printable_ascii (b ∷ bs) e zero = below_128 b (and_parts (is_printable b) _ e).0
 printable_ascii (b ∷ bs) e (suc i) = printable_ascii bs (and_parts (is_printable b) _ e).1 i

@@ -93,3 +93,9 @@ shown-plain none left text part rest e f parts p =
     ∙ (ap (filter is_shown) (parts ∙ ap (λ cs. cs ++ graphemes true rest) (graphemes-plain part p))
     ∙ (cond-true (is_shown part) (part ∷ filter is_shown (graphemes true rest)) (filter is_shown (graphemes true rest)) shown
     ∙ ap (λ cs. part ∷ filter is_shown (cs ++ graphemes true rest)) (sym f)))
+
+-- a text of one plain character is one cluster
+pub lone_cluster : (text : List ℕ) → IsPlainChar text → filter is_shown (graphemes true text) ≡ text ∷ []
+lone_cluster text p =
+    let shown : is_shown text ≡ true = ap not (plain_shown text p) in
+    ap (filter is_shown) (graphemes-plain text p) ∙ cond-true (is_shown text) (text ∷ []) [] shown

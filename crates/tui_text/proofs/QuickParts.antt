@@ -1,5 +1,5 @@
 -- A plain character that its first byte tells, before another one or at the text's end.
-use Rattle.std.proofs.Common.{◌≡◌, ℕ, ◌+◌, ◌/◌, ◌<◌, ◌≤◌, true, ◌&&◌, ◌||◌, nat_le, List, [], ◌∷◌, ◌++◌, filter, length, length-append, length-drop, take, drop, take_at, get_or, get_or-drop, append-nil, ⊎_elim, not, refl, sym, ap, subst, ◌∙◌, arith}
+use Rattle.std.proofs.Common.{◌≡◌, ℕ, ◌+◌, ◌/◌, ◌<◌, ◌≤◌, Bool, true, ◌&&◌, ◌||◌, nat_le, List, [], ◌∷◌, ◌++◌, filter, length, length-append, length-drop, take, drop, take_at, get_or, get_or-drop, append-nil, ⊎_elim, not, refl, sym, ap, subst, ◌∙◌, arith}
 use lib.Utf8.{encode}
 use Rattle.std.specs.Prelude.{encode_utf8_all}
 use Rattle.std.specs.Str.{IsUtf8, IsCharBoundary}
@@ -9,11 +9,12 @@ use Rattle.std.proofs.lemmas.Str.{IsUtf8-drop, IsUtf8-take, IsCharBoundary-end}
 use Rattle.ucd_table.specs.Rows.{in_ranges}
 use Rattle.unicode_segmentation.specs.Grapheme.{graphemes}
 use Rattle.tui_text.specs.Graphemes.{is_shown}
-use Rattle.tui_text.specs.Plain.{is_plain, plain_len, IsPlainChar, IsPlainFirst, IsPlainSeam}
+use Rattle.tui_text.specs.Plain.{is_plain, is_sign_start, plain_len, IsPlainChar, IsPlainFirst, IsPlainSeam}
 use Rattle.tui_text.proofs.Leads.{first_four, first_one, first_three, first_two}
 use Rattle.tui_text.proofs.LoneChars.{chars-one}
 use Rattle.tui_text.proofs.PlainChars.{graphemes-plain, is_plain-printable, plain_shown}
 use Rattle.tui_text.proofs.PlainParts.{graphemes-plain_part}
+use Rattle.tui_text.proofs.Signs.{first_sign, plain_sign}
 
 -- the byte b, which tells that it begins a plain character, by the length of that
 one_byte : (b : ℕ) → b < 128 → 0 < plain_len b → (plain_len b ≡ 1) × (32 ≤ b) × (b ≤ 126)
@@ -143,12 +144,12 @@ module _ (text : List ℕ) (u : IsUtf8 text) (n : ℕ) (b : Begins text n) where
       whole (subst (λ m. IsCharBoundary text m) (sym is) (IsCharBoundary-end text)) (λ less. absurd (omega arith))
 
   -- before another one
-  first_of_two : n < length text → 0 < plain_len (get_or text n 0) → IsPlainFirst text n
-  first_of_two less h =
+  seam_of_two : n < length text → 0 < plain_len (get_or text n 0) → IsPlainSeam text n
+  seam_of_two less h =
       let cut : IsCharBoundary text n = (fits, λ _ high. no_continuation (get_or text n 0) high h) in
       let here : get_or (drop n text) 0 0 ≡ get_or text n 0 = get_or-drop n text 0 0 ∙ ap (λ i. get_or text i 0) (let e : n + 0 ≡ n = omega arith in e) in
       let next = Begins-from (drop n text) (IsUtf8-drop text n u cut) (omega (arith, length-drop n text)) (subst (λ i. 0 < plain_len i) (sym here) h) in
-      whole cut (λ _. record {
+      record {
         boundary = cut;
         front = [];
         last = b.char;
@@ -158,7 +159,10 @@ module _ (text : List ℕ) (u : IsUtf8 text) (n : ℕ) (b : Begins text n) where
         after = next.split;
         last_plain = b.plain;
         next_plain = next.plain;
-      })
+      }
+
+  first_of_two : n < length text → 0 < plain_len (get_or text n 0) → IsPlainFirst text n
+  first_of_two less h = let s = seam_of_two less h in whole s.boundary (λ _. s)
 
 pub plain_alone : (text : List ℕ) → IsUtf8 text → 0 < length text → 0 < plain_len (get_or text 0 0) → length text ≤ plain_len (get_or text 0 0) → IsPlainFirst text (plain_len (get_or text 0 0))
 plain_alone text u some h ends = first_alone text u (plain_len (get_or text 0 0)) (Begins-from text u some h) ends
@@ -206,3 +210,20 @@ shown-first none left text cluster rest n e f p c r =
     ∙ (cond-true (is_shown (take n text)) (take n text ∷ behind) behind shown
     ∙ (ap (λ t. t ∷ behind) (sym c)
     ∙ (ap (λ t. cluster ∷ filter is_shown (graphemes true t)) (sym r) ∙ ap (λ cs. cluster ∷ filter is_shown (cs ++ graphemes true rest)) (sym f)))))
+
+-- behind a sign, before a plain character that its first byte tells
+pub sign_seam : (text : List ℕ) → IsUtf8 text → is_sign_start (get_or text 0 0) (get_or text 1 0) ≡ true → 3 < length text → 0 < plain_len (get_or text 3 0) → IsPlainSeam text 3
+sign_seam text u h less next = from u.0 u.1.1
+  where
+    from : (cs : List ℕ) → encode_utf8_all cs ≡ text → IsPlainSeam text 3
+    from [] e = absurd (omega (arith, ap length e))
+    from (c ∷ cs) e =
+        let told = first_sign text c (encode_utf8_all cs) (sym e) h in
+        seam_of_two text u 3 (record { char = c; rest = encode_utf8_all cs; split = sym e; size = told.0; plain = plain_sign c told.1 told.2 }) less next
+
+-- the same as a function reads them
+pub sign_before : (text bytes : List ℕ) (start : Bool) (n : ℕ) → IsUtf8 text → bytes ≡ text → start ≡ is_sign_start (get_or bytes 0 0) (get_or bytes 1 0) → start ≡ true
+    → 3 < length text → n ≡ plain_len (get_or bytes 3 0) → 0 < n → IsPlainSeam text 3
+sign_before text bytes start n u e is told less behind some =
+    let next : n ≡ plain_len (get_or text 3 0) = behind ∙ ap (λ t. plain_len (get_or t 3 0)) e in
+    sign_seam text u (ap (λ t. is_sign_start (get_or t 0 0) (get_or t 1 0)) (sym e) ∙ (sym is ∙ told)) less (omega arith)

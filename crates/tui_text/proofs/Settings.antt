@@ -15,13 +15,13 @@ use Rattle.tui_text.specs.Graphemes.{clusters}
 use Rattle.tui_text.specs.Setting.{room_in, set_cluster, set_clusters, set_column, set_end, set_layers, set_part, spans_end, spans_layers}
 use Rattle.tui_text.specs.Span.{SpanData}
 
-fits : (m n : ℕ) → m ≤ n → nat_le m n ≡ true
+pub fits : (m n : ℕ) → m ≤ n → nat_le m n ≡ true
 fits m n le = grind (arith, nat_tests)
 
 too_wide : (m n : ℕ) → n < m → nat_le m n ≡ false
 too_wide m n lt = grind (arith, nat_tests)
 
-pick_true : {A : Type 0} (b : Bool) (x y : A) → b ≡ true → (if b then x else y) ≡ x
+pub pick_true : {A : Type 0} (b : Bool) (x y : A) → b ≡ true → (if b then x else y) ≡ x
 pick_true true x y e = refl
 pick_true false x y e = cc
 

@@ -2,26 +2,32 @@
 use Rattle.std.specs.Prelude.{
   ◌≡◌,
   ℕ,
+  ◌<◌,
   ◌≤◌,
   Bool,
   true,
   false,
   ◌&&◌,
   ◌||◌,
+  ◌==◌,
   nat_le,
   if◌then◌else◌,
   List,
   [],
   ◌∷◌,
   ◌++◌,
+  length,
+  slice_index,
   take,
   drop,
   encode_utf8,
   encode_utf8_all,
   chars,
 }
+use Rattle.std.specs.List.{list_all}
 use Rattle.std.specs.Str.{IsCharBoundary}
 use Rattle.tui_text.specs.Grapheme.{has_control}
+use Rattle.tui_text.specs.Part.{is_printable}
 use Rattle.ucd_table.specs.Rows.{Range, in_ranges}
 use Rattle.unicode_segmentation.specs.Grapheme.{graphemes}
 
@@ -80,6 +86,20 @@ pub record IsLetter (text : List ℕ) : Type 0 where
   pub is : chars text ≡ char ∷ []
   pub within : in_ranges letter_ranges char ≡ true
 
+-- the text is one sign of lines, blocks or shapes: U+2500 to U+25BF
+abbrev pub sign_ranges : List Range
+sign_ranges = (0x2500, 0x25BF) ∷ []
+
+pub record IsSign (text : List ℕ) : Type 0 where
+  pub char : ℕ
+  pub is : chars text ≡ char ∷ []
+  pub low : 0x2500 ≤ char
+  pub high : char ≤ 0x25BF
+
+-- whether two bytes tell that they begin one
+abbrev pub is_sign_start : ℕ → ℕ → Bool
+is_sign_start first second = (first == 0xE2) && (nat_le 0x94 second && nat_le second 0x96)
+
 -- of a character's first byte: how many bytes the character has, where that byte tells a plain one, and else 0. It tells U+0020 to
 -- U+007E, U+00C0 to U+02FF, U+0380 to U+047F, and U+4000 to U+9FFF
 unfoldable pub plain_len : ℕ → ℕ
@@ -88,6 +108,13 @@ plain_len b =
     else if nat_le 0xE4 b && nat_le b 0xE9 then 3
     else if (nat_le 0xC3 b && nat_le b 0xCB) || (nat_le 0xCE b && nat_le b 0xD1) then 2
     else 0
+
+-- the text begins with n printable bytes, each of which is a cluster by itself: past the last one the text ends, or a byte tells
+-- that a plain character begins
+pub record IsRun (text : List ℕ) (n : ℕ) : Type 0 where
+  pub within : n ≤ length text
+  pub printable : list_all is_printable (take n text) ≡ true
+  pub apart : 0 < n → n < length text → 0 < plain_len (slice_index text n)
 
 -- the first cluster of the text has n bytes, and is shown
 pub record IsPlainFirst (text : List ℕ) (n : ℕ) : Type 0 where

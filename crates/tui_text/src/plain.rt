@@ -2,7 +2,9 @@
 
 ghost use Rattle.std.specs.Prelude.{◌≡◌, ◌<◌, ◌≤◌, ◌&&◌, nat_le, [], ◌∷◌, ◌++◌, chars, length, encode_utf8, slice_index, IfSome, IsTrue};
 ghost use Rattle.std.specs.Str.{IsUtf8};
-ghost use Rattle.tui_text.specs.Plain.{is_plain, plain_len, IsIdeograph, IsLetter, IsPlainChar, IsPlainFirst};
+ghost use Rattle.tui_text.specs.Plain.{is_plain, is_sign_start, plain_len, IsIdeograph, IsLetter, IsPlainChar, IsPlainFirst, IsPlainSeam, IsRun, IsSign};
+
+use crate::printable::printable_len;
 
 use crate::printable::is_printable;
 
@@ -106,6 +108,48 @@ fn told_len(text: &str) -> usize
     if plain_len(bytes[len]) > 0 { len } else { 0 }
 }
 
+/// How many printable bytes a text begins with, `room` at most, each of them a cluster by itself.
+#[inline]
+pub(crate) fn run_len(text: &str, room: usize) -> usize
+    ensures run { IsRun text.now result }
+    ensures room { result ≤ room }
+{
+    let bytes = text.as_bytes();
+    let end = printable_len(bytes, room);
+    if end < bytes.len() && plain_len(bytes[end]) == 0 {
+        end.saturating_sub(1)
+    } else {
+        end
+    }
+}
+
+/// Whether two bytes begin a sign of lines, blocks or shapes.
+#[inline]
+fn is_sign_start(first: u8, second: u8) -> bool
+    ensures { result ≡ is_sign_start first second }
+{
+    first == 0xe2 && is_within(second as u32, 0x94, 0x96)
+}
+
+/// Whether the text begins with such a sign, and then ends, or a byte tells that another plain character follows.
+#[inline]
+pub(crate) fn is_sign_first(text: &str) -> bool
+    ensures within { IsTrue result → 3 ≤ length text.now }
+    ensures seam { IsTrue result → 3 < length text.now → IsPlainSeam text.now 3 }
+{
+    let bytes = text.as_bytes();
+    if bytes.len() < 3 {
+        return false;
+    }
+    if !is_sign_start(bytes[0], bytes[1]) {
+        return false;
+    }
+    if bytes.len() == 3 {
+        return true;
+    }
+    plain_len(bytes[3]) > 0
+}
+
 /// A text's first character, and the text behind it.
 #[inline]
 pub(crate) fn split_first(text: &str) -> Option<(char, &str)>
@@ -125,6 +169,9 @@ pub(crate) fn split_first(text: &str) -> Option<(char, &str)>
 pub(crate) fn is_plain_char(text: &str) -> bool
     ensures { IsTrue result → IsPlainChar text.now }
 {
+    if is_sign(text) {
+        return true;
+    }
     match split_first(text) {
         Some((c, rest)) => rest.is_empty() && is_plain(c),
         None => false,
@@ -165,4 +212,17 @@ pub(crate) fn is_letter(text: &str) -> bool
     }
     let first = bytes[0] as u32;
     is_within(first, 0xc3, 0xcb) | is_within(first, 0xce, 0xd1)
+}
+
+/// Whether the text is one sign of lines, blocks or shapes, which its first two bytes tell.
+#[inline]
+pub(crate) fn is_sign(text: &str) -> bool
+    ensures sign { IsTrue result → IsSign text.now }
+    ensures plain { IsTrue result → IsPlainChar text.now }
+{
+    let bytes = text.as_bytes();
+    if bytes.len() != 3 {
+        return false;
+    }
+    is_sign_start(bytes[0], bytes[1])
 }

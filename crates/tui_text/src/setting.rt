@@ -1,13 +1,15 @@
 //! Texts set from a position on.
 
-ghost use Rattle.std.specs.Prelude.{◌≡◌, ◌+◌, ◌≤◌, [], ◌∷◌, All, IfOk, IsOk, OnOk, map, true};
+ghost use Rattle.std.specs.Prelude.{◌≡◌, ◌+◌, ◌-◌, ◌≤◌, [], ◌∷◌, All, IfOk, IsAscii, IsOk, OnOk, length, map, true};
+ghost use Rattle.tui_cells.specs.Buffer.{Screen};
 ghost use Rattle.tui_cells.specs.Cell.{IsLight};
-ghost use Rattle.tui_cells.specs.Layers.{KeptOutside, Painted};
+ghost use Rattle.tui_cells.specs.Layers.{KeptOutside, Painted, ascii_layers};
 ghost use Rattle.tui_cells.specs.Rect.{covers, intersection_of, right_of};
 ghost use Rattle.tui_text.specs.Grapheme.{width_of};
-ghost use Rattle.tui_text.specs.Graphemes.{clusters};
+ghost use Rattle.tui_text.specs.Graphemes.{clusters, clusters_left};
 ghost use Rattle.tui_text.specs.Line.{line_data};
 ghost use Rattle.tui_text.specs.Painting.{cells_at};
+ghost use Rattle.tui_text.specs.Plain.{IsPlainChar};
 ghost use Rattle.tui_text.specs.Span.{span_data};
 ghost use Rattle.tui_text.specs.Setting.{
   AreLight,
@@ -25,10 +27,11 @@ ghost use Rattle.tui_text.specs.Setting.{
   styled_text,
 };
 
-use crate::clusters::Clusters;
+use crate::clusters::{Clusters, split_run};
 use crate::grapheme::StyledGrapheme;
 use crate::line::Line;
 use crate::painting::put_glyph;
+use crate::plain::is_plain_char;
 use crate::span::Span;
 use crate::width::cell_width;
 use tui_cells::{Buffer, Mem, Position, Rect, Style};
@@ -51,6 +54,41 @@ fn put_cluster(buf: &mut Buffer, x: u16, y: u16, text: &str, style: Style, width
     put_glyph(buf, x, y, &grapheme, width)
 }
 
+/// Sets characters of one byte side by side. Most often, where other characters stand, there is none.
+#[inline]
+fn set_bytes(buf: &mut Buffer, at: Position, bytes: &[u8], style: Style)
+    requires { IsAscii bytes.now }
+    ensures { Painted (ascii_layers at.x at.y style bytes.now) buf.old buf.new }
+{
+    if bytes.is_empty() {
+        return;
+    }
+    buf.set_ascii(at, bytes, style);
+}
+
+/// Sets the printable bytes that come next, as many as the room takes, and answers how many these are.
+#[inline]
+fn set_run(
+    buf: &mut Buffer,
+    at: Position,
+    room: u16,
+    clusters: &mut Clusters<'_>,
+    style: Style,
+) -> u16
+    requires { at.x + room ≤ 65535 }
+    ensures rest { (final : Screen) → Painted (set_clusters (at.x + result) at.y (room - result) style (clusters_left clusters.new)) buf.new final
+        → Painted (set_clusters at.x at.y room style (clusters_left clusters.old)) buf.old final }
+    ensures end { set_end (at.x + result) (room - result) (clusters_left clusters.new) ≡ set_end at.x room (clusters_left clusters.old) }
+    ensures within { result ≤ room }
+    ensures kept { KeptOutside (covers (cells_at at.x at.y room)) buf.old buf.new }
+    ensures light { All IsLight (clusters_left clusters.old) → All IsLight (clusters_left clusters.new) }
+    ensures fewer { length (clusters_left clusters.new) ≤ length (clusters_left clusters.old) }
+{
+    let run = clusters.next_run(room as usize);
+    set_bytes(buf, at, run, style);
+    run.len() as u16
+}
+
 /// Sets graphemes in a room of columns, and answers the column after the last one used.
 fn set_clusters(buf: &mut Buffer, at: Position, room: u16, text: &str, style: Style) -> Mem<u16>
     requires { at.x + room ≤ 65535 }
@@ -60,9 +98,71 @@ fn set_clusters(buf: &mut Buffer, at: Position, room: u16, text: &str, style: St
     ensures kept { KeptOutside (covers (cells_at at.x at.y room)) buf.old buf.new }
     ensures light { All IsLight (clusters text.now) → IsOk result }
 {
+    let (run, rest) = split_run(text, room as usize);
+    set_bytes(buf, at, run, style);
+    let used = run.len() as u16;
+    if rest.is_empty() {
+        return Ok(at.x + used);
+    }
+    let behind = Position {
+        x: at.x + used,
+        y: at.y,
+    };
+    set_others(buf, behind, room - used, rest, style)
+}
+
+/// The same for what does not begin with printable bytes. Never inlined, so that a text of these takes few steps.
+#[inline(never)]
+fn set_others(buf: &mut Buffer, at: Position, room: u16, text: &str, style: Style) -> Mem<u16>
+    requires { at.x + room ≤ 65535 }
+    ensures ok { OnOk result (Painted (set_clusters at.x at.y room style (clusters text.now)) buf.old buf.new) }
+    ensures end { IfOk result (λ x. x ≡ set_end at.x room (clusters text.now)) }
+    ensures within { IfOk result (λ x. (at.x ≤ x) × (x ≤ at.x + room)) }
+    ensures kept { KeptOutside (covers (cells_at at.x at.y room)) buf.old buf.new }
+    ensures light { All IsLight (clusters text.now) → IsOk result }
+{
+    if is_plain_char(text) {
+        return set_lone(buf, at, room, text, style);
+    }
+    set_mixed(buf, at, room, text, style)
+}
+
+/// The same for one plain character, as a divider is.
+#[inline]
+fn set_lone(buf: &mut Buffer, at: Position, room: u16, text: &str, style: Style) -> Mem<u16>
+    requires plain { IsPlainChar text.now }
+    requires room { at.x + room ≤ 65535 }
+    ensures ok { OnOk result (Painted (set_clusters at.x at.y room style (clusters text.now)) buf.old buf.new) }
+    ensures end { IfOk result (λ x. x ≡ set_end at.x room (clusters text.now)) }
+    ensures within { IfOk result (λ x. (at.x ≤ x) × (x ≤ at.x + room)) }
+    ensures kept { KeptOutside (covers (cells_at at.x at.y room)) buf.old buf.new }
+    ensures light { All IsLight (clusters text.now) → IsOk result }
+{
+    let width = cell_width(text);
+    if width > room {
+        return Ok(at.x);
+    }
+    put_cluster(buf, at.x, at.y, text, style, width)?;
+    Ok(at.x + width)
+}
+
+/// The same, grapheme by grapheme, with the printable bytes between them run by run.
+#[inline(never)]
+fn set_mixed(buf: &mut Buffer, at: Position, room: u16, text: &str, style: Style) -> Mem<u16>
+    requires { at.x + room ≤ 65535 }
+    ensures ok { OnOk result (Painted (set_clusters at.x at.y room style (clusters text.now)) buf.old buf.new) }
+    ensures end { IfOk result (λ x. x ≡ set_end at.x room (clusters text.now)) }
+    ensures within { IfOk result (λ x. (at.x ≤ x) × (x ≤ at.x + room)) }
+    ensures kept { KeptOutside (covers (cells_at at.x at.y room)) buf.old buf.new }
+    ensures light { All IsLight (clusters text.now) → IsOk result }
+{
+    let mut clusters = Clusters::new(text);
     let mut x = at.x;
     let mut left = room;
-    for cluster in Clusters::new(text) {
+    'clusters: loop {
+        let Some(cluster) = clusters.next() else {
+            return Ok(x);
+        };
         let width = cell_width(cluster);
         if width > left {
             return Ok(x);
@@ -70,8 +170,10 @@ fn set_clusters(buf: &mut Buffer, at: Position, room: u16, text: &str, style: St
         put_cluster(buf, x, at.y, cluster, style, width)?;
         x += width;
         left -= width;
+        let run = set_run(buf, Position { x, y: at.y }, left, &mut clusters, style);
+        x += run;
+        left -= run;
     }
-    Ok(x)
 }
 
 /// Sets the spans of a line one after another, each in what is left of the room.

@@ -1,12 +1,13 @@
 //! Neighbouring cells.
 
-ghost use Rattle.std.specs.Prelude.{◌≡◌, ◌≤◌, ◌<◌, [], ℕ, IfOk, length, replicate, slice_index_or, vec_capacity};
+ghost use Rattle.std.specs.Prelude.{◌≡◌, ◌+◌, ◌≤◌, ◌<◌, [], ℕ, IfOk, IsAscii, length, replicate, slice_index_or, vec_capacity};
 ghost use Rattle.tui_cells.specs.Buffer.{RowEdited};
 ghost use Rattle.tui_cells.specs.Keeping.{row_cells};
 ghost use Rattle.tui_cells.specs.Cell.{IsAtRest, blank, dim, dress, put, wipe};
+ghost use Rattle.tui_cells.specs.Spelt.{RowSpelt};
 
 use crate::cell::Cell;
-use crate::content::SHORT;
+use crate::content::{SHORT, byte_symbol};
 use crate::memory::Mem;
 use crate::style::Style;
 use arrayvec::ArrayString;
@@ -81,6 +82,18 @@ pub(crate) fn put_cells(cells: &mut Vec<Cell>, from: usize, to: usize, symbol: A
     'cells: for i in from..to {
         let cell = &mut cells[i];
         cell.set_short(symbol);
+    }
+}
+
+/// Sets characters of one byte from a place on, one a cell.
+pub(crate) fn put_ascii(cells: &mut Vec<Cell>, from: usize, text: &[u8])
+    requires within { from + length text.now ≤ length cells.old.items }
+    requires ascii { IsAscii text.now }
+    ensures { RowSpelt from (from + length text.now) text.now [] cells.old.items cells.new.items }
+{
+    'bytes: for i in 0..text.len() {
+        let cell = &mut cells[from + i];
+        cell.set_short(byte_symbol(text[i]));
     }
 }
 

@@ -1,33 +1,45 @@
-use Rattle.std.proofs.Common.{sym, ◌∙◌, arith}
+use Rattle.std.proofs.Common.{◌≡◌, ◌∙◌, arith, length, refl, rules, sym}
 use Rattle.tui_cells.proofs.Painting.{KeptOutside-then}
-use Rattle.tui_text.proofs.Settings.{end_more, end_none, end_stop, kept_in, set_more, set_none, set_stop}
+use Rattle.tui_text.proofs.Elements.{if_ok, on_ok}
+use Rattle.tui_text.proofs.LightTexts.{printable_ascii}
+use Rattle.tui_text.proofs.Runs.{clusters-none, end_spelt, kept_spelt, light_behind, set_spelt}
+use Rattle.tui_text.proofs.Settings.{end_none, kept_in, set_none}
 use Rattle.tui_text.proofs.setting.set_clusters.Goals as goal
 
-pub returns-then-width-left-clause-ok : goal.returns-then-width-left-clause-ok
-returns-then-width-left-clause-ok c =
-    c.loop-cluster.invariant.rest _ (set_stop _ _ _ _ _ _ _ _ c.in-Some.ensures.steps (rw c.cell_width-width.ensures at c.if-width-left.true))
+pub set_bytes-requires : goal.set_bytes-requires
+set_bytes-requires c = printable_ascii c.split_run.result.0.now c.split_run.ensures.printable
 
-pub returns-then-width-left-clause-end : goal.returns-then-width-left-clause-end
-returns-then-width-left-clause-end c =
-    sym (end_stop _ _ _ _ _ c.in-Some.ensures.steps (rw c.cell_width-width.ensures at c.if-width-left.true)) ∙ c.loop-cluster.invariant.end
+pub returns-then-is_empty-clause-ok : goal.returns-then-is_empty-clause-ok
+returns-then-is_empty-clause-ok c =
+    let none : length c.split_run.result.1.now ≡ 0 = grind (arith, c.is_empty.ensures) in
+    set_spelt c.args.at.x c.args.at.y c.args.room (length c.split_run.result.0.now) c.args.style c.split_run.result.0.now _ _ _ _ _
+    c.split_run.ensures.clusters c.split_run.ensures.printable (search rules) refl c.set_bytes.ensures
+    (set_none _ _ _ _ _ _ (clusters-none c.split_run.result.1.now none))
 
-pub loop-cluster-preserved : goal.loop-cluster-preserved
-loop-cluster-preserved c =
-    let wide = c.cell_width-width.ensures in
-    let room = c.if-width-left.false in
-    record {
-      columns = omega (arith, c.loop-cluster.invariant.columns, c.if-width-left.false);
-      left = omega (arith, c.loop-cluster.invariant.left);
-      end = end_more _ _ _ _ _ _ _ c.in-Some.ensures.steps (omega (arith, wide, room)) (omega (arith, wide)) (omega (arith, wide)) ∙ c.loop-cluster.invariant.end;
-      rest = λ final q. c.loop-cluster.invariant.rest final
-          (set_more _ _ _ _ _ _ _ _ _ _ _ final c.in-Some.ensures.steps (omega (arith, wide, room)) (omega (arith, wide)) (omega (arith, wide)) c.in_ok-put_cluster.ensures.ok q);
-      kept = KeptOutside-then c.loop-cluster.invariant.kept
-          (kept_in c.args.at.x _ _ c.args.room _ _ _ (omega (arith, c.loop-cluster.invariant.columns, c.loop-cluster.invariant.left))
-          (omega (arith, c.loop-cluster.invariant.columns, room)) c.in_ok-put_cluster.ensures.kept);
-    }
+pub returns-then-is_empty-clause-end : goal.returns-then-is_empty-clause-end
+returns-then-is_empty-clause-end c =
+    let none : length c.split_run.result.1.now ≡ 0 = grind (arith, c.is_empty.ensures) in
+    sym (end_none _ _ _ (clusters-none c.split_run.result.1.now none))
+    ∙ end_spelt c.args.at.x c.args.room _ c.split_run.result.0.now _ _ c.split_run.ensures.clusters c.split_run.ensures.printable (search rules) (search rules)
+
+pub returns-then-is_empty-clause-kept : goal.returns-then-is_empty-clause-kept
+returns-then-is_empty-clause-kept c =
+    kept_spelt c.args.at.x c.args.at.y c.args.room c.args.style c.split_run.result.0.now _ _ (search rules) c.set_bytes.ensures
 
 pub returns-clause-ok : goal.returns-clause-ok
-returns-clause-ok c = c.loop-cluster.invariant.rest _ (set_none _ _ _ _ _ _ c.in-None.ensures.steps.0)
+returns-clause-ok c = on_ok c.set_others.result
+    (λ p. set_spelt c.args.at.x c.args.at.y c.args.room _ c.args.style c.split_run.result.0.now _ _ _ _ _
+    c.split_run.ensures.clusters c.split_run.ensures.printable (search rules) (search rules) c.set_bytes.ensures p) c.set_others.ensures.ok
 
 pub returns-clause-end : goal.returns-clause-end
-returns-clause-end c = sym (end_none _ _ _ c.in-None.ensures.steps.0) ∙ c.loop-cluster.invariant.end
+returns-clause-end c = if_ok c.set_others.result
+    (λ x p. p ∙ end_spelt c.args.at.x c.args.room _ c.split_run.result.0.now _ _ c.split_run.ensures.clusters c.split_run.ensures.printable (search rules) (search rules))
+    c.set_others.ensures.end
+
+pub returns-clause-kept : goal.returns-clause-kept
+returns-clause-kept c = KeptOutside-then
+    (kept_spelt c.args.at.x c.args.at.y c.args.room c.args.style c.split_run.result.0.now _ _ (search rules) c.set_bytes.ensures)
+    (kept_in c.args.at.x _ _ c.args.room _ _ _ (omega arith) (search (rules, arith)) c.set_others.ensures.kept)
+
+pub returns-clause-light : goal.returns-clause-light
+returns-clause-light c = λ all. c.set_others.ensures.light (light_behind c.split_run.result.0.now _ _ c.split_run.ensures.clusters all)

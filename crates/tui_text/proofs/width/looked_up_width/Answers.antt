@@ -1,6 +1,7 @@
 use Rattle.std.proofs.Common.{sym}
 use Rattle.tui_text.proofs.Ideographs.{ideograph_width}
 use Rattle.tui_text.proofs.Letters.{letter_width}
+use Rattle.tui_text.proofs.Signs.{sign_width}
 use Rattle.tui_text.proofs.width.looked_up_width.Goals as goal
 
 pub returns-then-is_ideograph : goal.returns-then-is_ideograph
@@ -8,3 +9,6 @@ returns-then-is_ideograph c = sym (ideograph_width c.args.text.now (c.is_ideogra
 
 pub returns-then-is_letter : goal.returns-then-is_letter
 returns-then-is_letter c = sym (letter_width c.args.text.now (c.is_letter.ensures c.if-is_letter.true))
+
+pub returns-then-is_sign : goal.returns-then-is_sign
+returns-then-is_sign c = sym (sign_width c.args.text.now (c.is_sign.ensures.sign c.if-is_sign.true))

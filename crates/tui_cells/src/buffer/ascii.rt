@@ -1,0 +1,44 @@
+//! Characters of one byte side by side.
+
+ghost use Rattle.std.specs.Prelude.{◌≡◌, ◌+◌, ◌-◌, ◌<◌, ◌≤◌, IsAscii, length, min};
+ghost use Rattle.tui_cells.specs.Layers.{Painted, ascii_layers};
+ghost use Rattle.tui_cells.specs.Rect.{bottom_of, right_of};
+
+use crate::buffer::Buffer;
+use crate::position::Position;
+use crate::style::Style;
+
+impl Buffer {
+    /// Sets the characters of a text in the cells from a position on, each with the style; those outside the area are left
+    /// out. Each character is one byte, and takes no memory. A style that sets nothing costs no step.
+    pub fn set_ascii(&mut self, at: Position, text: &[u8], style: Style)
+        requires { IsAscii text.now }
+        ensures { Painted (ascii_layers at.x at.y style text.now) self.old self.new }
+    {
+        if at.y < self.area.y || self.area.bottom() <= at.y {
+            return;
+        }
+        let from = self.area.x.saturating_sub(at.x) as usize;
+        let to = text
+            .len()
+            .min(self.area.right().saturating_sub(at.x) as usize);
+        if to <= from {
+            return;
+        }
+        self.set_ascii_in(at, text, from, to, style);
+    }
+
+    // The bytes of the text from one place up to another, which are those in the area.
+    fn set_ascii_in(&mut self, at: Position, text: &[u8], from: usize, to: usize, style: Style)
+        requires ascii { IsAscii text.now }
+        requires row { (self.old.area.y ≤ at.y) × (at.y < bottom_of self.old.area) }
+        requires first { from ≡ self.old.area.x - at.x }
+        requires last { to ≡ min (length text.now) (right_of self.old.area - at.x) }
+        requires some { from < to }
+        ensures { Painted (ascii_layers at.x at.y style text.now) self.old self.new }
+    {
+        let place = (at.x as usize + from) - self.area.x as usize;
+        let row = &mut self.rows[(at.y - self.area.y) as usize];
+        row.set_ascii(place, place + (to - from), &text[from..to], style);
+    }
+}

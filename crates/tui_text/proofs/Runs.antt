@@ -1,0 +1,171 @@
+-- Runs of printable bytes: each byte is a cluster by itself, and they are set in one stroke each.
+use Rattle.std.proofs.Common.{◌≡◌, ℕ, zero, suc, ◌+◌, ◌-◌, ◌<◌, ◌≤◌, Bool, true, false, ◌&&◌, nat_le, nat_lt, List, [], ◌∷◌, ◌++◌, All, map, length, length-append, take, drop, slice_index, Option, Some, None, option_map, if◌then◌else◌, refl, sym, ap, ap₂, subst, ◌∙◌, arith}
+use Rattle.std.specs.List.{list_all}
+use Rattle.std.specs.Str.{IsAscii, IsCharBoundary, IsUtf8}
+use Rattle.std.proofs.lemmas.Bool.{and_parts}
+use Rattle.std.proofs.lemmas.Bool.Decides.{nat_tests}
+use Rattle.std.proofs.lemmas.List.Elements.{All-tail}
+use Rattle.std.proofs.lemmas.Str.{IsCharBoundary-from_take, IsUtf8-drop, IsUtf8-from_ascii}
+use Rattle.tui_cells.specs.declared.style.Style.{Style}
+use Rattle.tui_cells.specs.Buffer.{Screen, look_at}
+use Rattle.tui_cells.specs.Cell.{IsLight, Look, dress, edited, put, wipe}
+use Rattle.tui_cells.specs.Layers.{KeptOutside, Layer, Painted, ascii_layers, at_place, layers_at, over}
+use Rattle.tui_cells.specs.Rect.{covers}
+use Rattle.tui_cells.proofs.Painting.{Painted-inside, Painted-none, Painted-then, layers_at-append}
+use Rattle.tui_cells.proofs.Spelling.{ascii_stays}
+use Rattle.tui_text.specs.Grapheme.{width_of}
+use Rattle.tui_text.specs.Graphemes.{clusters, one_byte}
+use Rattle.tui_text.specs.Painting.{cells_at}
+use Rattle.tui_text.specs.Part.{is_printable}
+use Rattle.tui_text.specs.Plain.{IsPlainFirst, IsRun, plain_len}
+use Rattle.tui_text.specs.Setting.{set_cluster, set_clusters, set_end}
+use Rattle.tui_text.proofs.EmptyText.{clusters-nil}
+use Rattle.tui_text.proofs.LightTexts.{printable_ascii}
+use Rattle.tui_text.proofs.OneByte.{printable_width}
+use Rattle.tui_text.proofs.QuickParts.{quick_alone, quick_before, shown-first}
+use Rattle.tui_text.proofs.Settings.{end_more, fits, pick_true}
+
+printable_plain : (b : ℕ) → is_printable b ≡ true → 1 ≡ plain_len b
+unfolding plain_len
+printable_plain b e = grind (arith, nat_tests)
+
+-- the run that ends before a printable byte behind which nothing is known
+printable_before : (n : ℕ) (text : List ℕ) → list_all is_printable (take (suc n) text) ≡ true → n < length text →
+    (list_all is_printable (take n text) ≡ true) × (is_printable (slice_index text n) ≡ true)
+printable_before n [] e lt = absurd (omega (arith, lt))
+printable_before zero (b ∷ bs) e lt = (refl, (and_parts (is_printable b) _ e).0)
+printable_before (suc n) (b ∷ bs) e lt =
+    let both = and_parts (is_printable b) _ e in
+    let rest = printable_before n bs both.1 (omega arith) in
+    (ap₂ ◌&&◌ both.0 rest.0, rest.1)
+
+pub shorter_run : (text bytes : List ℕ) (end n : ℕ) → bytes ≡ text → list_all is_printable (take end bytes) ≡ true → end < length bytes → n ≡ end - 1 → IsRun text n
+shorter_run text bytes zero n e all lt is =
+    let none : n ≡ 0 = omega (arith, is) in
+    subst (λ k. IsRun text k) (sym none) (record { within = omega arith; printable = refl; apart = λ some. absurd (omega (arith, some)) })
+shorter_run text bytes (suc end) n e all lt is =
+    let size = ap length e in
+    let before : n ≡ end = omega (arith, is) in
+    let last = printable_before end text (ap (λ t. list_all is_printable (take (suc end) t)) (sym e) ∙ all) (omega arith) in
+    let told = printable_plain (slice_index text end) last.1 in
+    subst (λ k. IsRun text k) (sym before) (record { within = omega arith; printable = last.0; apart = λ some less. omega arith })
+
+-- a printable byte before a plain character, or at the end
+first_of_run : (b : ℕ) (bs : List ℕ) → IsUtf8 (b ∷ bs) → is_printable b ≡ true → (0 < length bs → 0 < plain_len (slice_index bs 0)) → IsPlainFirst (b ∷ bs) 1
+first_of_run b [] u e apart = quick_alone (b ∷ []) (b ∷ []) 1 u (omega arith) refl (printable_plain b e) (omega arith) (omega arith)
+first_of_run b (c ∷ cs) u e apart =
+    quick_before (b ∷ c ∷ cs) (b ∷ c ∷ cs) 1 (plain_len c) u (omega arith) refl (printable_plain b e) (omega arith) (omega arith) refl (apart (omega arith))
+
+-- the byte behind the first one of a run
+next_apart : (n b : ℕ) (bs : List ℕ) → IsRun (b ∷ bs) (suc n) → 0 < length bs → 0 < plain_len (slice_index bs 0)
+next_apart zero b bs r some = r.apart (omega arith) (omega arith)
+next_apart (suc n) b [] r some = absurd (omega arith)
+next_apart (suc n) b (c ∷ cs) r some =
+    let here = printable_plain c (and_parts (is_printable c) _ (and_parts (is_printable b) _ r.printable).1).0 in
+    omega (arith, here)
+
+rest_of_run : (n b : ℕ) (bs : List ℕ) → IsRun (b ∷ bs) (suc n) → IsRun bs n
+rest_of_run n b bs r = record {
+  within = omega (arith, r.within);
+  printable = (and_parts (is_printable b) _ r.printable).1;
+  apart = λ some less. r.apart (omega arith) (omega arith);
+}
+
+-- the clusters of a run are its bytes
+pub run_clusters : (n : ℕ) (text : List ℕ) → IsUtf8 text → IsRun text n → clusters text ≡ map one_byte (take n text) ++ clusters (drop n text)
+run_clusters zero text u r = refl
+run_clusters (suc n) [] u r = absurd (omega (arith, r.within))
+run_clusters (suc n) (b ∷ bs) u r =
+    let p = first_of_run b bs u (and_parts (is_printable b) _ r.printable).0 (next_apart n b bs r) in
+    shown-first [] [] (b ∷ bs) (b ∷ []) bs 1 refl refl p refl refl
+    ∙ ap (λ cs. (b ∷ []) ∷ cs) (run_clusters n bs (IsUtf8-drop (b ∷ bs) 1 u p.boundary) (rest_of_run n b bs r))
+
+pub run_boundary : (text : List ℕ) (n : ℕ) → IsUtf8 text → IsRun text n → IsCharBoundary text n
+run_boundary text n u r = IsCharBoundary-from_take text n u r.within (IsUtf8-from_ascii (take n text) (printable_ascii (take n text) r.printable))
+
+-- the strokes of one byte as a grapheme, at a place of a buffer
+byte_width : (b : ℕ) → is_printable b ≡ true → width_of (b ∷ []) ≡ 1
+unfolding width_of
+byte_width b e = printable_width false (b ∷ []) b refl (grind (arith, nat_tests)) (grind (arith, nat_tests))
+
+byte_at : (x y u v b : ℕ) (style : Style) (c : Look) → u < 65535 → v < 65535 → width_of (b ∷ []) ≡ 1 →
+    layers_at (set_cluster x y style (b ∷ [])) u v c ≡ layers_at (over (at_place x y) (put (b ∷ []) ∷ dress style ∷ [])) u v c
+byte_at x y u v b style c column row wide =
+    let none : covers (cells_at (x + 1) y 0) u v ≡ false = grind (arith, nat_tests) in
+    let same : covers (cells_at x y 1) u v ≡ at_place x y u v = grind (arith, nat_tests) in
+    rw wide (rw none (rw same refl))
+
+-- bytes in a room, and what is set in the room behind them
+spelt_at : (x y room : ℕ) (style : Style) (run : List ℕ) (cs : List (List ℕ)) (behind : List Layer) (u v : ℕ) (c : Look) → u < 65535 → v < 65535 →
+    list_all is_printable run ≡ true → length run ≤ room → behind ≡ set_clusters (x + length run) y (room - length run) style cs →
+    layers_at (ascii_layers x y style run ++ behind) u v c ≡ layers_at (set_clusters x y room style (map one_byte run ++ cs)) u v c
+unfolding set_clusters ascii_layers
+spelt_at x y room style [] cs behind u v c column row e le is =
+    ap (λ ls. layers_at ls u v c) (is ∙ ap₂ (λ n r. set_clusters n y r style cs) (let e : x + 0 ≡ x = omega arith in e) (let e : room - 0 ≡ room = omega arith in e))
+spelt_at x y room style (b ∷ bs) cs behind u v c column row e le is =
+    let both = and_parts (is_printable b) _ e in
+    let wide : width_of (b ∷ []) ≡ 1 = byte_width b both.0 in
+    let rest = map one_byte bs ++ cs in
+    let first = set_cluster x y style (b ∷ []) in
+    let k = layers_at (over (at_place x y) (put (b ∷ []) ∷ dress style ∷ [])) u v c in
+    spelt_at (x + 1) y (room - 1) style bs cs behind u v k column row both.1 (omega arith)
+    (is ∙ ap₂ (λ n r. set_clusters n y r style cs) (let e : x + length (b ∷ bs) ≡ x + 1 + length bs = omega arith in e)
+    (let e : room - length (b ∷ bs) ≡ room - 1 - length bs = omega arith in e))
+    ∙ sym (ap (λ ls. layers_at ls u v c) (pick_true (nat_le (width_of (b ∷ [])) room) _ _ (fits (width_of (b ∷ [])) room (omega (arith, wide))))
+    ∙ (layers_at-append first (set_clusters (x + width_of (b ∷ [])) y (room - width_of (b ∷ [])) style rest) u v c
+    ∙ (ap (λ n. layers_at (set_clusters (x + n) y (room - n) style rest) u v (layers_at first u v c)) wide
+    ∙ ap (layers_at (set_clusters (x + 1) y (room - 1) style rest) u v) (byte_at x y u v b style c column row wide))))
+
+pub set_spelt : (x y room n : ℕ) (style : Style) (run : List ℕ) (cs all : List (List ℕ)) (a b final : Screen) →
+    all ≡ map one_byte run ++ cs → list_all is_printable run ≡ true → length run ≤ room → n ≡ length run →
+    Painted (ascii_layers x y style run) a b → Painted (set_clusters (x + n) y (room - n) style cs) b final → Painted (set_clusters x y room style all) a final
+set_spelt x y room n style run cs all a b final e printable le len p q =
+    rw e (Painted-inside
+    (λ u v here c. spelt_at x y room style run cs _ u v c (grind (arith, nat_tests)) (grind (arith, nat_tests)) printable le
+    (ap (λ m. set_clusters (x + m) y (room - m) style cs) len)) (Painted-then p q))
+
+end_at : (x room : ℕ) (run : List ℕ) (cs : List (List ℕ)) → list_all is_printable run ≡ true → length run ≤ room →
+    set_end (x + length run) (room - length run) cs ≡ set_end x room (map one_byte run ++ cs)
+end_at x room [] cs e le = ap₂ (λ n r. set_end n r cs) (let e : x + 0 ≡ x = omega arith in e) (let e : room - 0 ≡ room = omega arith in e)
+end_at x room (b ∷ bs) cs e le =
+    let both = and_parts (is_printable b) _ e in
+    let wide : width_of (b ∷ []) ≡ 1 = byte_width b both.0 in
+    ap₂ (λ n r. set_end n r cs) (let e : x + length (b ∷ bs) ≡ x + 1 + length bs = omega arith in e)
+    (let e : room - length (b ∷ bs) ≡ room - 1 - length bs = omega arith in e)
+    ∙ (end_at (x + 1) (room - 1) bs cs both.1 (omega arith)
+    ∙ end_more x room (x + 1) (room - 1) ((b ∷ []) ∷ map one_byte bs ++ cs) (b ∷ []) (map one_byte bs ++ cs) refl (omega (arith, wide)) (omega (arith, wide)) (omega (arith, wide)))
+
+pub end_spelt : (x room n : ℕ) (run : List ℕ) (cs all : List (List ℕ)) → all ≡ map one_byte run ++ cs → list_all is_printable run ≡ true → length run ≤ room → n ≡ length run →
+    set_end (x + n) (room - n) cs ≡ set_end x room all
+end_spelt x room n run cs all e printable le len =
+    ap (λ m. set_end (x + m) (room - m) cs) len ∙ (end_at x room run cs printable le ∙ ap (set_end x room) (sym e))
+
+-- bytes in a room change nothing outside it
+pub kept_spelt : (x y room : ℕ) (style : Style) (run : List ℕ) (a b : Screen) → length run ≤ room → Painted (ascii_layers x y style run) a b →
+    KeptOutside (covers (cells_at x y room)) a b
+kept_spelt x y room style run a b le p = record { area = p.area; cells = λ u v out. p.cells u v ∙ same u v out (covers a.area u v) refl }
+  where
+    same : (u v : ℕ) → covers (cells_at x y room) u v ≡ false → (here : Bool) → covers a.area u v ≡ here →
+        option_map (layers_at (ascii_layers x y style run) u v) (if here then Some (look_at a u v) else None) ≡ (if here then Some (look_at a u v) else None)
+    same u v out true here = ap Some ((ascii_stays x y style run).cell u v (grind (arith, nat_tests)) (look_at a u v))
+    same u v out false here = refl
+
+pub light_behind : (run : List ℕ) (cs all : List (List ℕ)) → all ≡ map one_byte run ++ cs → All IsLight all → All IsLight cs
+light_behind run cs all e light = behind run (subst (λ ts. All IsLight ts) e light)
+  where
+    behind : (bs : List ℕ) → All IsLight (map one_byte bs ++ cs) → All IsLight cs
+    behind [] light = light
+    behind (b ∷ bs) light = behind bs (All-tail IsLight (b ∷ []) (map one_byte bs ++ cs) light)
+
+pub fewer_behind : (run : List ℕ) (cs all : List (List ℕ)) → all ≡ map one_byte run ++ cs → length cs ≤ length all
+fewer_behind run cs all e = omega (arith, ap length e, length-append (map one_byte run) cs)
+
+-- no byte, and no cluster
+pub none_spelt : (x y : ℕ) (style : Style) (run : List ℕ) (b : Screen) → length run ≡ 0 → Painted (ascii_layers x y style run) b b
+unfolding ascii_layers
+none_spelt x y style [] b e = Painted-none b
+none_spelt x y style (r ∷ rs) b e = absurd (omega (arith, e))
+
+pub clusters-none : (text : List ℕ) → length text ≡ 0 → clusters text ≡ []
+clusters-none [] e = clusters-nil
+clusters-none (b ∷ bs) e = absurd (omega (arith, e))

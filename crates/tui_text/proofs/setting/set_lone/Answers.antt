@@ -1,0 +1,35 @@
+use Rattle.std.proofs.Common.{[], All, arith, refl, subst, sym, ◌+◌, ◌∙◌}
+use Rattle.std.proofs.lemmas.List.Elements.{All-head}
+use Rattle.tui_cells.specs.Cell.{IsLight}
+use Rattle.tui_text.proofs.PlainParts.{lone_cluster}
+use Rattle.tui_text.proofs.Settings.{end_more, end_none, end_stop, set_more, set_none, set_stop}
+use Rattle.tui_text.proofs.setting.set_lone.Goals as goal
+
+pub returns-then-width-room-clause-ok : goal.returns-then-width-room-clause-ok
+returns-then-width-room-clause-ok c =
+    set_stop _ _ _ _ _ _ _ _ (lone_cluster c.args.text.now c.requires.plain) (rw c.cell_width-width.ensures at c.if-width-room.true)
+
+pub returns-then-width-room-clause-end : goal.returns-then-width-room-clause-end
+returns-then-width-room-clause-end c =
+    sym (end_stop _ _ _ _ _ (lone_cluster c.args.text.now c.requires.plain) (rw c.cell_width-width.ensures at c.if-width-room.true))
+
+pub returns-in_err-put_cluster-clause-light : goal.returns-in_err-put_cluster-clause-light
+returns-in_err-put_cluster-clause-light c = λ all.
+    let light = All-head IsLight c.args.text.now [] (subst (λ cs. All IsLight cs) (lone_cluster c.args.text.now c.requires.plain) all) in
+    let broken = c.in_err-put_cluster.ensures.light light in
+    cc
+
+pub returns-clause-ok : goal.returns-clause-ok
+returns-clause-ok c =
+    let wide = c.cell_width-width.ensures in
+    let room = c.if-width-room.false in
+    set_more c.args.at.x c.args.at.y c.args.room _ _ c.args.style _ c.args.text.now [] _ _ _
+    (lone_cluster c.args.text.now c.requires.plain) (omega (arith, wide, room)) refl refl c.in_ok-put_cluster.ensures.ok (set_none _ _ _ _ [] _ refl)
+
+pub returns-clause-end : goal.returns-clause-end
+returns-clause-end c =
+    let wide = c.cell_width-width.ensures in
+    let room = c.if-width-room.false in
+    let next = c.args.at.x + c.cell_width-width.result in
+    sym (end_none next _ [] refl)
+    ∙ end_more c.args.at.x c.args.room next _ _ c.args.text.now [] (lone_cluster c.args.text.now c.requires.plain) (omega (arith, wide, room)) (omega (arith, wide)) refl
