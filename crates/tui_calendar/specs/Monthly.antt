@@ -1,6 +1,7 @@
 -- A month as plain data, its words, and what its places show.
 use Rattle.std.specs.Prelude.{ℕ, ◌+◌, ◌-◌, ◌/◌, ◌%◌, ◌==◌, min, nat_lt, List, [], ◌∷◌, ◌++◌, Option, None, Some, codes, get_or, option_map, if◌then◌else◌}
 use Rattle.std.specs.Fmt.{signed_decimal}
+use Rattle.tui_cells.specs.Rect.{farthest_edge}
 use Rattle.tui_cells.specs.declared.style.Style.{Style}
 use Rattle.tui_cells.specs.Style.{no_style, patched}
 use Rattle.tui_frames.specs.Block.{BlockData, block_data}
@@ -41,11 +42,11 @@ rows_of (Some _) = 1
 
 -- the columns that the month and its block take
 abbrev pub monthly_width : MonthlyData → ℕ
-monthly_width m = min (beside 21 (option_map columns_around m.block)) 65535
+monthly_width m = min (beside 21 (option_map columns_around m.block)) farthest_edge
 
 -- the rows that they take
 abbrev pub monthly_height : MonthlyData → ℕ
-monthly_height m = min (beside (weeks_of m.date + (rows_of m.month_header + rows_of m.weekdays_header)) (option_map rows_around m.block)) 65535
+monthly_height m = min (beside (weeks_of m.date + (rows_of m.month_header + rows_of m.weekdays_header)) (option_map rows_around m.block)) farthest_edge
 
 -- the names of the months, January first
 abbrev pub month_names : List (List ℕ)

@@ -11,7 +11,7 @@ mod words;
 use crate::date_styler::DateStyler;
 use crate::month::weeks;
 use jiff::civil::Date;
-use tui_cells::Style;
+use tui_cells::{FARTHEST_EDGE, Style};
 use tui_frames::{Block, beside, columns_if_some, rows_if_some};
 
 /// The days of a month week by week, each week from Sunday on in a row of its own, 21 columns wide. Each day has a style by its
@@ -94,7 +94,7 @@ impl<'a, DS: DateStyler> Monthly<'a, DS> {
     pub fn width(&self) -> u16
         ensures { result ≡ monthly_width (monthly_data self.now) }
     {
-        beside(21, columns_if_some(&self.block)).min(65535) as u16
+        beside(21, columns_if_some(&self.block)).min(FARTHEST_EDGE as usize) as u16
     }
 
     /// The rows of the weeks, of the headers that are shown, and of the block, cut at 65535.
@@ -103,7 +103,7 @@ impl<'a, DS: DateStyler> Monthly<'a, DS> {
     {
         let rows = weeks(self.display_date)
             + (rows_of(self.month_header) + rows_of(self.weekdays_header));
-        beside(usize::from(rows), rows_if_some(&self.block)).min(65535) as u16
+        beside(usize::from(rows), rows_if_some(&self.block)).min(FARTHEST_EDGE as usize) as u16
     }
 }
 

@@ -34,7 +34,7 @@ pub use merge_strategy::MergeStrategy;
 pub use modifier::Modifier;
 pub use offset::Offset;
 pub use position::Position;
-pub use rect::Rect;
+pub use rect::{FARTHEST_EDGE, Rect};
 pub use stateful::StatefulWidget;
 pub use style::Style;
 pub use styled::Styled;

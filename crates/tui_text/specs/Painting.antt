@@ -27,7 +27,7 @@ use Rattle.std.specs.Option.{option_map_or, option_or}
 use Rattle.tui_cells.specs.declared.rect.Rect.{Rect}
 use Rattle.tui_cells.specs.Cell.{dress, put, wipe}
 use Rattle.tui_cells.specs.Layers.{Layer, at_place, stroke}
-use Rattle.tui_cells.specs.Rect.{covers, is_empty}
+use Rattle.tui_cells.specs.Rect.{covers, is_empty, farthest_edge}
 use Rattle.tui_cells.specs.Style.{no_style}
 use Rattle.tui_text.specs.Grapheme.{Glyph, glyph_width}
 use Rattle.tui_text.specs.Graphemes.{span_graphemes}
@@ -92,7 +92,7 @@ row_layers row alignment line =
 
 -- what is left of an area below its first row
 abbrev pub below : Rect → Rect
-below area = record { x = area.x; y = min (area.y + 1) 65535; width = area.width; height = area.height - 1 }
+below area = record { x = area.x; y = min (area.y + 1) farthest_edge; width = area.width; height = area.height - 1 }
 
 -- a line's own alignment, else the text's, else Left
 abbrev pub alignment_in : Option Alignment → LineData → Alignment

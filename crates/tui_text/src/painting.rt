@@ -3,7 +3,7 @@
 ghost use Rattle.std.specs.Prelude.{◌≡◌, ◌+◌, ◌-◌, ◌^◌, ◌≤◌, ◌<◌, All, IsOk, OnOk, false, map, sum_by};
 ghost use Rattle.tui_cells.specs.Cell.{IsLight, wipe};
 ghost use Rattle.tui_cells.specs.Layers.{KeptOutside, Painted, stroke};
-ghost use Rattle.tui_cells.specs.Rect.{covers, intersection_of};
+ghost use Rattle.tui_cells.specs.Rect.{covers, intersection_of, farthest_edge};
 ghost use Rattle.tui_text.specs.Grapheme.{glyph_of, glyph_width};
 ghost use Rattle.tui_text.specs.Graphemes.{glyphs_left};
 ghost use Rattle.tui_text.specs.Line.{line_data, spans_line};
@@ -38,7 +38,7 @@ use tui_cells::{Buffer, Mem, Position, Rect, Style};
 /// Makes the cells behind the first one of a grapheme blank. Mostly there is none.
 #[inline(always)]
 fn reset_behind(buf: &mut Buffer, x: u16, y: u16, width: u16)
-    requires { (0 < width) × (x + width ≤ 65535) }
+    requires { (0 < width) × (x + width ≤ farthest_edge) }
     ensures { Painted (stroke (covers (cells_at (x + 1) y (width - 1))) wipe) buf.old buf.new }
 {
     if width == 1 {
@@ -62,7 +62,7 @@ pub(crate) fn put_glyph(
     width: u16,
 ) -> Mem<()>
     requires width { width ≡ glyph_width (glyph_of grapheme.now) }
-    requires within { (0 < width) × (x + width ≤ 65535) }
+    requires within { (0 < width) × (x + width ≤ farthest_edge) }
     ensures ok { OnOk result (Painted (glyph_at x y (glyph_of grapheme.now)) buf.old buf.new) }
     ensures kept { KeptOutside (covers (cells_at x y width)) buf.old buf.new }
     ensures light { IsLight (glyph_of grapheme.now).text → IsOk result }

@@ -4,9 +4,7 @@ ghost use Rattle.std.specs.Prelude.{◌≡◌, ◌<◌, ◌≤◌, ◌&&◌, nat
 ghost use Rattle.std.specs.Str.{IsUtf8};
 ghost use Rattle.tui_text.specs.Plain.{is_plain, is_sign_start, plain_len, IsIdeograph, IsLetter, IsPlainChar, IsPlainFirst, IsPlainSeam, IsRun, IsSign};
 
-use crate::printable::printable_len;
-
-use crate::printable::is_printable;
+use crate::printable::{is_printable, printable_len};
 
 /// Whether the character is a plain one.
 #[inline]

@@ -4,7 +4,7 @@ ghost use Rattle.std.specs.Prelude.{◌≡◌, ◌+◌, ◌-◌, ◌≤◌, [], 
 ghost use Rattle.tui_cells.specs.Buffer.{Screen};
 ghost use Rattle.tui_cells.specs.Cell.{IsLight};
 ghost use Rattle.tui_cells.specs.Layers.{KeptOutside, Painted, ascii_layers};
-ghost use Rattle.tui_cells.specs.Rect.{covers, intersection_of, right_of};
+ghost use Rattle.tui_cells.specs.Rect.{covers, intersection_of, right_of, farthest_edge};
 ghost use Rattle.tui_text.specs.Grapheme.{width_of};
 ghost use Rattle.tui_text.specs.Graphemes.{clusters, clusters_left};
 ghost use Rattle.tui_text.specs.Line.{line_data};
@@ -39,7 +39,7 @@ use tui_cells::{Buffer, Mem, Position, Rect, Style};
 /// Puts a grapheme of a width in its columns, if it has any.
 fn put_cluster(buf: &mut Buffer, x: u16, y: u16, text: &str, style: Style, width: u16) -> Mem<()>
     requires width { width ≡ width_of text.now }
-    requires within { x + width ≤ 65535 }
+    requires within { x + width ≤ farthest_edge }
     ensures ok { OnOk result (Painted (set_cluster x y style text.now) buf.old buf.new) }
     ensures kept { KeptOutside (covers (cells_at x y width)) buf.old buf.new }
     ensures light { IsLight text.now → IsOk result }
@@ -75,7 +75,7 @@ fn set_run(
     clusters: &mut Clusters<'_>,
     style: Style,
 ) -> u16
-    requires { at.x + room ≤ 65535 }
+    requires { at.x + room ≤ farthest_edge }
     ensures rest { (final : Screen) → Painted (set_clusters (at.x + result) at.y (room - result) style (clusters_left clusters.new)) buf.new final
         → Painted (set_clusters at.x at.y room style (clusters_left clusters.old)) buf.old final }
     ensures end { set_end (at.x + result) (room - result) (clusters_left clusters.new) ≡ set_end at.x room (clusters_left clusters.old) }
@@ -91,7 +91,7 @@ fn set_run(
 
 /// Sets graphemes in a room of columns, and answers the column after the last one used.
 fn set_clusters(buf: &mut Buffer, at: Position, room: u16, text: &str, style: Style) -> Mem<u16>
-    requires { at.x + room ≤ 65535 }
+    requires { at.x + room ≤ farthest_edge }
     ensures ok { OnOk result (Painted (set_clusters at.x at.y room style (clusters text.now)) buf.old buf.new) }
     ensures end { IfOk result (λ x. x ≡ set_end at.x room (clusters text.now)) }
     ensures within { IfOk result (λ x. (at.x ≤ x) × (x ≤ at.x + room)) }
@@ -114,7 +114,7 @@ fn set_clusters(buf: &mut Buffer, at: Position, room: u16, text: &str, style: St
 /// The same for what does not begin with printable bytes. Never inlined, so that a text of these takes few steps.
 #[inline(never)]
 fn set_others(buf: &mut Buffer, at: Position, room: u16, text: &str, style: Style) -> Mem<u16>
-    requires { at.x + room ≤ 65535 }
+    requires { at.x + room ≤ farthest_edge }
     ensures ok { OnOk result (Painted (set_clusters at.x at.y room style (clusters text.now)) buf.old buf.new) }
     ensures end { IfOk result (λ x. x ≡ set_end at.x room (clusters text.now)) }
     ensures within { IfOk result (λ x. (at.x ≤ x) × (x ≤ at.x + room)) }
@@ -131,7 +131,7 @@ fn set_others(buf: &mut Buffer, at: Position, room: u16, text: &str, style: Styl
 #[inline]
 fn set_lone(buf: &mut Buffer, at: Position, room: u16, text: &str, style: Style) -> Mem<u16>
     requires plain { IsPlainChar text.now }
-    requires room { at.x + room ≤ 65535 }
+    requires room { at.x + room ≤ farthest_edge }
     ensures ok { OnOk result (Painted (set_clusters at.x at.y room style (clusters text.now)) buf.old buf.new) }
     ensures end { IfOk result (λ x. x ≡ set_end at.x room (clusters text.now)) }
     ensures within { IfOk result (λ x. (at.x ≤ x) × (x ≤ at.x + room)) }
@@ -149,7 +149,7 @@ fn set_lone(buf: &mut Buffer, at: Position, room: u16, text: &str, style: Style)
 /// The same, grapheme by grapheme, with the printable bytes between them run by run.
 #[inline(never)]
 fn set_mixed(buf: &mut Buffer, at: Position, room: u16, text: &str, style: Style) -> Mem<u16>
-    requires { at.x + room ≤ 65535 }
+    requires { at.x + room ≤ farthest_edge }
     ensures ok { OnOk result (Painted (set_clusters at.x at.y room style (clusters text.now)) buf.old buf.new) }
     ensures end { IfOk result (λ x. x ≡ set_end at.x room (clusters text.now)) }
     ensures within { IfOk result (λ x. (at.x ≤ x) × (x ≤ at.x + room)) }
@@ -184,7 +184,7 @@ fn set_spans(
     spans: &[Span<'_>],
     style: Style,
 ) -> Mem<u16>
-    requires { at.x + room ≤ 65535 }
+    requires { at.x + room ≤ farthest_edge }
     ensures ok { OnOk result (Painted (spans_layers at.x at.y room (map (in_line style) (map span_data spans.now))) buf.old buf.new) }
     ensures end { IfOk result (λ x. x ≡ spans_end at.x room (map (in_line style) (map span_data spans.now))) }
     ensures kept { KeptOutside (covers (cells_at at.x at.y room)) buf.old buf.new }

@@ -1,6 +1,7 @@
 -- The rules of the program: its words, and what it reads and writes.
 use Rattle.std.specs.Prelude.{ℕ, List, [], ◌∷◌, codes, String}
 use Rattle.std.specs.declared.alloc.Global.{Global}
+use Rattle.tui_cells.specs.Rect.{farthest_edge}
 use Rattle.tui_run.specs.Endings.{nothing}
 use Rattle.tui_run.specs.Rules.{Reading, Rules, reading_rules}
 use Rattle.tui_run.specs.Words.{AreTexts, HaveNumbers}
@@ -16,7 +17,7 @@ use Rattle.tui_tiles.specs.declared.refusal.PanesRefusal.{PanesRefusal}
 
 -- one to five digits of a number up to 65535
 abbrev pub places : Numerals
-places = record { digits = 5; least = 0; most = 65535 }
+places = record { digits = 5; least = 0; most = farthest_edge }
 
 -- the words that name a command: none, `reverse`, or `at` and two such numbers
 abbrev pub Names : PanesCommand → List (String Global) → Type 0

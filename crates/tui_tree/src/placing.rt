@@ -1,6 +1,7 @@
 //! Where panes are placed.
 
 ghost use Rattle.std.specs.Prelude.{◌≡◌, ◌+◌, ◌<◌, ◌≤◌, ◌++◌, ◌↔◌, Err, IfOk, OnOk, IsTrue, length};
+ghost use Rattle.tui_cells.specs.Rect.{farthest_edge};
 ghost use Rattle.tui_layout.specs.Columns.{columns_of};
 ghost use Rattle.tui_tree.specs.Levels.{levels};
 ghost use Rattle.tui_tree.specs.Pane.{pane_data, sizes_data};
@@ -39,8 +40,8 @@ pub fn scene_in<'v>(alloc: Global, area: Rect, root: Pane<'v>) -> Result<Scene<'
 
 /// Adds the leaves of a pane to a scene, in order, each with its area.
 fn place<'v>(alloc: Global, area: Rect, pane: Pane<'v>, scene: &mut Scene<'v>) -> Mem<()>
-    requires right { area.x + area.width ≤ 65535 }
-    requires bottom { area.y + area.height ≤ 65535 }
+    requires right { area.x + area.width ≤ farthest_edge }
+    requires bottom { area.y + area.height ≤ farthest_edge }
     ensures ok { OnOk result (scene.new ≡ scene.old ++ place_in area (pane_data pane.entry)) }
 {
     match pane {

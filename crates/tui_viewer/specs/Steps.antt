@@ -1,5 +1,6 @@
 -- The steps of a pager.
 use Rattle.std.specs.Prelude.{ℕ, ◌+◌, ◌-◌, ◌==◌, min, List, length, slice_index, Option, None, Some, if◌then◌else◌}
+use Rattle.tui_cells.specs.Rect.{farthest_edge}
 use Rattle.tui_layout.specs.Found.{window_of}
 use Rattle.tui_viewer.specs.declared.key.Key.{Key}
 use Rattle.tui_viewer.specs.declared.key.Key.TheVariants.{Up, Down, PageUp, PageDown, First, Last, LineUp, LineDown, BodyTop, BodyEnd}
@@ -13,7 +14,7 @@ pub record Sizes : Type 0 where
 
 -- the greatest line that a body of so many lines begins with
 abbrev pub most_in : ℕ → ℕ → ℕ
-most_in rows lines = min (lines - rows) 65535
+most_in rows lines = min (lines - rows) farthest_edge
 
 -- the lines of the selected body, none where there is none
 abbrev pub lines_at : List ℕ → Option ℕ → ℕ

@@ -5,13 +5,16 @@ ghost use Rattle.tui_viewer.specs.Steps.{line_by, most_in, moved_by, selected_by
 
 use crate::key::Key;
 use crate::state::PagerState;
+use tui_cells::FARTHEST_EDGE;
 use tui_layout::{Sums, window_of};
 
 /// The greatest line that a body of so many lines may begin with.
 pub(crate) fn greatest_line(lines: usize, rows: u16) -> u16
     ensures { result ≡ most_in rows lines }
 {
-    lines.saturating_sub(usize::from(rows)).min(65535) as u16
+    lines
+        .saturating_sub(usize::from(rows))
+        .min(FARTHEST_EDGE as usize) as u16
 }
 
 /// The state behind a key, before the offset follows. `most` is the greatest line of the selected body.
