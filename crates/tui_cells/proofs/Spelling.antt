@@ -1,5 +1,5 @@
 -- Characters of one byte side by side.
-use Rattle.std.proofs.Common.{◌≡◌, ◌≢◌, ◌⊎◌, inl, inr, take, drop, ℕ, zero, suc, ◌+◌, ◌-◌, ◌<◌, ◌≤◌, ◌==◌, Bool, true, false, ◌&&◌, nat_le, nat_lt, List, [], ◌∷◌, ◌++◌, Some, None, length, min, option_map, slice_index, slice_index_or, slice_set, if◌then◌else◌, refl, ◌∙◌, ap, sym, subst, arith}
+use Rattle.std.proofs.Common.{◌≡◌, ◌≢◌, ◌⊎◌, inl, inr, take, drop, ℕ, zero, suc, ◌+◌, ◌-◌, ◌<◌, ◌≤◌, Bool, true, false, ◌&&◌, nat_le, nat_lt, List, [], ◌∷◌, Some, None, length, min, option_map, slice_index, slice_index_or, slice_set, if◌then◌else◌, refl, ◌∙◌, ap, sym, arith}
 use Rattle.std.specs.List.{All}
 use Rattle.std.proofs.lemmas.Bool.{cases_eq}
 use Rattle.std.proofs.lemmas.Bool.Decides.{nat_tests}
@@ -8,7 +8,7 @@ use Rattle.std.proofs.lemmas.List.{get_or_default, get_or-drop, get_or-set_other
 use Rattle.std.proofs.lemmas.List.Elements.{All-from_get_or, All-get_or}
 use Rattle.tui_cells.specs.declared.rect.Rect.{Rect}
 use Rattle.tui_cells.specs.declared.style.Style.{Style}
-use Rattle.tui_cells.specs.Buffer.{IsScreen, Screen, cell_at, look_at}
+use Rattle.tui_cells.specs.Buffer.{IsScreen, Screen}
 use Rattle.tui_cells.specs.Cell.{Edit, IsAtRest, Look, blank, dress, dressed, edited, put}
 use Rattle.tui_cells.specs.Keeping.{IsRow, row_cells}
 use Rattle.tui_cells.specs.Layers.{Painted, StayIn, ascii_layers, at_place, edits, in_row, layers_at}

@@ -7,4 +7,5 @@ use Rattle.tui_cells.specs.Layers.{edits}
 pub record RowSpelt (from to : ℕ) (text : List ℕ) (after : List Edit) (old new : List Look) : Type 0 where
   pub len : length new ≡ length old
   pub cells : (i : ℕ) → slice_index_or new i blank
-      ≡ (if nat_le from i && nat_lt i to then edits (put (slice_index text (i - from) ∷ []) ∷ after) (slice_index_or old i blank) else slice_index_or old i blank)
+      ≡ (if nat_le from i && nat_lt i to then edits (put (slice_index text (i - from) ∷ []) ∷ after) (slice_index_or old i blank)
+      else slice_index_or old i blank)

@@ -1,5 +1,5 @@
 -- A text of one sign of lines, blocks or shapes is one column wide, a plain character, and no blank.
-use Rattle.std.proofs.Common.{◌≡◌, ℕ, ◌+◌, ◌/◌, ◌%◌, ◌<◌, ◌≤◌, Bool, true, false, not, ◌||◌, ◌&&◌, ◌==◌, nat_le, List, [], ◌∷◌, ◌++◌, length, length-append, get_or, ⊎_elim, refl, sym, ap, ◌∙◌, arith}
+use Rattle.std.proofs.Common.{◌≡◌, ℕ, ◌≤◌, Bool, true, false, not, ◌||◌, ◌==◌, List, [], ◌∷◌, ◌++◌, length, length-append, get_or, ⊎_elim, refl, sym, ap, ◌∙◌, arith}
 use Rattle.std.specs.Prelude.{encode_utf8, encode_utf8_all}
 use Rattle.std.specs.Str.{IsUtf8}
 use Rattle.std.proofs.lemmas.Bool.{or_cases}
@@ -9,8 +9,7 @@ use Rattle.ucd_table.proofs.Computing.{tables}
 use Rattle.ucd_table.proofs.StepsLemmas.{rises_from}
 use Rattle.ucd_table.proofs.Stepped.{Stepped, of_ranges, zip_stepped}
 use Rattle.ucd_table.proofs.Facts.{Stepped-everywhere}
-use Rattle.unicode_width.specs.declared.kind.Kind.TheVariants as kinds
-use Rattle.unicode_width.specs.Kind.{kind, kind_number}
+use Rattle.unicode_width.specs.Kind.{kind_number}
 use Rattle.unicode_width.specs.Width.{str_width}
 use Rattle.unicode_width.proofs.KindLemmas.{kind_from_number-kind_number, kind_number_stepped}
 use Rattle.tui_text.specs.Grapheme.{columns_of, width_of}

@@ -1,4 +1,4 @@
-use Rattle.std.proofs.Common.{arith, rules}
+use Rattle.std.proofs.Common.{rules}
 use Rattle.tui_text.proofs.LightTexts.{printable_ascii}
 use Rattle.tui_text.proofs.Runs.{end_spelt, fewer_behind, kept_spelt, light_behind, set_spelt}
 use Rattle.tui_text.proofs.setting.set_run.Goals as goal

@@ -1,4 +1,4 @@
-use Rattle.std.proofs.Common.{rules, refl, arith}
+use Rattle.std.proofs.Common.{rules, refl}
 use Rattle.tui_cells.proofs.Spelling.{spelt_screen}
 use Rattle.tui_cells.proofs.buffer.Buffer.set_ascii_in.Goals as goal
 
