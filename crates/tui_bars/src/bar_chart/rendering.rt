@@ -12,7 +12,7 @@ ghost use Rattle.tui_frames.specs.Footprint.{footprint_if};
 
 use crate::areas::paint_under;
 use crate::bar_chart::BarChart;
-use crate::plan::Pass;
+use crate::plan::{Pass, Walk};
 use std::alloc::Global;
 use tui_cells::{Buffer, Mem, Rect, Widget};
 use tui_frames::BlockExt;
@@ -28,12 +28,24 @@ impl<'a> BarChart<'a> {
         match self.direction {
             Direction::Vertical => {
                 let plan = self.upright_plan(area);
-                self.paint_walk(alloc, buf, plan, Pass::Columns, area.x, area.width)?;
-                self.paint_walk(alloc, buf, plan, Pass::Texts, area.x, area.width)
+                let columns = Walk {
+                    plan,
+                    pass: Pass::Columns,
+                };
+                self.paint_walk(alloc, buf, columns, area.x, area.width)?;
+                let texts = Walk {
+                    plan,
+                    pass: Pass::Texts,
+                };
+                self.paint_walk(alloc, buf, texts, area.x, area.width)
             }
             Direction::Horizontal => {
                 let plan = self.lying_plan(area);
-                self.paint_walk(alloc, buf, plan, Pass::Rows, area.y, area.height)
+                let rows = Walk {
+                    plan,
+                    pass: Pass::Rows,
+                };
+                self.paint_walk(alloc, buf, rows, area.y, area.height)
             }
         }
     }
