@@ -10,7 +10,7 @@ ghost use Rattle.tui_lists.specs.TabsStrokes.{divider_end, divider_layers, tab_e
 ghost use Rattle.tui_text.specs.Line.{line_data};
 ghost use Rattle.tui_text.specs.Setting.{AreLight};
 
-use crate::painting::{dress_if, is_at};
+use crate::painting::highlight_if;
 use crate::tabs::Tabs;
 use std::alloc::Global;
 use tui_cells::{Buffer, Mem, Position, Rect, Widget};
@@ -48,7 +48,7 @@ impl<'a> Tabs<'a> {
         let room = inner.width as usize;
         let start = set_line_in(buf, inner, Position { x, y }, &self.padding_left, room)?;
         let end = set_line_in(buf, inner, Position { x: start, y }, title, room)?;
-        dress_if(
+        highlight_if(
             is_selected,
             buf,
             used_columns(inner, start, end),
@@ -95,7 +95,7 @@ impl<'a> Tabs<'a> {
                 return Ok(());
             }
             let start = self.paint_divider(buf, inner, x, i)?;
-            let is_selected = is_at(self.selected, i);
+            let is_selected = self.selected == Some(i);
             x = self.paint_tab(buf, inner, start, is_selected, &self.titles[i])?;
         }
         Ok(())

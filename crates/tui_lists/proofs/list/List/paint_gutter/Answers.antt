@@ -17,7 +17,7 @@ rows-preserved c =
     record {
       rest = λ final q. c.rows.invariant.rest final
           (gutter_more (list_data c.args.self.now) c.args.is_selected _ c.args.gutter _ _ _ _ _ final (omega arith)
-          (c.both-is_marked.ensures ∙ ap (λ (b : Bool). c.args.is_selected && b) c.either.ensures) row c.in_ok-paint_mark.ensures.ok q);
+          (search) row c.in_ok-paint_mark.ensures.ok q);
       kept = KeptOutside-then c.rows.invariant.kept
           (KeptOutside-weaker (λ x y out. rows_out c.args.gutter c.rows.j 1 x y out) (rw row at c.in_ok-paint_mark.ensures.kept));
     }
