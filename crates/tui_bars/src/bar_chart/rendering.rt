@@ -10,12 +10,11 @@ ghost use Rattle.tui_cells.specs.Layers.{KeptOutside, Painted};
 ghost use Rattle.tui_cells.specs.Rect.{covers, is_empty};
 ghost use Rattle.tui_frames.specs.Footprint.{footprint_if};
 
-use crate::areas::paint_under;
 use crate::bar_chart::BarChart;
 use crate::plan::{Pass, Walk};
 use std::alloc::Global;
 use tui_cells::{Buffer, Mem, Rect, Widget};
-use tui_frames::BlockExt;
+use tui_frames::paint_frame;
 use tui_layout::Direction;
 
 impl<'a> BarChart<'a> {
@@ -73,8 +72,8 @@ impl<'a> BarChart<'a> {
         if clip.is_empty() {
             return Ok(());
         }
-        paint_under(alloc, buf, clip, self.style, &self.block)?;
-        self.paint_content(alloc, buf, self.block.inner_if_some(clip))
+        let inner = paint_frame(alloc, buf, clip, self.style, &self.block)?;
+        self.paint_content(alloc, buf, inner)
     }
 }
 

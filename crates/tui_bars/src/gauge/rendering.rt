@@ -26,12 +26,12 @@ ghost use Rattle.tui_frames.specs.Footprint.{footprint_if};
 ghost use Rattle.tui_text.specs.Setting.{AreLight};
 ghost use Rattle.tui_text.specs.Span.{span_data};
 
-use crate::areas::{paint_under, put_in};
+use crate::areas::put_in;
 use crate::gauge::Gauge;
 use crate::percent::{eighths_of, percent_text, rounded_columns, whole_columns};
 use std::alloc::Global;
 use tui_cells::{Buffer, Color, Mem, Position, Rect, Style, Widget, block};
-use tui_frames::BlockExt;
+use tui_frames::paint_frame;
 use tui_text::{Span, set_span_in};
 
 /// The symbol of so many eighths of a cell, from the left.
@@ -209,8 +209,8 @@ impl<'a> Gauge<'a> {
         if clip.is_empty() {
             return Ok(());
         }
-        paint_under(alloc, buf, clip, self.style, &self.block)?;
-        self.paint_content(alloc, buf, self.block.inner_if_some(clip))
+        let inner = paint_frame(alloc, buf, clip, self.style, &self.block)?;
+        self.paint_content(alloc, buf, inner)
     }
 }
 

@@ -19,7 +19,7 @@ use crate::list::state::ListState;
 use crate::painting::highlight_if;
 use std::alloc::Global;
 use tui_cells::{Buffer, Mem, Rect, StatefulWidget, Style, Widget};
-use tui_frames::{BlockExt, paint_if_some};
+use tui_frames::paint_frame;
 use tui_text::{Alignment, paint_row, paint_rows};
 
 /// An item of which rows are shown.
@@ -223,9 +223,8 @@ impl<'a> List<'a> {
         if clip.is_empty() {
             return Ok(state);
         }
-        buf.set_style(clip, self.style);
-        paint_if_some(alloc, buf, clip, &self.block)?;
-        self.paint_inside(alloc, buf, self.block.inner_if_some(clip), state)
+        let inner = paint_frame(alloc, buf, clip, self.style, &self.block)?;
+        self.paint_inside(alloc, buf, inner, state)
     }
 }
 

@@ -14,7 +14,7 @@ use crate::painting::highlight_if;
 use crate::tabs::Tabs;
 use std::alloc::Global;
 use tui_cells::{Buffer, Mem, Position, Rect, Widget};
-use tui_frames::{BlockExt, paint_if_some};
+use tui_frames::paint_frame;
 use tui_text::{Line, set_line_in, set_span_in};
 
 /// The columns of the first row from one up to another, as far as the area has them.
@@ -111,9 +111,8 @@ impl<'a> Tabs<'a> {
         if clip.is_empty() {
             return Ok(());
         }
-        buf.set_style(clip, self.style);
-        paint_if_some(alloc, buf, clip, &self.block)?;
-        self.paint_titles(buf, self.block.inner_if_some(clip))
+        let inner = paint_frame(alloc, buf, clip, self.style, &self.block)?;
+        self.paint_titles(buf, inner)
     }
 }
 

@@ -54,7 +54,7 @@ use crate::table::Table;
 use crate::table::areas::{cut_to, height_if};
 use std::alloc::Global;
 use tui_cells::{Buffer, Mem, Rect, StatefulWidget, Style, Widget};
-use tui_frames::{BlockExt, paint_if_some};
+use tui_frames::paint_frame;
 use tui_layout::Window;
 
 impl<'a> Table<'a> {
@@ -312,9 +312,8 @@ impl<'a> Table<'a> {
         if clip.is_empty() {
             return Ok(state);
         }
-        buf.set_style(clip, self.style);
-        paint_if_some(alloc, buf, clip, &self.block)?;
-        self.paint_inside(alloc, buf, self.block.inner_if_some(clip), state)
+        let inner = paint_frame(alloc, buf, clip, self.style, &self.block)?;
+        self.paint_inside(alloc, buf, inner, state)
     }
 }
 
