@@ -1,7 +1,8 @@
 -- Which bars of a chart are shown, and where: places are columns of a vertical chart, and rows of a horizontal one.
 use Rattle.std.specs.Prelude.{ℕ, ◌+◌, ◌-◌, ◌*◌, ◌/◌, ◌==◌, min, nat_lt, List, [], ◌∷◌, length, take, if◌then◌else◌}
 use Rattle.tui_frames.specs.Space.{past}
-use Rattle.tui_bars.specs.BarChart.{BarChartData, BarData, GroupData}
+use Rattle.tui_bars.specs.BarChart.{BarChartData, BarData, GroupData, group_data}
+use Rattle.tui_bars.specs.declared.shown_group.ShownGroup.{ShownGroup}
 
 -- the room of n bars, with a gap between two of them
 abbrev pub room_of : BarChartData → ℕ → ℕ
@@ -28,6 +29,10 @@ pub record Shown : Type 0 where
   pub at : ℕ
   pub count : ℕ
   pub group : GroupData
+
+-- such a group of the code as plain data
+abbrev pub shown_data : ShownGroup → Shown
+shown_data s = record { at = s.at; count = s.count; group = group_data s.group.now }
 
 -- the groups of which a bar is shown, from a place on in a space
 unfoldable pub shown_groups : BarChartData → ℕ → ℕ → List GroupData → List Shown

@@ -54,24 +54,32 @@ fn row_at(area: Rect, n: u16) -> Rect
     }
 }
 
+/// A bar that stands.
+#[derive(Clone, Copy, Debug)]
+pub(crate) struct StandingBar {
+    /// All of its cells.
+    pub(crate) area: Rect,
+    /// The eighths of a cell that are filled, from below.
+    pub(crate) filled: u32,
+    pub(crate) style: Style,
+}
+
 /// Puts the symbols of a bar in the part of its area that lies in the clip, row by row upwards.
 pub(crate) fn paint_levels(
     alloc: Global,
     buf: &mut Buffer,
     clip: Rect,
-    area: Rect,
     set: &bar::Set<'_>,
-    style: Style,
-    filled: u32,
+    bar: StandingBar,
 ) -> Mem<()>
-    ensures ok { OnOk result (Painted (standing_layers (bar_data set.now) clip area style filled) buf.old buf.new) }
+    ensures ok { OnOk result (Painted (standing_layers (bar_data set.now) clip bar.area bar.style bar.filled) buf.old buf.new) }
     ensures kept { KeptOutside (covers clip) buf.old buf.new }
     ensures light { AreLightLevels (bar_data set.now) → IsOk result }
 {
-    let mut left = filled;
-    'rows: for up in 0..area.height {
-        let row = row_at(area, area.height - 1 - up);
-        put_in(alloc, buf, clip, row, level(set, left), style)?;
+    let mut left = bar.filled;
+    'rows: for up in 0..bar.area.height {
+        let row = row_at(bar.area, bar.area.height - 1 - up);
+        put_in(alloc, buf, clip, row, level(set, left), bar.style)?;
         left = left.saturating_sub(8);
     }
     Ok(())

@@ -15,6 +15,7 @@ mod percent;
 mod plan;
 pub mod render_direction;
 mod share;
+mod shown_group;
 pub mod sparkline;
 pub mod sparkline_bar;
 

@@ -1,6 +1,6 @@
 //! Shares in percent, and the columns that they fill.
 
-ghost use Rattle.std.specs.Prelude.{◌≡◌, ◌+◌, ◌*◌, ◌++◌, ◌<◌, ◌≤◌, ◌^◌, [], ◌∷◌, Err, IfOk, IsOk, codes, decimal};
+ghost use Rattle.std.specs.Prelude.{◌≡◌, ◌+◌, ◌*◌, ◌++◌, ◌<◌, ◌≤◌, ◌^◌, [], ◌∷◌, Err, IfOk, IsOk, codes, decimal, true, false};
 ghost use Rattle.tui_bars.specs.Percent.{eighths_of, fill_of, half_even, padded, percent_label, percent_of};
 ghost use Rattle.tui_text.specs.Setting.{AreLight};
 ghost use Rattle.tui_text.specs.Span.{raw_span};
@@ -102,17 +102,21 @@ pub(crate) fn percent_label(share: Share) -> ArrayString<48>
     padded(half_even(100 * u128::from(share.num), u128::from(share.den)))
 }
 
-/// The columns of a width that are filled: rounded, or without the part of a column.
-pub(crate) fn fill_of(is_exact: bool, width: u16, share: Share) -> u16
-    ensures { result ≡ fill_of is_exact width share.num share.den }
+/// The whole columns of a width that a share fills.
+pub(crate) fn whole_columns(width: u16, share: Share) -> u16
+    ensures { result ≡ fill_of true width share.num share.den }
+{
+    let part = u128::from(width) * u128::from(share.num);
+    (part / u128::from(share.den)) as u16
+}
+
+/// The columns of a width that a share fills, rounded.
+pub(crate) fn rounded_columns(width: u16, share: Share) -> u16
+    ensures { result ≡ fill_of false width share.num share.den }
 {
     let part = u128::from(width) * u128::from(share.num);
     let den = u128::from(share.den);
-    if is_exact {
-        (part / den) as u16
-    } else {
-        ((2 * part + den) / (2 * den)) as u16
-    }
+    ((2 * part + den) / (2 * den)) as u16
 }
 
 /// The eighths of the column after them that are filled, rounded.

@@ -19,7 +19,14 @@ pub(crate) struct Plan {
     pub(crate) start: u16,
 }
 
-/// One walk over the shown bars.
+/// A walk over the shown bars.
+#[derive(Clone, Copy, Debug, PartialEq, Eq)]
+pub(crate) struct Walk {
+    pub(crate) plan: Plan,
+    pub(crate) pass: Pass,
+}
+
+/// What a walk draws.
 #[derive(Clone, Copy, Debug, PartialEq, Eq)]
 pub(crate) enum Pass {
     /// Bars that stand.

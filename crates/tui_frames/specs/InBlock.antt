@@ -1,7 +1,10 @@
 -- Widgets that may have a block.
 use Rattle.std.specs.Prelude.{⊤, ℕ, ◌+◌, List, [], ◌++◌, Option, None, Some}
 use Rattle.tui_cells.specs.declared.rect.Rect.{Rect}
-use Rattle.tui_cells.specs.Layers.{Layer}
+use Rattle.tui_cells.specs.declared.style.Style.{Style}
+use Rattle.tui_cells.specs.Cell.{dress}
+use Rattle.tui_cells.specs.Layers.{Layer, stroke}
+use Rattle.tui_cells.specs.Rect.{covers}
 use Rattle.tui_text.specs.Width.{saturated}
 use Rattle.tui_frames.specs.Block.{BlockData}
 use Rattle.tui_frames.specs.Light.{IsLightBlock}
@@ -17,6 +20,10 @@ inner_of (Some b) area = inner b area
 abbrev pub block_layers_if : Option BlockData → Rect → List Layer
 block_layers_if None clip = []
 block_layers_if (Some b) clip = block_layers b clip
+
+-- what stands under the content: the style on the clip, and the block
+abbrev pub frame_layers : Option BlockData → Style → Rect → List Layer
+frame_layers block style clip = stroke (covers clip) (dress style) ++ block_layers_if block clip
 
 -- the block and then the content, which stands in the block's inner area, or in the clip where there is no block
 abbrev pub in_block_layers : Option BlockData → (Rect → List Layer) → Rect → List Layer

@@ -5,12 +5,12 @@ ghost use Rattle.tui_cells.specs.Layers.{KeptOutside, Painted};
 ghost use Rattle.tui_cells.specs.declared.rect.Rect.{Rect};
 ghost use Rattle.tui_frames.specs.Block.{block_data};
 ghost use Rattle.tui_frames.specs.Footprint.{footprint_if};
-ghost use Rattle.tui_frames.specs.InBlock.{IsLightIfBlock, beside, block_layers_if, inner_of};
+ghost use Rattle.tui_frames.specs.InBlock.{IsLightIfBlock, beside, block_layers_if, frame_layers, inner_of};
 ghost use Rattle.tui_frames.specs.Space.{columns_around, rows_around};
 
 use crate::block::Block;
 use std::alloc::Global;
-use tui_cells::{Buffer, Mem, Rect};
+use tui_cells::{Buffer, Mem, Rect, Style};
 
 /// A block that a widget may have.
 pub trait BlockExt {
@@ -48,6 +48,24 @@ pub fn paint_if_some(
         None => Ok(()),
         Some(block) => block.paint_in(alloc, buf, clip),
     }
+}
+
+/// Sets a widget's style in its clip, and draws the block that it may have. Answers the area for what stands inside.
+pub fn paint_frame(
+    alloc: Global,
+    buf: &mut Buffer,
+    clip: Rect,
+    style: Style,
+    block: &Option<Block<'_>>,
+) -> Mem<Rect>
+    ensures ok { OnOk result (Painted (frame_layers (option_map block_data block.now) style clip) buf.old buf.new) }
+    ensures inside { IfOk result (λ inside. inside ≡ inner_of (option_map block_data block.now) clip) }
+    ensures kept { KeptOutside (footprint_if (option_map block_data block.now) clip) buf.old buf.new }
+    ensures light { IsLightIfBlock (option_map block_data block.now) → IsOk result }
+{
+    buf.set_style(clip, style);
+    paint_if_some(alloc, buf, clip, block)?;
+    Ok(block.inner_if_some(clip))
 }
 
 /// The block that a widget may have, once more. `NoMemory` where there is none for its titles.

@@ -15,7 +15,7 @@ pub mod title_position;
 
 pub use block::{Block, Title};
 pub use block_ext::{
-    BlockExt, beside, clone_if_some, columns_if_some, paint_if_some, rows_if_some,
+    BlockExt, beside, clone_if_some, columns_if_some, paint_frame, paint_if_some, rows_if_some,
 };
 pub use border_type::BorderType;
 pub use borders::Borders;

@@ -4,3 +4,4 @@ pub mod ListShown
 pub mod TabsPainted
 pub mod Thumb
 pub mod Runs
+pub mod Selected

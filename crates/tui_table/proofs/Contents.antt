@@ -2,16 +2,10 @@
 use Rattle.std.proofs.Common.{◌≡◌, ◌≤◌, ℕ, ◌+◌, min, false, List, length, Option, ◌∙◌, ap, subst}
 use Rattle.tui_cells.specs.declared.rect.Rect.{Rect}
 use Rattle.tui_cells.specs.Buffer.{Screen}
-use Rattle.tui_cells.specs.declared.style.Style.{Style}
-use Rattle.tui_cells.specs.Cell.{dress}
-use Rattle.tui_cells.specs.Layers.{KeptOutside, Painted, stroke}
+use Rattle.tui_cells.specs.Layers.{KeptOutside, Painted}
 use Rattle.tui_cells.specs.Rect.{covers, is_empty}
-use Rattle.tui_cells.specs.Stays.{StayIn-stroke}
-use Rattle.tui_cells.proofs.Painting.{KeptOutside-weaker, Painted-kept, Painted-then}
+use Rattle.tui_cells.proofs.Painting.{KeptOutside-weaker, Painted-then}
 use Rattle.tui_cells.proofs.Regions.{rows_out}
-use Rattle.tui_frames.specs.Block.{BlockData}
-use Rattle.tui_frames.specs.Footprint.{footprint_if}
-use Rattle.tui_frames.proofs.InBlock.{clip_kept}
 use Rattle.tui_layout.specs.declared.segment.Segment.{Segment}
 use Rattle.tui_layout.specs.declared.window.Window.{Window}
 use Rattle.tui_table.specs.Areas.{area_in, columns_in, gutter_of, height_if, room_of}
@@ -52,7 +46,3 @@ after_is t inner s w selected column shown ws ss cs = rw (shown, ss, cs) (ap (λ
 pub row_kept : (body area : Rect) (from : ℕ) (r : RowData) (a b : Screen) → area ≡ area_in body from r → KeptOutside (covers area) a b → KeptOutside (covers body) a b
 row_kept body area from r a b e k =
     KeptOutside-weaker (λ x y out. rows_out body (from + r.top_margin) r.height x y out) (subst (λ (s : Rect). KeptOutside (covers s) a b) e k)
-
--- a style on the clip stays in the footprint
-pub dressed_kept : (o : Option BlockData) (clip : Rect) (style : Style) (a b : Screen) → Painted (stroke (covers clip) (dress style)) a b → KeptOutside (footprint_if o clip) a b
-dressed_kept o clip style a b p = clip_kept o clip (Painted-kept (StayIn-stroke (covers clip) (dress style) (λ x y out. out)) p)

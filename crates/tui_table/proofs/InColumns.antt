@@ -1,5 +1,5 @@
 -- Cells in columns, one more at a time.
-use Rattle.std.proofs.Common.{◌≡◌, ℕ, ◌+◌, ◌-◌, ◌*◌, ◌<◌, ◌≤◌, min, List, [], ◌∷◌, map, drop, take, length, get_or, refl, ◌∙◌, ap, sym, subst, arith, add-one, drop-cons, Bool, Result, OnOk, sum_by}
+use Rattle.std.proofs.Common.{◌≡◌, ℕ, ◌+◌, ◌-◌, ◌*◌, ◌<◌, ◌≤◌, min, List, [], ◌∷◌, map, drop, take, length, get_or, refl, ◌∙◌, ap, sym, subst, arith, add-one, drop-cons, Result, OnOk, sum_by}
 use Rattle.std.proofs.lemmas.List.{drop_all, get_or-map, length-map}
 use Rattle.std.proofs.lemmas.Grind.{common_steps}
 use Rattle.tui_cells.specs.declared.rect.Rect.{Rect}
@@ -9,6 +9,7 @@ use Rattle.tui_cells.specs.Rect.{columns_from}
 use Rattle.tui_cells.proofs.Painting.{Painted-none, Painted-then}
 use Rattle.tui_layout.specs.declared.segment.Segment.{Segment}
 use Rattle.tui_table.specs.Cell.{CellData}
+use Rattle.tui_table.specs.declared.row_kind.RowKind.{RowKind}
 use Rattle.tui_table.specs.Strokes.{cell_layers, cells_layers, over_columns, span_in, text_over}
 
 -- the columns that a cell of a span gets, and those after it
@@ -20,27 +21,27 @@ rest_of : (columns : List Segment) (used span : ℕ) → used ≤ length columns
     drop (used + min span (length columns - used)) columns ≡ drop span (drop used columns)
 rest_of columns used span le = grind (arith, common_steps)
 
-pub cells_more : {A : Type 0} (f : A → CellData) (xs : List A) (area : Rect) (gutter spacing : ℕ) (is_edge : Bool) (i used end : ℕ) (columns : List Segment) (x : A) (a b c : Screen) →
-    i < length xs → x ≡ get_or xs i x → used ≤ length columns → end ≡ used + min (span_in is_edge (f x)) (length columns - used) →
+pub cells_more : {A : Type 0} (f : A → CellData) (xs : List A) (area : Rect) (gutter spacing : ℕ) (kind : RowKind) (i used end : ℕ) (columns : List Segment) (x : A) (a b c : Screen) →
+    i < length xs → x ≡ get_or xs i x → used ≤ length columns → end ≡ used + min (span_in kind (f x)) (length columns - used) →
     Painted (cell_layers area gutter spacing (take (end - used) (drop used columns)) (f x)) a b →
-    Painted (cells_layers area gutter spacing is_edge (drop end columns) (drop (i + 1) (map f xs))) b c →
-    Painted (cells_layers area gutter spacing is_edge (drop used columns) (drop i (map f xs))) a c
+    Painted (cells_layers area gutter spacing kind (drop end columns) (drop (i + 1) (map f xs))) b c →
+    Painted (cells_layers area gutter spacing kind (drop used columns) (drop i (map f xs))) a c
 unfolding cells_layers
-cells_more f xs area gutter spacing is_edge i used end columns x a b c lt here le e p q =
+cells_more f xs area gutter spacing kind i used end columns x a b c lt here le e p q =
     let inside : i < length (map f xs) = rw (length-map xs f) lt in
     let item : get_or (map f xs) i (f x) ≡ f x = get_or-map f xs i x (f x) lt ∙ sym (ap f here) in
     let whole : drop i (map f xs) ≡ f x ∷ drop (i + 1) (map f xs) = rw (add-one, drop-cons (map f xs) i (f x) inside, item) refl in
-    let first : take (end - used) (drop used columns) ≡ take (span_in is_edge (f x)) (drop used columns) =
-    ap (λ n. take (n - used) (drop used columns)) e ∙ part_of columns used (span_in is_edge (f x)) le in
-    let rest : drop end columns ≡ drop (span_in is_edge (f x)) (drop used columns) = ap (λ n. drop n columns) e ∙ rest_of columns used (span_in is_edge (f x)) le in
+    let first : take (end - used) (drop used columns) ≡ take (span_in kind (f x)) (drop used columns) =
+    ap (λ n. take (n - used) (drop used columns)) e ∙ part_of columns used (span_in kind (f x)) le in
+    let rest : drop end columns ≡ drop (span_in kind (f x)) (drop used columns) = ap (λ n. drop n columns) e ∙ rest_of columns used (span_in kind (f x)) le in
     rw whole (Painted-then
     (subst (λ (ks : List Segment). Painted (cell_layers area gutter spacing ks (f x)) a b) first p)
-    (subst (λ (ks : List Segment). Painted (cells_layers area gutter spacing is_edge ks (drop (i + 1) (map f xs))) b c) rest q))
+    (subst (λ (ks : List Segment). Painted (cells_layers area gutter spacing kind ks (drop (i + 1) (map f xs))) b c) rest q))
 
-pub cells_done : (area : Rect) (gutter spacing : ℕ) (is_edge : Bool) (i : ℕ) (columns : List Segment) (cells : List CellData) (a : Screen) → length cells ≤ i →
-    Painted (cells_layers area gutter spacing is_edge columns (drop i cells)) a a
+pub cells_done : (area : Rect) (gutter spacing : ℕ) (kind : RowKind) (i : ℕ) (columns : List Segment) (cells : List CellData) (a : Screen) → length cells ≤ i →
+    Painted (cells_layers area gutter spacing kind columns (drop i cells)) a a
 unfolding cells_layers
-cells_done area gutter spacing is_edge i columns cells a le = rw (drop_all i cells le) (Painted-none a)
+cells_done area gutter spacing kind i columns cells a le = rw (drop_all i cells le) (Painted-none a)
 
 pub cell_none : (area : Rect) (gutter spacing : ℕ) (columns : List Segment) (d : CellData) (a : Screen) → length columns ≡ 0 →
     Painted (cell_layers area gutter spacing columns d) a a

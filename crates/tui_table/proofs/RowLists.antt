@@ -1,5 +1,5 @@
 -- Rows of a table, one more at a time.
-use Rattle.std.proofs.Common.{◌≡◌, ℕ, ◌+◌, ◌-◌, ◌<◌, ◌≤◌, min, Bool, false, List, [], ◌∷◌, ◌++◌, drop, length, map, take, get_or, Option, inl, inr, ◌∙◌, ap, sym, subst, arith}
+use Rattle.std.proofs.Common.{◌≡◌, ℕ, ◌+◌, ◌-◌, ◌<◌, ◌≤◌, min, List, [], ◌∷◌, ◌++◌, drop, length, map, take, get_or, Option, inl, inr, ◌∙◌, ap, sym, subst, arith}
 use Rattle.std.specs.Prelude.{flat_map, slice_range}
 use Rattle.std.specs.List.{enumerate_from}
 use Rattle.std.proofs.lemmas.Bool.{cases_lt}
@@ -15,7 +15,8 @@ use Rattle.tui_layout.specs.Sums.{total}
 use Rattle.tui_layout.specs.declared.segment.Segment.{Segment}
 use Rattle.tui_table.specs.Areas.{area_in}
 use Rattle.tui_table.specs.Row.{RowData, heights_of, row_height}
-use Rattle.tui_table.specs.Strokes.{is_at, row_in, row_layers, rows_layers}
+use Rattle.tui_table.specs.declared.row_kind.RowKind.{RowKind}
+use Rattle.tui_table.specs.Strokes.{kind_at, row_in, row_layers, rows_layers}
 use Rattle.tui_table.specs.Table.{TableData}
 
 -- the heights of the first rows, and of one more
@@ -58,22 +59,22 @@ unfolding rows_layers
 rows_none t body gutter columns selected first a = let e : first - first ≡ 0 = omega arith in rw e (Painted-none a)
 
 -- one more row
-pub rows_more : (t : TableData) (body area : Rect) (gutter : ℕ) (columns : List Segment) (selected : Option ℕ) (first i used : ℕ) (is_selected : Bool) (r : RowData) (a b c : Screen) →
-    first ≤ i → i < length t.rows → r ≡ get_or t.rows i r → used ≡ total (heights_of t.rows) first i → area ≡ area_in body used r → is_selected ≡ is_at selected i →
-    Painted (rows_layers t body gutter columns selected first i) a b → Painted (row_layers t gutter columns false is_selected area r) b c →
+pub rows_more : (t : TableData) (body area : Rect) (gutter : ℕ) (columns : List Segment) (selected : Option ℕ) (first i used : ℕ) (kind : RowKind) (r : RowData) (a b c : Screen) →
+    first ≤ i → i < length t.rows → r ≡ get_or t.rows i r → used ≡ total (heights_of t.rows) first i → area ≡ area_in body used r → kind ≡ kind_at selected i →
+    Painted (rows_layers t body gutter columns selected first i) a b → Painted (row_layers t gutter columns kind area r) b c →
     Painted (rows_layers t body gutter columns selected first (i + 1)) a c
 unfolding rows_layers
-rows_more t body area gutter columns selected first i used is_selected r a b c le lt here sum place at p q =
+rows_more t body area gutter columns selected first i used kind r a b c le lt here sum place at p q =
     let rows = enumerate_from 0 t.rows in
     let inside : i < length (enumerate_from 0 t.rows) = rw (length-enumerate_from 0 t.rows) lt in
     let count : 0 + i ≡ i = omega arith in
     let found : (i, r) ≡ get_or (enumerate_from 0 t.rows) i (i, r) =
     sym (get_or-enumerate_from 0 t.rows i (i, r) lt ∙ (ap (λ (n : ℕ). (n, get_or t.rows i r)) count ∙ ap (λ (y : RowData). (i, y)) (sym here))) in
     let P : List (ℕ × RowData) → Type 0 = λ rs. Painted (flat_map (row_in t body gutter columns selected first) rs) a c in
-    let R : ℕ → Bool → Type 0 = λ n k. Painted (row_layers t gutter columns false k (area_in body n r) r) b c in
-    let one : R (total (heights_of t.rows) first i) (is_at selected i) =
-    subst (λ k. R (total (heights_of t.rows) first i) k) at (subst (λ n. R n is_selected) sum
-    (subst (λ (s : Rect). Painted (row_layers t gutter columns false is_selected s r) b c) place q)) in
+    let R : ℕ → RowKind → Type 0 = λ n k. Painted (row_layers t gutter columns k (area_in body n r) r) b c in
+    let one : R (total (heights_of t.rows) first i) (kind_at selected i) =
+    subst (λ k. R (total (heights_of t.rows) first i) k) at (subst (λ n. R n kind) sum
+    (subst (λ (s : Rect). Painted (row_layers t gutter columns kind s r) b c) place q)) in
     subst P (sym (slice_more rows first i (i, r) le inside found))
     (rw (flat_map-append (row_in t body gutter columns selected first) (slice_range rows first i) ((i, r) ∷ [])) (Painted-then p (Painted-then one (Painted-none c))))
 

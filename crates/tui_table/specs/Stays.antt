@@ -46,10 +46,10 @@ use Rattle.tui_table.specs.Strokes.{
   cell_layers,
   cells_layers,
   content_layers,
-  dress_if,
+  dress_if_some,
   edge_layers,
   highlight_layers,
-  is_at,
+  kind_at,
   over_columns,
   row_area,
   row_in,
@@ -58,10 +58,13 @@ use Rattle.tui_table.specs.Strokes.{
   selected_column,
   selected_row,
   span_in,
+  symbol_layers,
   table_layers,
   text_over,
 }
 use Rattle.tui_table.specs.Table.{TableData}
+use Rattle.tui_table.specs.declared.row_kind.RowKind.{RowKind}
+use Rattle.tui_table.specs.declared.row_kind.RowKind.TheVariants.{Edge, Plain, Selected}
 use Rattle.tui_table.specs.declared.state.TableState.{TableState}
 use Rattle.tui_text.specs.Text.{TextData}
 use Rattle.tui_text.proofs.RowStays.{text_stays}
@@ -73,7 +76,7 @@ in_rows r from count s = StayIn-wider (λ x y out. rows_out r from count x y out
 in_columns : (r : Rect) (from count : ℕ) {ls : List Layer} → StayIn (covers (columns_from r from count)) ls → StayIn (covers r) ls
 in_columns r from count s = StayIn-wider (λ x y out. columns_out r from count x y out) s
 
-dress_stays : (area : Rect) (style : Style) → StayIn (covers area) (dress_if style (Some area))
+dress_stays : (area : Rect) (style : Style) → StayIn (covers area) (dress_if_some style (Some area))
 dress_stays area style = StayIn-stroke (covers area) (dress style) (λ x y out. out)
 
 -- a text over an area stays there
@@ -86,37 +89,37 @@ unfolding cell_layers
 cell_stays area gutter spacing [] c = StayIn-none
 cell_stays area gutter spacing (k ∷ ks) c = in_columns area _ _ (over_stays (over_columns area gutter spacing k ks) c.style c.content)
 
-cells_stay : (area : Rect) (gutter spacing : ℕ) (is_edge : Bool) (columns : List Segment) (cs : List CellData) →
-    StayIn (covers area) (cells_layers area gutter spacing is_edge columns cs)
+cells_stay : (area : Rect) (gutter spacing : ℕ) (kind : RowKind) (columns : List Segment) (cs : List CellData) →
+    StayIn (covers area) (cells_layers area gutter spacing kind columns cs)
 unfolding cells_layers
-cells_stay area gutter spacing is_edge columns [] = StayIn-none
-cells_stay area gutter spacing is_edge columns (c ∷ cs) =
-    StayIn-append (cell_stays area gutter spacing (take (span_in is_edge c) columns) c)
-    (cells_stay area gutter spacing is_edge (drop (span_in is_edge c) columns) cs)
+cells_stay area gutter spacing kind columns [] = StayIn-none
+cells_stay area gutter spacing kind columns (c ∷ cs) =
+    StayIn-append (cell_stays area gutter spacing (take (span_in kind c) columns) c)
+    (cells_stay area gutter spacing kind (drop (span_in kind c) columns) cs)
 
-symbol_stays : (t : TableData) (gutter : ℕ) (area : Rect) (style : Style) (is_selected : Bool) →
-    StayIn (covers area) (if is_selected then text_over (columns_from area 0 gutter) style t.symbol else [])
-symbol_stays t gutter area style true = in_columns area 0 gutter (over_stays (columns_from area 0 gutter) style t.symbol)
-symbol_stays t gutter area style false = StayIn-none
+symbol_stays : (t : TableData) (gutter : ℕ) (kind : RowKind) (area : Rect) (style : Style) → StayIn (covers area) (symbol_layers t gutter kind area style)
+symbol_stays t gutter Edge area style = StayIn-none
+symbol_stays t gutter Plain area style = StayIn-none
+symbol_stays t gutter Selected area style = in_columns area 0 gutter (over_stays (columns_from area 0 gutter) style t.symbol)
 
-row_stays : (t : TableData) (gutter : ℕ) (columns : List Segment) (is_edge is_selected : Bool) (area : Rect) (r : RowData) →
-    StayIn (covers area) (row_layers t gutter columns is_edge is_selected area r)
+row_stays : (t : TableData) (gutter : ℕ) (columns : List Segment) (kind : RowKind) (area : Rect) (r : RowData) →
+    StayIn (covers area) (row_layers t gutter columns kind area r)
 unfolding row_layers
-row_stays t gutter columns is_edge is_selected area r =
-    StayIn-append (dress_stays area r.style) (StayIn-append (symbol_stays t gutter area r.style is_selected)
-    (cells_stay area gutter t.spacing is_edge columns r.cells))
+row_stays t gutter columns kind area r =
+    StayIn-append (dress_stays area r.style) (StayIn-append (symbol_stays t gutter kind area r.style)
+    (cells_stay area gutter t.spacing kind columns r.cells))
 
 edge_stays : (t : TableData) (inner : Rect) (gutter : ℕ) (columns : List Segment) (from : ℕ) (o : Option RowData) →
     StayIn (covers inner) (edge_layers t inner gutter columns from o)
 unfolding edge_layers
 edge_stays t inner gutter columns from None = StayIn-none
-edge_stays t inner gutter columns from (Some r) = in_rows inner _ _ (row_stays t gutter columns true false (area_in inner from r) r)
+edge_stays t inner gutter columns from (Some r) = in_rows inner _ _ (row_stays t gutter columns Edge (area_in inner from r) r)
 
 each_stays : (t : TableData) (body : Rect) (gutter : ℕ) (columns : List Segment) (selected : Option ℕ) (first : ℕ) (rows : List (ℕ × RowData)) →
     StayIn (covers body) (flat_map (row_in t body gutter columns selected first) rows)
 each_stays t body gutter columns selected first [] = StayIn-none
 each_stays t body gutter columns selected first ((i, r) ∷ rows) =
-    StayIn-append (in_rows body _ _ (row_stays t gutter columns false (is_at selected i) (row_area t body first i r) r))
+    StayIn-append (in_rows body _ _ (row_stays t gutter columns (kind_at selected i) (row_area t body first i r) r))
     (each_stays t body gutter columns selected first rows)
 
 rows_stay : (t : TableData) (body : Rect) (gutter : ℕ) (columns : List Segment) (selected : Option ℕ) (first last : ℕ) →
@@ -150,16 +153,16 @@ both_out body None b p = tt
 both_out body (Some a) None p = tt
 both_out body (Some a) (Some b) p = λ x y out. outside_both a b x y (p x y out)
 
-dress_if_stays : (body : Rect) (style : Style) (o : Option Rect) → OutOf body o → StayIn (covers body) (dress_if style o)
-dress_if_stays body style None p = StayIn-none
-dress_if_stays body style (Some area) p = StayIn-stroke (covers area) (dress style) p
+dressed_stays : (body : Rect) (style : Style) (o : Option Rect) → OutOf body o → StayIn (covers body) (dress_if_some style o)
+dressed_stays body style None p = StayIn-none
+dressed_stays body style (Some area) p = StayIn-stroke (covers area) (dress style) p
 
 highlights_stay : (t : TableData) (body : Rect) (row column : Option Rect) → OutOf body row → OutOf body column →
     StayIn (covers body) (highlight_layers t row column)
 unfolding highlight_layers
 highlights_stay t body row column p q =
-    StayIn-append (dress_if_stays body t.row_style row p)
-    (StayIn-append (dress_if_stays body t.column_style column q) (dress_if_stays body t.cell_style (both_areas row column) (both_out body row column p)))
+    StayIn-append (dressed_stays body t.row_style row p)
+    (StayIn-append (dressed_stays body t.column_style column q) (dressed_stays body t.cell_style (both_areas row column) (both_out body row column p)))
 
 -- the rows stay in the body
 pub body_stays : (t : TableData) (body : Rect) (gutter : ℕ) (columns : List Segment) (selected column : Option ℕ) (first last : ℕ) →

@@ -4,9 +4,6 @@ use Rattle.std.specs.Prelude.{
   ◌+◌,
   ◌*◌,
   ◌==◌,
-  Bool,
-  true,
-  false,
   List,
   [],
   ◌∷◌,
@@ -38,6 +35,8 @@ use Rattle.tui_table.specs.Cell.{CellData}
 use Rattle.tui_table.specs.Moves.{column_after, row_after, table_window}
 use Rattle.tui_table.specs.Row.{RowData, heights_of}
 use Rattle.tui_table.specs.Table.{TableData}
+use Rattle.tui_table.specs.declared.row_kind.RowKind.{RowKind}
+use Rattle.tui_table.specs.declared.row_kind.RowKind.TheVariants.{Edge, Plain, Selected}
 use Rattle.tui_table.specs.declared.state.TableState.{TableState}
 use Rattle.tui_text.specs.Painting.{text_layers}
 use Rattle.tui_text.specs.Text.{TextData}
@@ -56,39 +55,44 @@ cell_layers area gutter spacing [] c = []
 cell_layers area gutter spacing (k ∷ ks) c = text_over (over_columns area gutter spacing k ks) c.style c.content
 
 -- how many columns a cell asks for: in a header or a footer one, whatever its span
-abbrev pub span_in : Bool → CellData → ℕ
-span_in is_edge c = if is_edge then 1 else c.span
+abbrev pub span_in : RowKind → CellData → ℕ
+span_in Edge c = 1
+span_in _ c = c.span
 
 -- cells in order, each in the next columns, as many as it asks for
-unfoldable pub cells_layers : Rect → ℕ → ℕ → Bool → List Segment → List CellData → List Layer
-cells_layers area gutter spacing is_edge columns [] = []
-cells_layers area gutter spacing is_edge columns (c ∷ cs) =
-    cell_layers area gutter spacing (take (span_in is_edge c) columns) c ++ cells_layers area gutter spacing is_edge (drop (span_in is_edge c) columns) cs
+unfoldable pub cells_layers : Rect → ℕ → ℕ → RowKind → List Segment → List CellData → List Layer
+cells_layers area gutter spacing kind columns [] = []
+cells_layers area gutter spacing kind columns (c ∷ cs) =
+    cell_layers area gutter spacing (take (span_in kind c) columns) c ++ cells_layers area gutter spacing kind (drop (span_in kind c) columns) cs
 
--- a row: its style, the highlight symbol if it is selected, and its cells
-unfoldable pub row_layers : TableData → ℕ → List Segment → Bool → Bool → Rect → RowData → List Layer
-row_layers t gutter columns is_edge is_selected area r =
+-- the highlight symbol, in the selected row alone
+abbrev pub symbol_layers : TableData → ℕ → RowKind → Rect → Style → List Layer
+symbol_layers t gutter Selected area style = text_over (columns_from area 0 gutter) style t.symbol
+symbol_layers t gutter _ area style = []
+
+-- a row: its style, the highlight symbol in that style, and its cells
+unfoldable pub row_layers : TableData → ℕ → List Segment → RowKind → Rect → RowData → List Layer
+row_layers t gutter columns kind area r =
     stroke (covers area) (dress r.style)
-    ++ ((if is_selected then text_over (columns_from area 0 gutter) r.style t.symbol else [])
-    ++ cells_layers area gutter t.spacing is_edge columns r.cells)
+    ++ (symbol_layers t gutter kind area r.style ++ cells_layers area gutter t.spacing kind columns r.cells)
 
 -- the header or the footer, if there is one, behind so many rows
 unfoldable pub edge_layers : TableData → Rect → ℕ → List Segment → ℕ → Option RowData → List Layer
 edge_layers t inner gutter columns from None = []
-edge_layers t inner gutter columns from (Some r) = row_layers t gutter columns true false (area_in inner from r) r
+edge_layers t inner gutter columns from (Some r) = row_layers t gutter columns Edge (area_in inner from r) r
 
 -- the area of row i, where `first` is the first one that is shown: behind those between them
 abbrev pub row_area : TableData → Rect → ℕ → ℕ → RowData → Rect
 row_area t body first i r = area_in body (total (heights_of t.rows) first i) r
 
--- whether the selected one is number i
-abbrev pub is_at : Option ℕ → ℕ → Bool
-is_at None i = false
-is_at (Some s) i = s == i
+-- what row i of the body is
+abbrev pub kind_at : Option ℕ → ℕ → RowKind
+kind_at None i = Plain
+kind_at (Some s) i = if s == i then Selected else Plain
 
 -- a row of the body, by its number
 abbrev pub row_in : TableData → Rect → ℕ → List Segment → Option ℕ → ℕ → ℕ × RowData → List Layer
-row_in t body gutter columns selected first (i, r) = row_layers t gutter columns false (is_at selected i) (row_area t body first i r) r
+row_in t body gutter columns selected first (i, r) = row_layers t gutter columns (kind_at selected i) (row_area t body first i r) r
 
 -- the rows from the first one that is shown up to a place
 unfoldable pub rows_layers : TableData → Rect → ℕ → List Segment → Option ℕ → ℕ → ℕ → List Layer
@@ -111,13 +115,13 @@ both_areas (Some a) (Some b) = Some (intersection_of a b)
 both_areas _ _ = None
 
 -- a style over an area, if there is one
-abbrev pub dress_if : Style → Option Rect → List Layer
-dress_if style None = []
-dress_if style (Some area) = stroke (covers area) (dress style)
+abbrev pub dress_if_some : Style → Option Rect → List Layer
+dress_if_some style None = []
+dress_if_some style (Some area) = stroke (covers area) (dress style)
 
 -- the selected row, then the selected column, then the cell of both
 unfoldable pub highlight_layers : TableData → Option Rect → Option Rect → List Layer
-highlight_layers t row column = dress_if t.row_style row ++ (dress_if t.column_style column ++ dress_if t.cell_style (both_areas row column))
+highlight_layers t row column = dress_if_some t.row_style row ++ (dress_if_some t.column_style column ++ dress_if_some t.cell_style (both_areas row column))
 
 -- The rows that are shown whole and one more, which is cut: where no row of the screen is left its area is empty. Then the highlights.
 unfoldable pub body_layers : TableData → Rect → ℕ → List Segment → Option ℕ → Option ℕ → ℕ → ℕ → List Layer

@@ -10,7 +10,9 @@ ghost use Rattle.tui_table.specs.Strokes.{cell_layers, cells_layers, span_in, te
 ghost use Rattle.tui_text.specs.Text.{text_data};
 
 use crate::cell::Cell;
+use crate::grid::Grid;
 use crate::row::Row;
+use crate::row_kind::RowKind;
 use tui_cells::{Buffer, Mem, Rect, Style};
 use tui_layout::Segment;
 use tui_text::{Text, paint_rows};
@@ -49,47 +51,49 @@ pub(crate) fn part_of(area: Rect, gutter: u16, start: u16, width: u16) -> Rect
 fn paint_cell(
     buf: &mut Buffer,
     area: Rect,
-    gutter: u16,
+    grid: Grid<'_>,
     spacing: u16,
-    columns: &[Segment],
     cell: &Cell<'_>,
 ) -> Mem<()>
-    ensures ok { OnOk result (Painted (cell_layers area gutter spacing columns.now (cell_data cell.now)) buf.old buf.new) }
+    ensures ok { OnOk result (Painted (cell_layers area grid.entry.gutter spacing grid.entry.columns.now (cell_data cell.now)) buf.old buf.new) }
     ensures kept { KeptOutside (covers area) buf.old buf.new }
 {
-    if columns.is_empty() {
+    if grid.columns.is_empty() {
         return Ok(());
     }
-    let width = width_over(columns, spacing);
-    let part = part_of(area, gutter, columns[0].start, width);
+    let width = width_over(grid.columns, spacing);
+    let part = part_of(area, grid.gutter, grid.columns[0].start, width);
     paint_over(buf, part, cell.style, &cell.content)
 }
 
 /// How many columns a cell asks for: in a header or a footer one, whatever its span.
-fn span_in(is_edge: bool, cell: &Cell<'_>) -> u16
-    ensures { result ≡ span_in is_edge (cell_data cell.now) }
+fn span_in(kind: RowKind, cell: &Cell<'_>) -> u16
+    ensures { result ≡ span_in kind (cell_data cell.now) }
 {
-    if is_edge { 1 } else { cell.column_span }
+    match kind {
+        RowKind::Edge => 1,
+        RowKind::Plain | RowKind::Selected => cell.column_span,
+    }
 }
 
 /// Cells in order, each in the next columns, as many as it asks for.
 pub(crate) fn paint_cells(
     buf: &mut Buffer,
     area: Rect,
-    gutter: u16,
+    grid: Grid<'_>,
     spacing: u16,
-    is_edge: bool,
-    columns: &[Segment],
+    kind: RowKind,
     cells: &[Cell<'_>],
 ) -> Mem<()>
-    ensures ok { OnOk result (Painted (cells_layers area gutter spacing is_edge columns.now (map cell_data cells.now)) buf.old buf.new) }
+    ensures ok { OnOk result (Painted (cells_layers area grid.entry.gutter spacing kind grid.entry.columns.now (map cell_data cells.now)) buf.old buf.new) }
     ensures kept { KeptOutside (covers area) buf.old buf.new }
 {
     let mut used = 0usize;
     'cells: for i in 0..cells.len() {
         let cell = &cells[i];
-        let end = used + usize::from(span_in(is_edge, cell)).min(columns.len() - used);
-        paint_cell(buf, area, gutter, spacing, &columns[used..end], cell)?;
+        let end = used + usize::from(span_in(kind, cell)).min(grid.columns.len() - used);
+        let columns = &grid.columns[used..end];
+        paint_cell(buf, area, Grid { columns, ..grid }, spacing, cell)?;
         used = end;
     }
     Ok(())

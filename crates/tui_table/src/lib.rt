@@ -3,8 +3,10 @@
 
 pub mod cell;
 mod cells;
+mod grid;
 pub mod laws;
 pub mod row;
+mod row_kind;
 mod rows;
 pub mod state;
 pub mod table;

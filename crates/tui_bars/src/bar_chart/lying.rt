@@ -2,7 +2,7 @@
 
 ghost use Rattle.std.specs.Prelude.{◌≡◌, ◌≤◌, IsOk, OnOk, length};
 ghost use Rattle.std.specs.Str.{IsCharBoundary};
-ghost use Rattle.tui_bars.specs.BarChart.{bar_chart_data, bar_data, group_data};
+ghost use Rattle.tui_bars.specs.BarChart.{bar_chart_data, bar_data};
 ghost use Rattle.tui_bars.specs.ChartLight.{IsLightBar, IsLightText};
 ghost use Rattle.tui_bars.specs.Levels.{AreLightLevels};
 ghost use Rattle.tui_bars.specs.LineGauge.{IsLightLine};
@@ -19,6 +19,7 @@ ghost use Rattle.tui_bars.specs.Lying.{
   start_from,
   strip_layers,
 };
+ghost use Rattle.tui_bars.specs.Shown.{shown_data};
 ghost use Rattle.tui_cells.specs.Layers.{KeptOutside, Painted};
 ghost use Rattle.tui_cells.specs.Rect.{covers};
 ghost use Rattle.tui_layout.specs.declared.direction.Direction.TheVariants.{Horizontal};
@@ -26,9 +27,9 @@ ghost use Rattle.tui_layout.specs.declared.direction.Direction.TheVariants.{Hori
 use crate::areas::put_in;
 use crate::bar::Bar;
 use crate::bar_chart::BarChart;
-use crate::bar_group::BarGroup;
 use crate::levels::ticks;
 use crate::plan::Plan;
+use crate::shown_group::ShownGroup;
 use itoa::Buffer as Digits;
 use std::alloc::Global;
 use tui_cells::{Buffer, Mem, Position, Rect, Style};
@@ -219,22 +220,19 @@ impl<'a> BarChart<'a> {
         &self,
         buf: &mut Buffer,
         plan: Plan,
-        at: u16,
-        count: usize,
-        group: &BarGroup<'a>,
+        shown: ShownGroup<'_, 'a>,
     ) -> Mem<()>
-        ensures ok { OnOk result (Painted (group_row_layers (bar_chart_data self.now) plan
-            (record { at = at; count = count; group = group_data group.now })) buf.old buf.new) }
+        ensures ok { OnOk result (Painted (group_row_layers (bar_chart_data self.now) plan (shown_data shown.entry)) buf.old buf.new) }
         ensures kept { KeptOutside (covers plan.area) buf.old buf.new }
-        ensures light { IsLightLine (group_data group.now).label → IsOk result }
+        ensures light { IsLightLine (shown_data shown.entry).group.label → IsOk result }
     {
         if self.group_gap == 0 {
             return Ok(());
         }
-        match &group.label {
+        match &shown.group.label {
             None => Ok(()),
             Some(label) => {
-                let row = self.gap_row(plan, at, count);
+                let row = self.gap_row(plan, shown.at, shown.count);
                 self.paint_group_title(buf, plan.area, row, label)
             }
         }

@@ -1,10 +1,9 @@
 //! What all bars of a drawing share.
 
-ghost use Rattle.std.specs.Prelude.{◌≡◌, ◌≤◌, ◌&&◌};
+ghost use Rattle.std.specs.Prelude.{◌≡◌};
 ghost use Rattle.std.specs.List.{list_any};
 ghost use Rattle.tui_bars.specs.BarChart.{bar_chart_data, greatest_of, has_bar_label, has_group_label, label_width_of};
 ghost use Rattle.tui_bars.specs.ChartStrokes.{lying_plan, upright_plan};
-ghost use Rattle.tui_frames.specs.Space.{count};
 
 use crate::bar_chart::BarChart;
 use crate::plan::Plan;
@@ -63,15 +62,15 @@ impl<'a> BarChart<'a> {
         ensures { result ≡ upright_plan (bar_chart_data self.now) area }
     {
         let has_room = area.height >= 2;
-        let bar_labels = both(has_room, self.has_bar_labels());
-        let is_free = !both(area.height == 2, bar_labels);
-        let group_labels = both(has_room, both(self.has_group_labels(), is_free));
+        let bar_labels = has_room & self.has_bar_labels();
+        let is_free = !((area.height == 2) & bar_labels);
+        let group_labels = has_room & self.has_group_labels() & is_free;
         Plan {
             area,
             greatest: self.greatest(),
             length: area
                 .height
-                .saturating_sub(count(bar_labels) + count(group_labels)),
+                .saturating_sub(u16::from(bar_labels) + u16::from(group_labels)),
             bar_labels,
             group_labels,
             labels: 0,
@@ -84,7 +83,7 @@ impl<'a> BarChart<'a> {
         ensures { result ≡ lying_plan (bar_chart_data self.now) area }
     {
         let labels = self.label_width();
-        let margin = labels as u32 + count(labels > 0) as u32;
+        let margin = u32::from(labels) + u32::from(labels > 0);
         Plan {
             area,
             greatest: self.greatest(),
@@ -95,18 +94,4 @@ impl<'a> BarChart<'a> {
             start: (area.x as u32 + margin).min(65535) as u16,
         }
     }
-}
-
-fn both(a: bool, b: bool) -> bool
-    ensures { result ≡ (a && b) }
-{
-    a && b
-}
-
-/// 1 for what is there, 0 for what is not.
-fn count(is_there: bool) -> u16
-    ensures is { result ≡ count is_there }
-    ensures few { result ≤ 1 }
-{
-    if is_there { 1 } else { 0 }
 }

@@ -10,12 +10,11 @@ ghost use Rattle.tui_cells.specs.Layers.{KeptOutside, Painted};
 ghost use Rattle.tui_cells.specs.Rect.{covers, is_empty};
 ghost use Rattle.tui_frames.specs.Footprint.{footprint_if};
 
-use crate::areas::paint_under;
 use crate::bar_chart::BarChart;
-use crate::plan::Pass;
+use crate::plan::{Pass, Walk};
 use std::alloc::Global;
 use tui_cells::{Buffer, Mem, Rect, Widget};
-use tui_frames::BlockExt;
+use tui_frames::paint_frame;
 use tui_layout::Direction;
 
 impl<'a> BarChart<'a> {
@@ -28,12 +27,24 @@ impl<'a> BarChart<'a> {
         match self.direction {
             Direction::Vertical => {
                 let plan = self.upright_plan(area);
-                self.paint_walk(alloc, buf, plan, Pass::Columns, area.x, area.width)?;
-                self.paint_walk(alloc, buf, plan, Pass::Texts, area.x, area.width)
+                let columns = Walk {
+                    plan,
+                    pass: Pass::Columns,
+                };
+                self.paint_walk(alloc, buf, columns, area.x, area.width)?;
+                let texts = Walk {
+                    plan,
+                    pass: Pass::Texts,
+                };
+                self.paint_walk(alloc, buf, texts, area.x, area.width)
             }
             Direction::Horizontal => {
                 let plan = self.lying_plan(area);
-                self.paint_walk(alloc, buf, plan, Pass::Rows, area.y, area.height)
+                let rows = Walk {
+                    plan,
+                    pass: Pass::Rows,
+                };
+                self.paint_walk(alloc, buf, rows, area.y, area.height)
             }
         }
     }
@@ -61,8 +72,8 @@ impl<'a> BarChart<'a> {
         if clip.is_empty() {
             return Ok(());
         }
-        paint_under(alloc, buf, clip, self.style, &self.block)?;
-        self.paint_content(alloc, buf, self.block.inner_if_some(clip))
+        let inner = paint_frame(alloc, buf, clip, self.style, &self.block)?;
+        self.paint_content(alloc, buf, inner)
     }
 }
 

@@ -1,11 +1,12 @@
 //! Bars that stand side by side, with their labels and values.
 
 ghost use Rattle.std.specs.Prelude.{◌≡◌, All, IsOk, OnOk, false};
-ghost use Rattle.tui_bars.specs.BarChart.{bar_chart_data, bar_data, group_data};
+ghost use Rattle.tui_bars.specs.BarChart.{bar_chart_data, bar_data};
 ghost use Rattle.tui_bars.specs.ChartLight.{IsLightBar};
 ghost use Rattle.tui_bars.specs.Labels.{alignment_of, columns_of, group_title_layers, place_in, titled_layers};
 ghost use Rattle.tui_bars.specs.Levels.{AreLightLevels};
 ghost use Rattle.tui_bars.specs.LineGauge.{IsLightLine};
+ghost use Rattle.tui_bars.specs.Shown.{shown_data};
 ghost use Rattle.tui_bars.specs.Upright.{
   bar_area,
   column_layers,
@@ -32,9 +33,9 @@ ghost use Rattle.tui_text.specs.Width.{span_width};
 
 use crate::bar::Bar;
 use crate::bar_chart::BarChart;
-use crate::bar_group::BarGroup;
-use crate::levels::{paint_levels, ticks};
+use crate::levels::{StandingBar, paint_levels, ticks};
 use crate::plan::Plan;
+use crate::shown_group::ShownGroup;
 use itoa::Buffer as Digits;
 use std::alloc::Global;
 use tui_cells::{Buffer, Mem, Position, Rect, Style};
@@ -129,10 +130,12 @@ impl<'a> BarChart<'a> {
         ensures kept { KeptOutside (covers plan.area) buf.old buf.new }
         ensures light { AreLightLevels (bar_chart_data self.now).symbols → IsOk result }
     {
-        let filled = ticks(plan.greatest, bar.value, plan.length);
-        let style = self.bar_style.patch(bar.style);
-        let area = self.bar_area(plan, at);
-        paint_levels(alloc, buf, plan.area, area, &self.bar_set, style, filled)
+        let standing = StandingBar {
+            area: self.bar_area(plan, at),
+            filled: ticks(plan.greatest, bar.value, plan.length),
+            style: self.bar_style.patch(bar.style),
+        };
+        paint_levels(alloc, buf, plan.area, &self.bar_set, standing)
     }
 
     /// The last row, below so many bars.
@@ -157,22 +160,19 @@ impl<'a> BarChart<'a> {
         &self,
         buf: &mut Buffer,
         plan: Plan,
-        at: u16,
-        count: usize,
-        group: &BarGroup<'a>,
+        shown: ShownGroup<'_, 'a>,
     ) -> Mem<()>
-        ensures ok { OnOk result (Painted (group_label_layers (bar_chart_data self.now) plan
-            (record { at = at; count = count; group = group_data group.now })) buf.old buf.new) }
+        ensures ok { OnOk result (Painted (group_label_layers (bar_chart_data self.now) plan (shown_data shown.entry)) buf.old buf.new) }
         ensures kept { KeptOutside (covers plan.area) buf.old buf.new }
-        ensures light { IsLightLine (group_data group.now).label → IsOk result }
+        ensures light { IsLightLine (shown_data shown.entry).group.label → IsOk result }
     {
         if !plan.group_labels {
             return Ok(());
         }
-        match &group.label {
+        match &shown.group.label {
             None => Ok(()),
             Some(label) => {
-                let row = self.group_row(plan, at, count);
+                let row = self.group_row(plan, shown.at, shown.count);
                 self.paint_group_title(buf, plan.area, row, label)
             }
         }

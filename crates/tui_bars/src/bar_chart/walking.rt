@@ -1,18 +1,18 @@
 //! Walks over groups and their bars.
 
 ghost use Rattle.std.specs.Prelude.{◌≡◌, ◌<◌, ◌≤◌, [], All, IsOk, OnOk, flat_map, length, if◌then◌else◌, ◌==◌};
-ghost use Rattle.tui_bars.specs.BarChart.{bar_chart_data, bar_data, group_data};
+ghost use Rattle.tui_bars.specs.BarChart.{bar_chart_data, bar_data};
 ghost use Rattle.tui_bars.specs.ChartLight.{IsLightBar, IsLightGroup, direction_of};
 ghost use Rattle.tui_bars.specs.ChartStrokes.{bar_layers, group_layers, walk_layers};
 ghost use Rattle.tui_bars.specs.Levels.{AreLightLevels};
-ghost use Rattle.tui_bars.specs.Shown.{bars_of};
+ghost use Rattle.tui_bars.specs.Shown.{bars_of, shown_data};
 ghost use Rattle.tui_cells.specs.Layers.{KeptOutside, Painted};
 ghost use Rattle.tui_cells.specs.Rect.{covers};
 
 use crate::bar::Bar;
 use crate::bar_chart::BarChart;
-use crate::bar_group::BarGroup;
-use crate::plan::{Pass, Plan};
+use crate::plan::{Pass, Walk};
+use crate::shown_group::ShownGroup;
 use std::alloc::Global;
 use tui_cells::{Buffer, Mem};
 
@@ -23,19 +23,19 @@ impl<'a> BarChart<'a> {
         &self,
         alloc: Global,
         buf: &mut Buffer,
-        plan: Plan,
-        pass: Pass,
+        walk: Walk,
         at: u16,
         bar: &Bar<'a>,
     ) -> Mem<()>
-        ensures ok { OnOk result (Painted (bar_layers (bar_chart_data self.now) plan pass (record { at = at; bar = bar_data bar.now })) buf.old buf.new) }
-        ensures kept { KeptOutside (covers plan.area) buf.old buf.new }
-        ensures light { AreLightLevels (bar_chart_data self.now).symbols → IsLightBar (direction_of pass) (bar_data bar.now) → IsOk result }
+        ensures ok { OnOk result (Painted (bar_layers (bar_chart_data self.now) walk.plan walk.pass
+            (record { at = at; bar = bar_data bar.now })) buf.old buf.new) }
+        ensures kept { KeptOutside (covers walk.plan.area) buf.old buf.new }
+        ensures light { AreLightLevels (bar_chart_data self.now).symbols → IsLightBar (direction_of walk.pass) (bar_data bar.now) → IsOk result }
     {
-        match pass {
-            Pass::Columns => self.paint_column(alloc, buf, plan, at, bar),
-            Pass::Texts => self.paint_texts(buf, plan, at, bar),
-            Pass::Rows => self.paint_row(alloc, buf, plan, at, bar),
+        match walk.pass {
+            Pass::Columns => self.paint_column(alloc, buf, walk.plan, at, bar),
+            Pass::Texts => self.paint_texts(buf, walk.plan, at, bar),
+            Pass::Rows => self.paint_row(alloc, buf, walk.plan, at, bar),
         }
     }
 
@@ -44,54 +44,49 @@ impl<'a> BarChart<'a> {
         &self,
         alloc: Global,
         buf: &mut Buffer,
-        plan: Plan,
-        pass: Pass,
-        at: u16,
-        count: usize,
-        group: &BarGroup<'a>,
+        walk: Walk,
+        shown: ShownGroup<'_, 'a>,
     ) -> Mem<()>
-        requires { count ≤ length (group_data group.now).bars }
-        ensures ok { OnOk result (Painted (flat_map (bar_layers (bar_chart_data self.now) plan pass)
-            (bars_of (bar_chart_data self.now) (record { at = at; count = count; group = group_data group.now }))) buf.old buf.new) }
-        ensures kept { KeptOutside (covers plan.area) buf.old buf.new }
-        ensures light { AreLightLevels (bar_chart_data self.now).symbols → All (IsLightBar (direction_of pass)) (group_data group.now).bars → IsOk result }
+        requires { shown.count ≤ length (shown_data shown).group.bars }
+        ensures ok { OnOk result (Painted (flat_map (bar_layers (bar_chart_data self.now) walk.plan walk.pass)
+            (bars_of (bar_chart_data self.now) (shown_data shown.entry))) buf.old buf.new) }
+        ensures kept { KeptOutside (covers walk.plan.area) buf.old buf.new }
+        ensures light { AreLightLevels (bar_chart_data self.now).symbols
+            → All (IsLightBar (direction_of walk.pass)) (shown_data shown.entry).group.bars → IsOk result }
     {
-        let mut place = at;
-        'bars: for j in 0..count {
-            let bar = &group.bars[j];
-            self.paint_bar(alloc, buf, plan, pass, place, bar)?;
+        let mut place = shown.at;
+        'bars: for j in 0..shown.count {
+            let bar = &shown.group.bars[j];
+            self.paint_bar(alloc, buf, walk, place, bar)?;
             place = self.step(place);
         }
         Ok(())
     }
 
-    /// A group of which `count` bars are shown.
+    /// A group of which some bars are shown.
     #[tactic(auto, unfolding(crate::specs::ChartStrokes::group_layers))]
     fn paint_group(
         &self,
         alloc: Global,
         buf: &mut Buffer,
-        plan: Plan,
-        pass: Pass,
-        at: u16,
-        count: usize,
-        group: &BarGroup<'a>,
+        walk: Walk,
+        shown: ShownGroup<'_, 'a>,
     ) -> Mem<()>
-        requires { count ≤ length (group_data group.now).bars }
-        ensures ok { OnOk result (Painted (group_layers (bar_chart_data self.now) plan pass
-            (record { at = at; count = count; group = group_data group.now })) buf.old buf.new) }
-        ensures kept { KeptOutside (covers plan.area) buf.old buf.new }
-        ensures light { AreLightLevels (bar_chart_data self.now).symbols → IsLightGroup (direction_of pass) (group_data group.now) → IsOk result }
+        requires { shown.count ≤ length (shown_data shown).group.bars }
+        ensures ok { OnOk result (Painted (group_layers (bar_chart_data self.now) walk.plan walk.pass (shown_data shown.entry)) buf.old buf.new) }
+        ensures kept { KeptOutside (covers walk.plan.area) buf.old buf.new }
+        ensures light { AreLightLevels (bar_chart_data self.now).symbols
+            → IsLightGroup (direction_of walk.pass) (shown_data shown.entry).group → IsOk result }
     {
-        match pass {
-            Pass::Columns => self.paint_bars(alloc, buf, plan, pass, at, count, group),
+        match walk.pass {
+            Pass::Columns => self.paint_bars(alloc, buf, walk, shown),
             Pass::Texts => {
-                self.paint_group_label(buf, plan, at, count, group)?;
-                self.paint_bars(alloc, buf, plan, pass, at, count, group)
+                self.paint_group_label(buf, walk.plan, shown)?;
+                self.paint_bars(alloc, buf, walk, shown)
             }
             Pass::Rows => {
-                self.paint_bars(alloc, buf, plan, pass, at, count, group)?;
-                self.paint_group_row(buf, plan, at, count, group)
+                self.paint_bars(alloc, buf, walk, shown)?;
+                self.paint_group_row(buf, walk.plan, shown)
             }
         }
     }
@@ -101,22 +96,20 @@ impl<'a> BarChart<'a> {
         &self,
         alloc: Global,
         buf: &mut Buffer,
-        plan: Plan,
-        pass: Pass,
-        at: u16,
-        count: usize,
-        group: &BarGroup<'a>,
+        walk: Walk,
+        shown: ShownGroup<'_, 'a>,
     ) -> Mem<()>
-        requires { count ≤ length (group_data group.now).bars }
-        ensures ok { OnOk result (Painted (if count == 0 then [] else group_layers (bar_chart_data self.now) plan pass
-            (record { at = at; count = count; group = group_data group.now })) buf.old buf.new) }
-        ensures kept { KeptOutside (covers plan.area) buf.old buf.new }
-        ensures light { AreLightLevels (bar_chart_data self.now).symbols → IsLightGroup (direction_of pass) (group_data group.now) → IsOk result }
+        requires { shown.count ≤ length (shown_data shown).group.bars }
+        ensures ok { OnOk result (Painted (if shown.entry.count == 0 then []
+            else group_layers (bar_chart_data self.now) walk.plan walk.pass (shown_data shown.entry)) buf.old buf.new) }
+        ensures kept { KeptOutside (covers walk.plan.area) buf.old buf.new }
+        ensures light { AreLightLevels (bar_chart_data self.now).symbols
+            → IsLightGroup (direction_of walk.pass) (shown_data shown.entry).group → IsOk result }
     {
-        if count == 0 {
+        if shown.count == 0 {
             return Ok(());
         }
-        self.paint_group(alloc, buf, plan, pass, at, count, group)
+        self.paint_group(alloc, buf, walk, shown)
     }
 
     /// The groups that are shown from a place on in a space.
@@ -124,16 +117,15 @@ impl<'a> BarChart<'a> {
         &self,
         alloc: Global,
         buf: &mut Buffer,
-        plan: Plan,
-        pass: Pass,
+        walk: Walk,
         first: u16,
         room: u16,
     ) -> Mem<()>
         requires { 0 < (bar_chart_data self.now).width }
-        ensures ok { OnOk result (Painted (walk_layers (bar_chart_data self.now) plan pass first room) buf.old buf.new) }
-        ensures kept { KeptOutside (covers plan.area) buf.old buf.new }
+        ensures ok { OnOk result (Painted (walk_layers (bar_chart_data self.now) walk.plan walk.pass first room) buf.old buf.new) }
+        ensures kept { KeptOutside (covers walk.plan.area) buf.old buf.new }
         ensures light { AreLightLevels (bar_chart_data self.now).symbols
-            → All (IsLightGroup (direction_of pass)) (bar_chart_data self.now).groups → IsOk result }
+            → All (IsLightGroup (direction_of walk.pass)) (bar_chart_data self.now).groups → IsOk result }
     {
         let mut at = first;
         let mut space = room;
@@ -141,7 +133,7 @@ impl<'a> BarChart<'a> {
             let group = &self.groups[i];
             let bars = group.len();
             let count = self.shown_in(space, bars);
-            self.paint_shown(alloc, buf, plan, pass, at, count, group)?;
+            self.paint_shown(alloc, buf, walk, ShownGroup { at, count, group })?;
             at = self.place_after(at, count);
             space = self.space_after(space, bars);
         }

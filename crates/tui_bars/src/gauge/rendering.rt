@@ -18,6 +18,7 @@ ghost use Rattle.tui_bars.specs.Gauge.{
   tip_layers,
   turned_style,
 };
+ghost use Rattle.tui_bars.specs.Percent.{fill_of};
 ghost use Rattle.tui_cells.specs.Cell.{IsLight};
 ghost use Rattle.tui_cells.specs.Layers.{KeptOutside, Painted};
 ghost use Rattle.tui_cells.specs.Rect.{covers, is_empty};
@@ -25,12 +26,12 @@ ghost use Rattle.tui_frames.specs.Footprint.{footprint_if};
 ghost use Rattle.tui_text.specs.Setting.{AreLight};
 ghost use Rattle.tui_text.specs.Span.{span_data};
 
-use crate::areas::{paint_under, put_in};
+use crate::areas::put_in;
 use crate::gauge::Gauge;
-use crate::percent::{eighths_of, fill_of, percent_text};
+use crate::percent::{eighths_of, percent_text, rounded_columns, whole_columns};
 use std::alloc::Global;
 use tui_cells::{Buffer, Color, Mem, Position, Rect, Style, Widget, block};
-use tui_frames::BlockExt;
+use tui_frames::paint_frame;
 use tui_text::{Span, set_span_in};
 
 /// The symbol of so many eighths of a cell, from the left.
@@ -139,6 +140,17 @@ impl<'a> Gauge<'a> {
         put_in(alloc, buf, area, tip_area(area, fill), symbol, Style::new())
     }
 
+    /// The columns of a width that are filled: whole ones alone where a part of the next one is drawn, else rounded.
+    fn fill(&self, width: u16) -> u16
+        ensures { result ≡ fill_of (gauge_data self.now).use_unicode width (gauge_data self.now).num (gauge_data self.now).den }
+    {
+        if self.use_unicode {
+            whole_columns(width, self.share)
+        } else {
+            rounded_columns(width, self.share)
+        }
+    }
+
     /// The gauge with a label.
     fn paint_labelled(
         &self,
@@ -151,7 +163,7 @@ impl<'a> Gauge<'a> {
         ensures kept { KeptOutside (covers area) buf.old buf.new }
         ensures light { AreLight (span_data label.now ∷ []) → IsOk result }
     {
-        let fill = fill_of(self.use_unicode, area.width, self.share);
+        let fill = self.fill(area.width);
         let width = label_width(area, label);
         let under = label_area(area, fill, width);
         let place = label_place(area, width);
@@ -197,8 +209,8 @@ impl<'a> Gauge<'a> {
         if clip.is_empty() {
             return Ok(());
         }
-        paint_under(alloc, buf, clip, self.style, &self.block)?;
-        self.paint_content(alloc, buf, self.block.inner_if_some(clip))
+        let inner = paint_frame(alloc, buf, clip, self.style, &self.block)?;
+        self.paint_content(alloc, buf, inner)
     }
 }
 

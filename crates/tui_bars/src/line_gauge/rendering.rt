@@ -10,12 +10,12 @@ ghost use Rattle.tui_cells.specs.Rect.{covers, is_empty};
 ghost use Rattle.tui_frames.specs.Footprint.{footprint_if};
 ghost use Rattle.tui_text.specs.Painting.{cells_at};
 
-use crate::areas::{paint_under, put_in};
+use crate::areas::put_in;
 use crate::line_gauge::LineGauge;
-use crate::percent::{fill_of, percent_label};
+use crate::percent::{percent_label, whole_columns};
 use std::alloc::Global;
 use tui_cells::{Buffer, Mem, Position, Rect, Style, Widget};
-use tui_frames::BlockExt;
+use tui_frames::paint_frame;
 use tui_text::{set_line_in, set_stringn_in};
 
 /// Cells of a row from a column on.
@@ -60,7 +60,7 @@ impl<'a> LineGauge<'a> {
         ensures light { IsLight (line_gauge_data self.now).filled → IsLight (line_gauge_data self.now).unfilled → IsOk result }
     {
         let columns = area.right().saturating_sub(start);
-        let count = fill_of(true, columns, self.share);
+        let count = whole_columns(columns, self.share);
         let filled = cells_at(start, area.y, count);
         let rest = cells_at(
             start.saturating_add(count),
@@ -105,8 +105,8 @@ impl<'a> LineGauge<'a> {
         if clip.is_empty() {
             return Ok(());
         }
-        paint_under(alloc, buf, clip, self.style, &self.block)?;
-        self.paint_content(alloc, buf, self.block.inner_if_some(clip))
+        let inner = paint_frame(alloc, buf, clip, self.style, &self.block)?;
+        self.paint_content(alloc, buf, inner)
     }
 }
 

@@ -9,7 +9,7 @@ ghost use Rattle.tui_cells.specs.Rect.{covers, is_empty};
 ghost use Rattle.tui_frames.specs.Footprint.{footprint_if};
 
 use crate::areas::put_in;
-use crate::levels::{paint_levels, ticks};
+use crate::levels::{StandingBar, paint_levels, ticks};
 use crate::render_direction::RenderDirection;
 use crate::sparkline::Sparkline;
 use crate::sparkline_bar::SparklineBar;
@@ -78,9 +78,12 @@ impl<'a> Sparkline<'a> {
                 put_in(alloc, buf, area, column, self.absent_value_symbol, style)
             }
             Some(value) => {
-                let style = self.style.patch(bar.style.unwrap_or(Style::new()));
-                let filled = ticks(greatest, value, column.height);
-                paint_levels(alloc, buf, area, column, &self.bar_set, style, filled)
+                let standing = StandingBar {
+                    area: column,
+                    filled: ticks(greatest, value, column.height),
+                    style: self.style.patch(bar.style.unwrap_or(Style::new())),
+                };
+                paint_levels(alloc, buf, area, &self.bar_set, standing)
             }
         }
     }

@@ -24,7 +24,6 @@ ghost use Rattle.tui_frames.specs.Strokes.{
 };
 
 use crate::block::Block;
-use crate::block::space::count;
 use crate::borders::Borders;
 use std::alloc::Global;
 use tui_cells::{Buffer, Mem, MergeStrategy, Rect, Style};
@@ -59,12 +58,6 @@ fn joins(strategy: MergeStrategy) -> bool
         MergeStrategy::Replace => false,
         _ => true,
     }
-}
-
-fn both(a: bool, b: bool) -> bool
-    ensures { result ≡ (a && b) }
-{
-    a && b
 }
 
 fn last_column(clip: Rect) -> u16
@@ -124,7 +117,7 @@ impl<'a> Block<'a> {
         ensures is { result ≡ gap (block_data self.now) side.bits }
         ensures few { result ≤ 1 }
     {
-        count(both(joins(self.merge_borders), self.has(side)))
+        u16::from(joins(self.merge_borders) & self.has(side))
     }
 
     fn column_side(&self, clip: Rect, x: u16) -> Rect
@@ -208,7 +201,7 @@ impl<'a> Block<'a> {
         ensures light { IsLightIf (has (block_data self.now).borders sides.0.bits && has (block_data self.now).borders sides.1.bits) symbol.now
             → IsOk result }
     {
-        let is_set = both(self.has(sides.0), self.has(sides.1));
+        let is_set = self.has(sides.0) & self.has(sides.1);
         let (x, y) = cell;
         self.paint_border(alloc, buf, clip, is_set, cell_at(x, y), symbol)
     }

@@ -1,42 +1,28 @@
 //! The space inside a block.
 
-ghost use Rattle.std.specs.Prelude.{◌≡◌, ◌+◌, ◌-◌, ◌≤◌, ◌||◌, min, false, IsTrue};
+ghost use Rattle.std.specs.Prelude.{◌≡◌, ◌+◌, ◌-◌, ◌≤◌, min, false, IsTrue};
 ghost use Rattle.tui_cells.specs.Rect.{is_empty};
 ghost use Rattle.tui_frames.specs.Block.{block_data};
-ghost use Rattle.tui_frames.specs.Space.{LiesIn, bottom_edge, count, inner, left_edge, right_edge, top_edge};
+ghost use Rattle.tui_frames.specs.Space.{LiesIn, bottom_edge, inner, left_edge, right_edge, top_edge};
 
 use crate::block::Block;
 use crate::borders::Borders;
 use crate::title_position::TitlePosition;
 use tui_cells::Rect;
 
-/// 1 for a border that is there, 0 for none.
-pub(crate) fn count(is_set: bool) -> u16
-    ensures is { result ≡ count is_set }
-    ensures few { result ≤ 1 }
-{
-    if is_set { 1 } else { 0 }
-}
-
-fn either(a: bool, b: bool) -> bool
-    ensures { result ≡ (a || b) }
-{
-    a || b
-}
-
 impl<'a> Block<'a> {
     pub(crate) fn left_edge(&self) -> u16
         ensures is { result ≡ left_edge (block_data self.now) }
         ensures few { result ≤ 1 }
     {
-        count(self.borders.contains(Borders::LEFT))
+        u16::from(self.borders.contains(Borders::LEFT))
     }
 
     pub(crate) fn right_edge(&self) -> u16
         ensures is { result ≡ right_edge (block_data self.now) }
         ensures few { result ≤ 1 }
     {
-        count(self.borders.contains(Borders::RIGHT))
+        u16::from(self.borders.contains(Borders::RIGHT))
     }
 
     fn top_edge(&self) -> u16
@@ -44,7 +30,7 @@ impl<'a> Block<'a> {
         ensures few { result ≤ 1 }
     {
         let has_title = self.has_title(TitlePosition::Top);
-        count(either(self.borders.contains(Borders::TOP), has_title))
+        u16::from(self.borders.contains(Borders::TOP) | has_title)
     }
 
     fn bottom_edge(&self) -> u16
@@ -52,7 +38,7 @@ impl<'a> Block<'a> {
         ensures few { result ≤ 1 }
     {
         let has_title = self.has_title(TitlePosition::Bottom);
-        count(either(self.borders.contains(Borders::BOTTOM), has_title))
+        u16::from(self.borders.contains(Borders::BOTTOM) | has_title)
     }
 
     /// The area that is left inside the borders, the titles and the padding of an area. An empty area has an empty one

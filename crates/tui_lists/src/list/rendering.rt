@@ -1,6 +1,6 @@
 //! How a list is drawn.
 
-ghost use Rattle.std.specs.Prelude.{◌≡◌, ◌-◌, ◌<◌, ◌≤◌, [], drop, false, if◌then◌else◌, length, min, IfOk, IsOk, IsTrue, OnOk, ◌&&◌, ◌||◌};
+ghost use Rattle.std.specs.Prelude.{◌≡◌, ◌-◌, ◌<◌, ◌≤◌, [], drop, false, if◌then◌else◌, length, min, IfOk, IsOk, IsTrue, OnOk};
 ghost use Rattle.tui_cells.specs.Cell.{dress};
 ghost use Rattle.tui_cells.specs.Layers.{KeptOutside, Painted, stroke};
 ghost use Rattle.tui_cells.specs.Rect.{covers, is_empty};
@@ -16,11 +16,19 @@ use crate::direction::ListDirection;
 use crate::list::List;
 use crate::list::item::ListItem;
 use crate::list::state::ListState;
-use crate::painting::{dress_if, is_at};
+use crate::painting::highlight_if;
 use std::alloc::Global;
 use tui_cells::{Buffer, Mem, Rect, StatefulWidget, Style, Widget};
-use tui_frames::{BlockExt, paint_if_some};
+use tui_frames::paint_frame;
 use tui_text::{Alignment, paint_row, paint_rows};
+
+/// An item of which rows are shown.
+#[derive(Clone, Copy, Debug)]
+struct ShownItem<'i, 'a> {
+    rows: Rect,
+    is_selected: bool,
+    item: &'i ListItem<'a>,
+}
 
 impl<'a> List<'a> {
     /// The columns that are kept for the symbol.
@@ -70,30 +78,33 @@ impl<'a> List<'a> {
             return Ok(());
         }
         'rows: for j in 0..gutter.height {
-            let is_marked = both(is_selected, either(j == 0, self.repeat_highlight_symbol));
+            let is_marked = is_selected & ((j == 0) | self.repeat_highlight_symbol);
             self.paint_mark(alloc, buf, is_marked, gutter.rows_from(j, 1))?;
         }
         Ok(())
     }
 
-    /// One item in its rows.
+    /// One item in its rows, beside so many columns for the symbol.
     fn paint_item(
         &self,
         alloc: Global,
         buf: &mut Buffer,
         gutter: u16,
-        rows: Rect,
-        is_selected: bool,
-        item: &ListItem<'a>,
+        shown: ShownItem<'_, 'a>,
     ) -> Mem<()>
         ensures ok { OnOk result
-            (Painted (item_layers (list_data self.now) gutter rows is_selected (list_item_data item.now)) buf.old buf.new) }
-        ensures kept { KeptOutside (covers rows) buf.old buf.new }
-        ensures light { IsLightSymbol (list_data self.now).symbol → IsLightItem (list_item_data item.now) → IsOk result }
+            (Painted (item_layers (list_data self.now) gutter shown.entry.rows shown.entry.is_selected (list_item_data shown.entry.item.now)) buf.old buf.new) }
+        ensures kept { KeptOutside (covers shown.entry.rows) buf.old buf.new }
+        ensures light { IsLightSymbol (list_data self.now).symbol → IsLightItem (list_item_data shown.entry.item.now) → IsOk result }
     {
+        let ShownItem {
+            rows,
+            is_selected,
+            item,
+        } = shown;
         buf.set_style(rows, self.style.patch(item.style));
         paint_rows(buf, rows.columns_from(gutter, rows.width), &item.content)?;
-        dress_if(is_selected, buf, rows, self.highlight_style);
+        highlight_if(is_selected, buf, rows, self.highlight_style);
         self.paint_gutter(alloc, buf, is_selected, rows.columns_from(0, gutter))
     }
 
@@ -120,7 +131,12 @@ impl<'a> List<'a> {
             let item = &self.items.items[i];
             let height = cut_height(item.height(), inner.height - used);
             let rows = inner.rows_from(row_of(self.direction, inner.height, used, height), height);
-            self.paint_item(alloc, buf, gutter, rows, is_at(selected, i), item)?;
+            let shown = ShownItem {
+                rows,
+                is_selected: selected == Some(i),
+                item,
+            };
+            self.paint_item(alloc, buf, gutter, shown)?;
             used += height;
         }
         Ok(())
@@ -207,9 +223,8 @@ impl<'a> List<'a> {
         if clip.is_empty() {
             return Ok(state);
         }
-        buf.set_style(clip, self.style);
-        paint_if_some(alloc, buf, clip, &self.block)?;
-        self.paint_inside(alloc, buf, self.block.inner_if_some(clip), state)
+        let inner = paint_frame(alloc, buf, clip, self.style, &self.block)?;
+        self.paint_inside(alloc, buf, inner, state)
     }
 }
 
@@ -243,18 +258,6 @@ impl<'a> Widget for List<'a> {
         let mut state = ListState::default();
         StatefulWidget::render(self, alloc, area, buf, &mut state)
     }
-}
-
-fn both(a: bool, b: bool) -> bool
-    ensures { result ≡ (a && b) }
-{
-    a && b
-}
-
-fn either(a: bool, b: bool) -> bool
-    ensures { result ≡ (a || b) }
-{
-    a || b
 }
 
 /// A number of lines, at most the rows that are left.

@@ -10,11 +10,11 @@ ghost use Rattle.tui_lists.specs.TabsStrokes.{divider_end, divider_layers, tab_e
 ghost use Rattle.tui_text.specs.Line.{line_data};
 ghost use Rattle.tui_text.specs.Setting.{AreLight};
 
-use crate::painting::{dress_if, is_at};
+use crate::painting::highlight_if;
 use crate::tabs::Tabs;
 use std::alloc::Global;
 use tui_cells::{Buffer, Mem, Position, Rect, Widget};
-use tui_frames::{BlockExt, paint_if_some};
+use tui_frames::paint_frame;
 use tui_text::{Line, set_line_in, set_span_in};
 
 /// The columns of the first row from one up to another, as far as the area has them.
@@ -48,7 +48,7 @@ impl<'a> Tabs<'a> {
         let room = inner.width as usize;
         let start = set_line_in(buf, inner, Position { x, y }, &self.padding_left, room)?;
         let end = set_line_in(buf, inner, Position { x: start, y }, title, room)?;
-        dress_if(
+        highlight_if(
             is_selected,
             buf,
             used_columns(inner, start, end),
@@ -95,7 +95,7 @@ impl<'a> Tabs<'a> {
                 return Ok(());
             }
             let start = self.paint_divider(buf, inner, x, i)?;
-            let is_selected = is_at(self.selected, i);
+            let is_selected = self.selected == Some(i);
             x = self.paint_tab(buf, inner, start, is_selected, &self.titles[i])?;
         }
         Ok(())
@@ -111,9 +111,8 @@ impl<'a> Tabs<'a> {
         if clip.is_empty() {
             return Ok(());
         }
-        buf.set_style(clip, self.style);
-        paint_if_some(alloc, buf, clip, &self.block)?;
-        self.paint_titles(buf, self.block.inner_if_some(clip))
+        let inner = paint_frame(alloc, buf, clip, self.style, &self.block)?;
+        self.paint_titles(buf, inner)
     }
 }
 

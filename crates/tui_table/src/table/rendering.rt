@@ -32,29 +32,30 @@ ghost use Rattle.tui_table.specs.Strokes.{
   body_layers,
   both_areas,
   content_layers,
-  dress_if,
+  dress_if_some,
   edge_layers,
   highlight_layers,
-  is_at,
-  row_area,
+  kind_at,
   row_layers,
   rows_layers,
   selected_column,
   selected_row,
+  symbol_layers,
   table_layers,
-  text_over,
 };
 ghost use Rattle.tui_table.specs.Table.{table_data};
 
 use crate::cells::{area_in, paint_cells, paint_over, part_of};
+use crate::grid::Grid;
 use crate::row::Row;
+use crate::row_kind::RowKind;
 use crate::state::TableState;
 use crate::table::Table;
 use crate::table::areas::{cut_to, height_if};
 use std::alloc::Global;
 use tui_cells::{Buffer, Mem, Rect, StatefulWidget, Style, Widget};
-use tui_frames::{BlockExt, paint_if_some};
-use tui_layout::{Segment, Window};
+use tui_frames::paint_frame;
+use tui_layout::Window;
 
 impl<'a> Table<'a> {
     /// The highlight symbol over the row's own style, if the row is selected.
@@ -63,18 +64,19 @@ impl<'a> Table<'a> {
         buf: &mut Buffer,
         area: Rect,
         gutter: u16,
+        kind: RowKind,
         style: Style,
-        is_selected: bool,
     ) -> Mem<()>
-        ensures ok { OnOk result
-            (Painted (if is_selected then text_over (columns_from area 0 gutter) style (table_data self.now).symbol else []) buf.old buf.new) }
+        ensures ok { OnOk result (Painted (symbol_layers (table_data self.now) gutter kind area style) buf.old buf.new) }
         ensures kept { KeptOutside (covers area) buf.old buf.new }
     {
-        if !is_selected {
-            return Ok(());
+        match kind {
+            RowKind::Edge | RowKind::Plain => Ok(()),
+            RowKind::Selected => {
+                let part = area.columns_from(0, gutter);
+                paint_over(buf, part, style, &self.highlight_symbol)
+            }
         }
-        let part = area.columns_from(0, gutter);
-        paint_over(buf, part, style, &self.highlight_symbol)
     }
 
     /// A row in its area.
@@ -83,20 +85,17 @@ impl<'a> Table<'a> {
         &self,
         buf: &mut Buffer,
         area: Rect,
-        gutter: u16,
-        columns: &[Segment],
-        is_edge: bool,
-        is_selected: bool,
+        grid: Grid<'_>,
+        kind: RowKind,
         row: &Row<'_>,
     ) -> Mem<()>
         ensures ok { OnOk result
-            (Painted (row_layers (table_data self.now) gutter columns.now is_edge is_selected area (row_data row.now)) buf.old buf.new) }
+            (Painted (row_layers (table_data self.now) grid.entry.gutter grid.entry.columns.now kind area (row_data row.now)) buf.old buf.new) }
         ensures kept { KeptOutside (covers area) buf.old buf.new }
     {
         buf.set_style(area, row.style);
-        self.paint_symbol(buf, area, gutter, row.style, is_selected)?;
-        let spacing = self.column_spacing;
-        paint_cells(buf, area, gutter, spacing, is_edge, columns, &row.cells)
+        self.paint_symbol(buf, area, grid.gutter, kind, row.style)?;
+        paint_cells(buf, area, grid, self.column_spacing, kind, &row.cells)
     }
 
     /// The header or the footer, if there is one, behind so many rows of the screen.
@@ -105,22 +104,18 @@ impl<'a> Table<'a> {
         &self,
         buf: &mut Buffer,
         inner: Rect,
-        gutter: u16,
-        columns: &[Segment],
+        grid: Grid<'_>,
         from: u128,
         row: &Option<Row<'_>>,
     ) -> Mem<()>
         requires { from < 2 ^ 100 }
         ensures ok { OnOk result
-            (Painted (edge_layers (table_data self.now) inner gutter columns.now from (option_map row_data row.now)) buf.old buf.new) }
+            (Painted (edge_layers (table_data self.now) inner grid.entry.gutter grid.entry.columns.now from (option_map row_data row.now)) buf.old buf.new) }
         ensures kept { KeptOutside (covers inner) buf.old buf.new }
     {
         match row {
             None => Ok(()),
-            Some(row) => {
-                let area = area_in(inner, from, row);
-                self.paint_row(buf, area, gutter, columns, true, false, row)
-            }
+            Some(row) => self.paint_row(buf, area_in(inner, from, row), grid, RowKind::Edge, row),
         }
     }
 
@@ -129,15 +124,15 @@ impl<'a> Table<'a> {
         &self,
         buf: &mut Buffer,
         body: Rect,
-        gutter: u16,
-        columns: &[Segment],
+        grid: Grid<'_>,
         selected: Option<usize>,
         first: usize,
         end: usize,
     ) -> Mem<()>
         requires order { first ≤ end }
         requires within { end ≤ length (table_data self.now).rows }
-        ensures ok { OnOk result (Painted (rows_layers (table_data self.now) body gutter columns.now selected first end) buf.old buf.new) }
+        ensures ok { OnOk result
+            (Painted (rows_layers (table_data self.now) body grid.entry.gutter grid.entry.columns.now selected first end) buf.old buf.new) }
         ensures kept { KeptOutside (covers body) buf.old buf.new }
     {
         let rows = self.rows.as_slice();
@@ -145,7 +140,7 @@ impl<'a> Table<'a> {
         'rows: for i in first..end {
             let row = &rows[i];
             let area = area_in(body, used, row);
-            self.paint_row(buf, area, gutter, columns, false, is_at(selected, i), row)?;
+            self.paint_row(buf, area, grid, kind_at(selected, i), row)?;
             used += u128::from(row.outer_height());
         }
         Ok(())
@@ -156,9 +151,9 @@ impl<'a> Table<'a> {
     fn paint_highlights(&self, buf: &mut Buffer, row: Option<Rect>, column: Option<Rect>)
         ensures { Painted (highlight_layers (table_data self.now) row column) buf.old buf.new }
     {
-        dress_if(buf, self.row_highlight_style, row);
-        dress_if(buf, self.column_highlight_style, column);
-        dress_if(buf, self.cell_highlight_style, both_areas(row, column));
+        dress_if_some(buf, self.row_highlight_style, row);
+        dress_if_some(buf, self.column_highlight_style, column);
+        dress_if_some(buf, self.cell_highlight_style, both_areas(row, column));
     }
 
     /// The rows of the screen of the rows from one place up to another.
@@ -199,22 +194,21 @@ impl<'a> Table<'a> {
         &self,
         buf: &mut Buffer,
         body: Rect,
-        gutter: u16,
-        columns: &[Segment],
+        grid: Grid<'_>,
         selected: Option<usize>,
         column: Option<usize>,
         window: Window,
     ) -> Mem<()>
         requires order { window.first ≤ window.end }
         requires within { window.end ≤ length (table_data self.now).rows }
-        ensures ok { OnOk result
-            (Painted (body_layers (table_data self.now) body gutter columns.now selected column window.first window.end) buf.old buf.new) }
+        ensures ok { OnOk result (Painted (body_layers (table_data self.now) body grid.entry.gutter grid.entry.columns.now
+            selected column window.first window.end) buf.old buf.new) }
         ensures kept { KeptOutside (covers body) buf.old buf.new }
     {
         let end = one_more(window.end, self.rows.as_slice().len());
-        self.paint_rows(buf, body, gutter, columns, selected, window.first, end)?;
+        self.paint_rows(buf, body, grid, selected, window.first, end)?;
         let row = self.selected_row(body, window.first, selected);
-        let column = selected_column(body, gutter, columns, column);
+        let column = selected_column(body, grid, column);
         self.paint_highlights(buf, row, column);
         Ok(())
     }
@@ -224,15 +218,14 @@ impl<'a> Table<'a> {
         &self,
         buf: &mut Buffer,
         inner: Rect,
-        gutter: u16,
-        columns: &[Segment],
+        grid: Grid<'_>,
         state: TableState,
         window: Window,
     ) -> Mem<()>
         requires found { window ≡ table_window (table_data self.now) inner.height state }
         requires order { window.first ≤ window.end }
         requires within { window.end ≤ length (table_data self.now).rows }
-        ensures ok { OnOk result (Painted (body_if (table_data self.now) inner gutter columns.now state) buf.old buf.new) }
+        ensures ok { OnOk result (Painted (body_if (table_data self.now) inner grid.entry.gutter grid.entry.columns.now state) buf.old buf.new) }
         ensures kept { KeptOutside (covers inner) buf.old buf.new }
     {
         if self.rows.as_slice().is_empty() {
@@ -241,7 +234,7 @@ impl<'a> Table<'a> {
         let body = self.body(inner);
         let selected = self.row_after(state);
         let column = self.column_after(state);
-        self.paint_body(buf, body, gutter, columns, selected, column, window)
+        self.paint_body(buf, body, grid, selected, column, window)
     }
 
     /// The selected row and column that a drawing leaves.
@@ -272,13 +265,16 @@ impl<'a> Table<'a> {
     {
         let selected = self.row_after(state);
         let columns = self.columns(alloc, inner.width, selected)?;
-        let gutter = self.gutter(inner.width, selected);
+        let grid = Grid {
+            gutter: self.gutter(inner.width, selected),
+            columns: &columns,
+        };
         let room = self.room(inner.height);
         let window = self.rows.window(room, state.offset(), state.selected());
-        self.paint_edge(buf, inner, gutter, &columns, 0, &self.header)?;
-        self.paint_body_if(buf, inner, gutter, &columns, state, window)?;
+        self.paint_edge(buf, inner, grid, 0, &self.header)?;
+        self.paint_body_if(buf, inner, grid, state, window)?;
         let below = height_if(&self.header) + u128::from(room);
-        self.paint_edge(buf, inner, gutter, &columns, below, &self.footer)?;
+        self.paint_edge(buf, inner, grid, below, &self.footer)?;
         Ok(TableState::drawn(window.first, selected, self.column_after(state)))
     }
 
@@ -316,9 +312,8 @@ impl<'a> Table<'a> {
         if clip.is_empty() {
             return Ok(state);
         }
-        buf.set_style(clip, self.style);
-        paint_if_some(alloc, buf, clip, &self.block)?;
-        self.paint_inside(alloc, buf, self.block.inner_if_some(clip), state)
+        let inner = paint_frame(alloc, buf, clip, self.style, &self.block)?;
+        self.paint_inside(alloc, buf, inner, state)
     }
 }
 
@@ -351,12 +346,14 @@ impl<'a> Widget for Table<'a> {
     }
 }
 
-fn is_at(selected: Option<usize>, i: usize) -> bool
-    ensures { result ≡ is_at selected i }
+/// What row i of the body is.
+fn kind_at(selected: Option<usize>, i: usize) -> RowKind
+    ensures { result ≡ kind_at selected i }
 {
-    match selected {
-        None => false,
-        Some(s) => s == i,
+    if selected == Some(i) {
+        RowKind::Selected
+    } else {
+        RowKind::Plain
     }
 }
 
@@ -369,28 +366,24 @@ fn one_more(last: usize, count: usize) -> usize
 }
 
 /// The area of the selected column.
-fn selected_column(
-    body: Rect,
-    gutter: u16,
-    columns: &[Segment],
-    selected: Option<usize>,
-) -> Option<Rect>
-    ensures { result ≡ selected_column body gutter columns.now selected }
+fn selected_column(body: Rect, grid: Grid<'_>, selected: Option<usize>) -> Option<Rect>
+    ensures { result ≡ selected_column body grid.entry.gutter grid.entry.columns.now selected }
 {
     match selected {
         None => None,
         Some(s) => {
-            if s >= columns.len() {
+            if s >= grid.columns.len() {
                 return None;
             }
-            let column = columns[s];
-            Some(part_of(body, gutter, column.start, column.width))
+            let column = grid.columns[s];
+            Some(part_of(body, grid.gutter, column.start, column.width))
         }
     }
 }
 
-fn dress_if(buf: &mut Buffer, style: Style, area: Option<Rect>)
-    ensures { Painted (dress_if style area) buf.old buf.new }
+/// A style on an area, if there is one.
+fn dress_if_some(buf: &mut Buffer, style: Style, area: Option<Rect>)
+    ensures { Painted (dress_if_some style area) buf.old buf.new }
 {
     if let Some(area) = area {
         buf.set_style(area, style);

@@ -9,7 +9,7 @@ use Rattle.tui_bars.proofs.levels.paint_levels.Given as goal
 -- the rows that are left complete the bar
 abbrev pub invariant-rows : goal.invariant-rows
 invariant-rows l = record {
-  rest : (final : Screen) → Painted (levels_layers (bar_data l.set) l.clip l.area l.style l.left (l.area.height - l.up)) l.buf final
-      → Painted (levels_layers (bar_data l.set) l.clip l.area l.style l.filled l.area.height) l.fn.buf final;
+  rest : (final : Screen) → Painted (levels_layers (bar_data l.set) l.clip l.bar.area l.bar.style l.left (l.bar.area.height - l.up)) l.buf final
+      → Painted (levels_layers (bar_data l.set) l.clip l.bar.area l.bar.style l.bar.filled l.bar.area.height) l.fn.buf final;
   kept : KeptOutside (covers l.clip) l.fn.buf l.buf;
 }

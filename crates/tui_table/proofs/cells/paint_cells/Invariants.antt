@@ -9,8 +9,8 @@ use Rattle.tui_table.proofs.cells.paint_cells.Given as goal
 -- the cells that are left complete the whole
 abbrev pub invariant-cells : goal.invariant-cells
 invariant-cells l = record {
-  rest : (final : Screen) → Painted (cells_layers l.area l.gutter l.spacing l.is_edge (drop l.used l.columns) (drop l.i (map cell_data l.cells))) l.buf final
-      → Painted (cells_layers l.area l.gutter l.spacing l.is_edge l.columns (map cell_data l.cells)) l.fn.buf final;
+  rest : (final : Screen) → Painted (cells_layers l.area l.grid.gutter l.spacing l.kind (drop l.used l.grid.columns.now) (drop l.i (map cell_data l.cells))) l.buf final
+      → Painted (cells_layers l.area l.grid.gutter l.spacing l.kind l.grid.columns.now (map cell_data l.cells)) l.fn.buf final;
   kept : KeptOutside (covers l.area) l.fn.buf l.buf;
-  within : l.used ≤ length l.columns;
+  within : l.used ≤ length l.grid.columns.now;
 }

@@ -11,17 +11,17 @@ use Rattle.tui_bars.proofs.bar_chart.BarChart.paint_bars.Goals as goal
 pub bars-preserved : goal.bars-preserved
 bars-preserved c = record {
   rest = λ final q. c.bars.invariant.rest final
-      (bar_more bar_data c.args.group.now.bars.items (bar_chart_data c.args.self.now) (bar_layers (bar_chart_data c.args.self.now) c.args.plan c.args.pass)
-      _ _ c.bars.j c.args.count c.index-bar.result.now _ _ final (omega arith) c.requires (search) c.step-place.ensures c.in_ok-paint_bar.ensures.ok q);
+      (bar_more bar_data c.args.shown.group.now.bars.items (bar_chart_data c.args.self.now) (bar_layers (bar_chart_data c.args.self.now) c.args.walk.plan c.args.walk.pass)
+      _ _ c.bars.j c.args.shown.count c.index-bar.result.now _ _ final (omega arith) c.requires (search) c.step-place.ensures c.in_ok-paint_bar.ensures.ok q);
   kept = KeptOutside-then c.bars.invariant.kept c.in_ok-paint_bar.ensures.kept;
 }
 
 pub returns-clause-ok : goal.returns-clause-ok
-returns-clause-ok c = c.bars.invariant.rest _ (bar_done bar_data c.args.group.now.bars.items _ _ _ c.bars.j c.args.count _ (omega arith) c.requires)
+returns-clause-ok c = c.bars.invariant.rest _ (bar_done bar_data c.args.shown.group.now.bars.items _ _ _ c.bars.j c.args.shown.count _ (omega arith) c.requires)
 
 pub returns-in_err-paint_bar-clause-light : goal.returns-in_err-paint_bar-clause-light
 returns-in_err-paint_bar-clause-light c levels all =
     let broken = c.in_err-paint_bar.ensures.light levels
-    (seen_at bar_data (IsLightBar (direction_of c.args.pass)) c.args.group.now.bars.items c.bars.j c.index-bar.result.now c.index-bar.result.now
-    (omega (arith, length-map c.args.group.now.bars.items bar_data)) (search) all) in
+    (seen_at bar_data (IsLightBar (direction_of c.args.walk.pass)) c.args.shown.group.now.bars.items c.bars.j c.index-bar.result.now c.index-bar.result.now
+    (omega (arith, length-map c.args.shown.group.now.bars.items bar_data)) (search) all) in
     cc

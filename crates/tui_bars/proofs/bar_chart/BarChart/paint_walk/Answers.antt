@@ -10,7 +10,7 @@ use Rattle.tui_bars.proofs.bar_chart.BarChart.paint_walk.Goals as goal
 pub groups-preserved : goal.groups-preserved
 groups-preserved c = record {
   rest = λ final q. c.groups.invariant.rest final
-      (group_more group_data c.args.self.now.groups.items (bar_chart_data c.args.self.now) (group_layers (bar_chart_data c.args.self.now) c.args.plan c.args.pass)
+      (group_more group_data c.args.self.now.groups.items (bar_chart_data c.args.self.now) (group_layers (bar_chart_data c.args.self.now) c.args.walk.plan c.args.walk.pass)
       _ _ c.groups.i _ _ _ _ c.index-group.result.now _ _ final (omega arith) (search) c.len-bars.ensures
       c.shown_in-count.ensures.is c.place_after-at.ensures c.space_after-space.ensures c.in_ok-paint_shown.ensures.ok q);
   kept = KeptOutside-then c.groups.invariant.kept c.in_ok-paint_shown.ensures.kept;
@@ -22,5 +22,5 @@ returns-clause-ok c = c.groups.invariant.rest _ (group_done group_data c.args.se
 pub returns-in_err-paint_shown-clause-light : goal.returns-in_err-paint_shown-clause-light
 returns-in_err-paint_shown-clause-light c levels all =
     let broken = c.in_err-paint_shown.ensures.light levels
-    (seen_at group_data (IsLightGroup (direction_of c.args.pass)) c.args.self.now.groups.items c.groups.i c.index-group.result.now c.index-group.result.now (omega arith) (search) all) in
+    (seen_at group_data (IsLightGroup (direction_of c.args.walk.pass)) c.args.self.now.groups.items c.groups.i c.index-group.result.now c.index-group.result.now (omega arith) (search) all) in
     cc

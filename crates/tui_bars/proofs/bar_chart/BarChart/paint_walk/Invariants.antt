@@ -11,9 +11,9 @@ use Rattle.tui_bars.proofs.bar_chart.BarChart.paint_walk.Given as goal
 -- the groups that are left complete the walk
 abbrev pub invariant-groups : goal.invariant-groups
 invariant-groups l = record {
-  rest : (final : Screen) → Painted (flat_map (group_layers (bar_chart_data l.self) l.plan l.pass)
+  rest : (final : Screen) → Painted (flat_map (group_layers (bar_chart_data l.self) l.walk.plan l.walk.pass)
       (shown_groups (bar_chart_data l.self) l.at l.space (drop l.i (map group_data l.self.groups.items)))) l.buf final
-      → Painted (flat_map (group_layers (bar_chart_data l.self) l.plan l.pass)
+      → Painted (flat_map (group_layers (bar_chart_data l.self) l.walk.plan l.walk.pass)
       (shown_groups (bar_chart_data l.self) l.first l.room (bar_chart_data l.self).groups)) l.fn.buf final;
-  kept : KeptOutside (covers l.plan.area) l.fn.buf l.buf;
+  kept : KeptOutside (covers l.walk.plan.area) l.fn.buf l.buf;
 }

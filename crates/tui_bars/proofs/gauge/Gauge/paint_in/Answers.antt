@@ -15,9 +15,9 @@ returns-then-is_empty-clause-ok c =
 
 pub returns-clause-ok : goal.returns-clause-ok
 returns-clause-ok c =
-    on_ok c.paint_content.result (λ painted. Painted-then c.in_ok-paint_under.ensures.ok painted) (rw c.inner_if_some.ensures at c.paint_content.ensures.ok)
+    on_ok c.paint_content.result (λ painted. Painted-then c.in_ok-inner.ensures.ok painted) (rw c.in_ok-inner.ensures.inside at c.paint_content.ensures.ok)
 
 pub returns-clause-kept : goal.returns-clause-kept
 returns-clause-kept c =
-    KeptOutside-then c.in_ok-paint_under.ensures.kept
-    (inner_kept (gauge_data c.args.self.now).block c.args.clip (rw c.inner_if_some.ensures at c.paint_content.ensures.kept))
+    KeptOutside-then c.in_ok-inner.ensures.kept
+    (inner_kept (gauge_data c.args.self.now).block c.args.clip (rw c.in_ok-inner.ensures.inside at c.paint_content.ensures.kept))

@@ -7,7 +7,7 @@ use Rattle.tui_bars.proofs.gauge.Gauge.paint_labelled.Goals as goal
 pub returns-clause-ok : goal.returns-clause-ok
 returns-clause-ok c =
     labelled_painted _ (gauge_data c.args.self.now) (span_data c.args.label.now) _ _ _ _ _ _ _ _ _ _ _ _ _ _
-    c.fill_of-fill.ensures c.label_width-width.ensures.is c.from.ensures c.label_area-under.ensures c.label_place-place.ensures c.filled_area.ensures
+    c.fill-fill.ensures c.label_width-width.ensures.is c.from.ensures c.label_area-under.ensures c.label_place-place.ensures c.filled_area.ensures
     c.filled_style-filled.ensures c.turned_style-turned.ensures c.set_style.ensures c.in_ok-put_in.ensures.ok c.in_ok-put_in-2.ensures.ok
     c.in_ok-paint_tip.ensures.ok c.in_ok-set_span_in.ensures.ok
 

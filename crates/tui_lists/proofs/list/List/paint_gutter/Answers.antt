@@ -1,4 +1,4 @@
-use Rattle.std.proofs.Common.{Bool, ◌&&◌, ◌∙◌, ap, arith, sym}
+use Rattle.std.proofs.Common.{◌∙◌, arith, sym}
 use Rattle.tui_cells.proofs.Painting.{KeptOutside-then, KeptOutside-weaker, Painted-empty}
 use Rattle.tui_cells.proofs.Regions.{rows_out}
 use Rattle.tui_lists.specs.List.{list_data}
@@ -17,7 +17,7 @@ rows-preserved c =
     record {
       rest = λ final q. c.rows.invariant.rest final
           (gutter_more (list_data c.args.self.now) c.args.is_selected _ c.args.gutter _ _ _ _ _ final (omega arith)
-          (c.both-is_marked.ensures ∙ ap (λ (b : Bool). c.args.is_selected && b) c.either.ensures) row c.in_ok-paint_mark.ensures.ok q);
+          (search) row c.in_ok-paint_mark.ensures.ok q);
       kept = KeptOutside-then c.rows.invariant.kept
           (KeptOutside-weaker (λ x y out. rows_out c.args.gutter c.rows.j 1 x y out) (rw row at c.in_ok-paint_mark.ensures.kept));
     }

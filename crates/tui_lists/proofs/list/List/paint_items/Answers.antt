@@ -1,4 +1,4 @@
-use Rattle.std.proofs.Common.{◌<◌, arith, length}
+use Rattle.std.proofs.Common.{◌<◌, ◌∙◌, arith, length}
 use Rattle.std.proofs.lemmas.List.{length-map}
 use Rattle.tui_cells.proofs.Painting.{KeptOutside-then, KeptOutside-weaker}
 use Rattle.tui_cells.proofs.Regions.{rows_out}
@@ -7,6 +7,7 @@ use Rattle.tui_lists.specs.List.{list_data}
 use Rattle.tui_lists.specs.ListDrawing.{IsLightItem}
 use Rattle.tui_lists.specs.ListItem.{list_item_data}
 use Rattle.tui_lists.proofs.ListItems.{items_done, items_more}
+use Rattle.tui_lists.proofs.Selected.{compared}
 use Rattle.tui_lists.proofs.list.List.paint_items.Goals as goal
 
 pub items-preserved : goal.items-preserved
@@ -17,7 +18,7 @@ items-preserved c =
           (items_more list_item_data items (list_data c.args.self.now) c.args.inner c.args.selected c.items.i c.items.used c.args.end c.index-item.result.now
           _ _ _ _ _ _ _ _ final (omega arith)
           (omega (arith, length-map items list_item_data, c.requires.within)) (search) c.gutter-gutter.ensures
-          c.height.ensures c.cut_height-height.ensures c.row_of.ensures c.rows_from-rows.ensures c.is_at.ensures c.in_ok-paint_item.ensures.ok q);
+          c.height.ensures c.cut_height-height.ensures c.row_of.ensures c.rows_from-rows.ensures (c.eq.ensures ∙ compared c.args.selected c.items.i) c.in_ok-paint_item.ensures.ok q);
       kept = KeptOutside-then c.items.invariant.kept
           (KeptOutside-weaker (λ x y out. rows_out c.args.inner c.row_of.result _ x y out) (rw c.rows_from-rows.ensures at c.in_ok-paint_item.ensures.kept));
       room = omega (arith, c.cut_height-height.ensures, c.items.invariant.room);

@@ -1,10 +1,11 @@
-use Rattle.std.proofs.Common.{ap, arith, map}
+use Rattle.std.proofs.Common.{◌∙◌, ap, arith, map}
 use Rattle.tui_cells.proofs.Painting.{KeptOutside-then}
 use Rattle.tui_text.specs.Line.{line_data}
 use Rattle.tui_text.specs.Setting.{AreLight}
 use Rattle.tui_text.proofs.Elements.{none_from, seen_at, seen_from}
 use Rattle.tui_lists.specs.Tabs.{tabs_data}
 use Rattle.tui_lists.proofs.TabsPainted.{titles_done, titles_more, titles_past}
+use Rattle.tui_lists.proofs.Selected.{compared}
 use Rattle.tui_lists.proofs.tabs.Tabs.paint_titles.Goals as goal
 
 pub returns-then-x-right-clause-ok : goal.returns-then-x-right-clause-ok
@@ -24,7 +25,7 @@ titles-preserved c =
       rest = λ final q. c.titles.invariant.rest final
           (titles_more (tabs_data c.args.self.now) c.args.inner c.titles.i c.titles.x _ _ _ _ _ _ _ _ _ final
           (seen_from line_data titles c.titles.i c.index.result.now c.index.result.now (omega arith) (search))
-          c.in_ok-start.ensures.end c.is_at-is_selected.ensures c.in_ok-x.ensures.end c.in_ok-start.ensures.ok c.in_ok-x.ensures.ok q);
+          c.in_ok-start.ensures.end (c.eq-is_selected.ensures ∙ compared c.args.self.now.selected c.titles.i) c.in_ok-x.ensures.end c.in_ok-start.ensures.ok c.in_ok-x.ensures.ok q);
       kept = KeptOutside-then c.titles.invariant.kept (KeptOutside-then c.in_ok-start.ensures.kept c.in_ok-x.ensures.kept);
     }
 

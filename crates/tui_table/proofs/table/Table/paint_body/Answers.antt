@@ -9,10 +9,10 @@ use Rattle.tui_table.proofs.table.Table.paint_body.Goals as goal
 
 pub returns-clause-ok : goal.returns-clause-ok
 returns-clause-ok c =
-    body_painted (table_data c.args.self.now) c.args.body c.args.gutter c.args.columns.now c.args.selected c.args.column c.args.window.first c.args.window.end _ _ _
+    body_painted (table_data c.args.self.now) c.args.body c.args.grid.gutter c.args.grid.columns.now c.args.selected c.args.column c.args.window.first c.args.window.end _ _ _
     c.args.buf.now _ _ c.requires.order c.requires.within
     (rw c.as_slice.ensures at c.one_more-end.ensures ∙ ap (λ n. min (c.args.window.end + 1) n) (sym (length-map c.args.self.now.rows row_data)))
     c.selected_row-row.ensures c.selected_column-column.ensures c.in_ok-paint_rows.ensures.ok c.paint_highlights.ensures
 
 pub returns-clause-kept : goal.returns-clause-kept
-returns-clause-kept c = Painted-kept (body_stays (table_data c.args.self.now) c.args.body c.args.gutter c.args.columns.now c.args.selected c.args.column _ _) (returns-clause-ok c)
+returns-clause-kept c = Painted-kept (body_stays (table_data c.args.self.now) c.args.body c.args.grid.gutter c.args.grid.columns.now c.args.selected c.args.column _ _) (returns-clause-ok c)

@@ -26,8 +26,8 @@ rows-preserved c =
     let here = row_here row_data rows c.rows.i row lt at in
     let seen : c.rows.i < length (map row_data c.args.self.now.rows) = rw (length-map c.args.self.now.rows row_data) lt in
     record {
-      painted = rows_more (table_data c.args.self.now) c.args.body _ c.args.gutter c.args.columns.now c.args.selected c.args.first c.rows.i c.rows.used _ (row_data row)
-          c.args.buf.now _ _ known.from seen here known.sum c.area_in-area.ensures c.is_at.ensures known.painted c.in_ok-paint_row.ensures.ok;
+      painted = rows_more (table_data c.args.self.now) c.args.body _ c.args.grid.gutter c.args.grid.columns.now c.args.selected c.args.first c.rows.i c.rows.used _ (row_data row)
+          c.args.buf.now _ _ known.from seen here known.sum c.area_in-area.ensures c.kind_at.ensures known.painted c.in_ok-paint_row.ensures.ok;
       kept = KeptOutside-then known.kept (row_kept c.args.body _ c.rows.used (row_data row) _ _ c.area_in-area.ensures c.in_ok-paint_row.ensures.kept);
       sum = rw (c.from-used.ensures, c.outer_height.ensures.rows)
           (total_more (map row_data rows) c.args.first c.rows.i c.rows.used (row_data row) known.from seen here known.sum);

@@ -10,7 +10,7 @@ use Rattle.tui_table.proofs.table.Table.paint_rows.Given as goal
 -- the rows before are painted
 abbrev pub invariant-rows : goal.invariant-rows
 invariant-rows l = record {
-  painted : Painted (rows_layers (table_data l.self) l.body l.gutter l.columns l.selected l.first l.i) l.fn.buf l.buf;
+  painted : Painted (rows_layers (table_data l.self) l.body l.grid.gutter l.grid.columns.now l.selected l.first l.i) l.fn.buf l.buf;
   kept : KeptOutside (covers l.body) l.fn.buf l.buf;
   sum : l.used ≡ total (heights_of (table_data l.self).rows) l.first l.i;
   small : l.used ≤ l.i * 196605;
