@@ -3,6 +3,7 @@ use Rattle.std.specs.Prelude.{ℕ, max, nat_lt, Bool, List, [], ◌∷◌, lengt
 use Rattle.std.specs.List.{list_any}
 use Rattle.std.specs.Option.{is_some, option_copied, option_map_or}
 use Rattle.std.specs.Prelude.{min, false}
+use Rattle.tui_cells.specs.Rect.{farthest_edge}
 use Rattle.tui_cells.specs.declared.style.Style.{Style}
 use Rattle.tui_cells.specs.Style.{no_style}
 use Rattle.tui_cells.specs.Symbols.{bar_data as symbols_of, nine_levels}
@@ -111,7 +112,7 @@ greatest_of c = max (unwrap_or c.max (fold max 0 (map greatest_in c.groups))) 1
 
 -- the columns of the widest label of a bar, cut at 65535
 abbrev pub label_width : BarData → ℕ
-label_width b = option_map_or (λ l. min (line_width false l) 65535) b.label 0
+label_width b = option_map_or (λ l. min (line_width false l) farthest_edge) b.label 0
 
 -- that of a group
 abbrev pub label_width_in : GroupData → ℕ

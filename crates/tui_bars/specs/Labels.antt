@@ -3,7 +3,7 @@ use Rattle.std.specs.Prelude.{ℕ, ◌-◌, ◌*◌, ◌+◌, min, false, List, 
 use Rattle.tui_cells.specs.declared.rect.Rect.{Rect}
 use Rattle.tui_cells.specs.Cell.{dress}
 use Rattle.tui_cells.specs.Layers.{Layer, stroke}
-use Rattle.tui_cells.specs.Rect.{covers, intersection_of}
+use Rattle.tui_cells.specs.Rect.{covers, intersection_of, farthest_edge}
 use Rattle.tui_frames.specs.Space.{past}
 use Rattle.tui_text.specs.Line.{LineData}
 use Rattle.tui_text.specs.Painting.{before_it, cells_at, row_layers}
@@ -27,8 +27,8 @@ titled_layers c clip part label =
 
 -- the columns of n bars side by side
 abbrev pub columns_of : BarChartData → ℕ → ℕ
-columns_of c n = min (n * (c.width + c.gap) - c.gap) 65535
+columns_of c n = min (n * (c.width + c.gap) - c.gap) farthest_edge
 
 -- a group's label in a row, placed by its own alignment
 abbrev pub group_title_layers : BarChartData → Rect → Rect → LineData → List Layer
-group_title_layers c clip row label = titled_layers c clip (place_in row (alignment_of label) (min (line_width false label) 65535)) label
+group_title_layers c clip row label = titled_layers c clip (place_in row (alignment_of label) (min (line_width false label) farthest_edge)) label

@@ -1,5 +1,6 @@
 -- The strokes of bars that stand side by side.
 use Rattle.std.specs.Prelude.{ℕ, ◌-◌, ◌/◌, ◌==◌, ◌&&◌, ◌||◌, min, nat_le, nat_lt, Bool, false, List, [], ◌++◌, length, Option, None, Some, if◌then◌else◌}
+use Rattle.tui_cells.specs.Rect.{farthest_edge}
 use Rattle.tui_cells.specs.declared.position.Position.{Position}
 use Rattle.tui_cells.specs.declared.rect.Rect.{Rect}
 use Rattle.tui_cells.specs.declared.style.Style.{Style}
@@ -65,7 +66,7 @@ value_place c plan at text = record { x = past at ((c.width - length text) / 2);
 unfoldable pub value_text_layers : BarChartData → Plan → ℕ → ℕ → List ℕ → Style → List Layer
 value_text_layers c plan at filled text style =
     if has_room c.width (span_width false (raw_span text)) filled
-    then set_layers plan.area (value_place c plan at text) (styled_text text style) 65535 else []
+    then set_layers plan.area (value_place c plan at text) (styled_text text style) farthest_edge else []
 
 -- a bar's value, if it is not 0
 unfoldable pub value_layers : BarChartData → Plan → ℕ → BarData → List Layer

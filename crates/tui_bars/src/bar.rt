@@ -8,7 +8,7 @@ ghost use Rattle.tui_text.specs.Line.{line_data};
 
 use crate::label::clone_label;
 use itoa::Buffer as Digits;
-use tui_cells::{Mem, Style, Styled};
+use tui_cells::{FARTHEST_EDGE, Mem, Style, Styled};
 use tui_text::Line;
 
 /// A value, with a label and styles of its own.
@@ -115,7 +115,7 @@ impl<'a> Bar<'a> {
     {
         match &self.label {
             None => 0,
-            Some(label) => label.width().min(65535) as u16,
+            Some(label) => label.width().min(FARTHEST_EDGE as usize) as u16,
         }
     }
 

@@ -1,7 +1,7 @@
 -- The space inside a block.
 use Rattle.std.specs.Prelude.{ℕ, ◌+◌, ◌-◌, ◌≤◌, min, Bool, ◌||◌, if◌then◌else◌}
 use Rattle.tui_cells.specs.declared.rect.Rect.{Rect}
-use Rattle.tui_cells.specs.Rect.{bottom_of, right_of}
+use Rattle.tui_cells.specs.Rect.{bottom_of, right_of, farthest_edge}
 use Rattle.tui_frames.specs.Block.{BlockData}
 use Rattle.tui_frames.specs.Borders.{bottom, has, left, right, top}
 use Rattle.tui_frames.specs.Titles.{has_title}
@@ -13,7 +13,7 @@ count is_set = if is_set then 1 else 0
 
 -- so many columns or rows further on, at most 65535
 abbrev pub past : ℕ → ℕ → ℕ
-past place n = min (place + n) 65535
+past place n = min (place + n) farthest_edge
 
 -- the columns that the border takes at the left
 abbrev pub left_edge : BlockData → ℕ
@@ -43,11 +43,11 @@ inner b area = record {
 
 -- the rows that a block takes around what is inside, those above and those below each cut at the farthest edge
 abbrev pub rows_around : BlockData → ℕ
-rows_around b = min (b.padding.top + top_edge b) 65535 + min (b.padding.bottom + bottom_edge b) 65535
+rows_around b = min (b.padding.top + top_edge b) farthest_edge + min (b.padding.bottom + bottom_edge b) farthest_edge
 
 -- likewise for columns
 abbrev pub columns_around : BlockData → ℕ
-columns_around b = min (b.padding.left + left_edge b) 65535 + min (b.padding.right + right_edge b) 65535
+columns_around b = min (b.padding.left + left_edge b) farthest_edge + min (b.padding.right + right_edge b) farthest_edge
 
 -- an area within another one, edges being cut at 65535
 pub record LiesIn (inside area : Rect) : Type 0 where

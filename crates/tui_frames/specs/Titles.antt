@@ -1,6 +1,7 @@
 -- Which titles of a block stand where.
 use Rattle.std.specs.Prelude.{ℕ, ◌+◌, ◌-◌, min, Bool, true, false, ◌&&◌, List, map, filter, sum_by, unwrap_or}
 use Rattle.std.specs.List.{list_any}
+use Rattle.tui_cells.specs.Rect.{farthest_edge}
 use Rattle.tui_text.specs.Line.{LineData}
 use Rattle.tui_text.specs.Width.{line_width}
 use Rattle.tui_text.specs.declared.alignment.Alignment.{Alignment}
@@ -41,7 +42,7 @@ has_title b position = list_any (is_on b position) b.titles
 
 -- the columns of a title, cut at 65535
 abbrev pub title_width : LineData → ℕ
-title_width line = min (line_width false line) 65535
+title_width line = min (line_width false line) farthest_edge
 
 -- the columns of titles with one more for each
 abbrev pub spaced : List LineData → ℕ

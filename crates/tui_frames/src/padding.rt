@@ -1,6 +1,7 @@
 //! Free columns and rows inside a border.
 
 ghost use Rattle.std.specs.Prelude.{◌≡◌, ◌*◌, min};
+ghost use Rattle.tui_cells.specs.Rect.{farthest_edge};
 ghost use Rattle.tui_frames.specs.Padding.{no_padding, padding};
 
 /// The columns and rows that are left free inside a border.
@@ -64,7 +65,7 @@ impl Padding {
     /// So many rows at the top and at the bottom, and twice as many columns at the left and at the right, at most 65535: a
     /// cell is about twice as high as it is wide.
     pub fn proportional(value: u16) -> Padding
-        ensures { result ≡ padding (min (2 * value) 65535) (min (2 * value) 65535) value value }
+        ensures { result ≡ padding (min (2 * value) farthest_edge) (min (2 * value) farthest_edge) value value }
     {
         let twice = value.saturating_mul(2);
         Padding::new(twice, twice, value, value)

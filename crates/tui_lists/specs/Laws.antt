@@ -4,7 +4,7 @@ use Rattle.tui_cells.specs.declared.rect.Rect.{Rect}
 use Rattle.tui_cells.specs.declared.style.Style.{Style}
 use Rattle.tui_cells.specs.Cell.{Look, dressed}
 use Rattle.tui_cells.specs.Layers.{layers_at}
-use Rattle.tui_cells.specs.Rect.{covers}
+use Rattle.tui_cells.specs.Rect.{covers, farthest_edge}
 use Rattle.tui_frames.specs.Block.{BlockData}
 use Rattle.tui_frames.specs.InBlock.{inner_of}
 use Rattle.tui_layout.specs.Sums.{total}
@@ -32,6 +32,6 @@ under_items (Some b) style cell = dressed b.style (dressed style cell)
 
 -- inside the block the items are drawn over the old cells in these styles
 abbrev pub InsideIsDressed : Type 0
-InsideIsDressed = (l : ListData) (s : ListState) (clip : Rect) (x y : ℕ) (cell : Look) → clip.x + clip.width ≤ 65535 → clip.y + clip.height ≤ 65535
+InsideIsDressed = (l : ListData) (s : ListState) (clip : Rect) (x y : ℕ) (cell : Look) → clip.x + clip.width ≤ farthest_edge → clip.y + clip.height ≤ farthest_edge
     → covers (inner_of l.block clip) x y ≡ true
     → layers_at (list_layers l s clip) x y cell ≡ layers_at (content_layers l (inner_of l.block clip) s) x y (under_items l.block l.style cell)

@@ -28,7 +28,7 @@ use Rattle.std.specs.Prelude.{
 use Rattle.tui_cells.specs.declared.rect.Rect.{Rect}
 use Rattle.tui_cells.specs.Cell.{dress, put, space}
 use Rattle.tui_cells.specs.Layers.{Layer, over, stroke}
-use Rattle.tui_cells.specs.Rect.{columns_from, covers, rows_from}
+use Rattle.tui_cells.specs.Rect.{columns_from, covers, rows_from, farthest_edge}
 use Rattle.tui_cells.specs.Style.{no_style, patched}
 use Rattle.tui_frames.specs.InBlock.{block_layers_if, inner_of}
 use Rattle.tui_layout.specs.HighlightSpacing.{should_add}
@@ -47,7 +47,7 @@ use Rattle.tui_text.specs.declared.alignment.Alignment.TheVariants.{Left}
 -- the columns of a symbol, at most 65535
 abbrev pub symbol_columns : Option LineData → ℕ
 symbol_columns None = 0
-symbol_columns (Some symbol) = min (line_width false symbol) 65535
+symbol_columns (Some symbol) = min (line_width false symbol) farthest_edge
 
 -- the columns that are kept for the symbol
 abbrev pub gutter_of : ListData → Option ℕ → ℕ

@@ -1,5 +1,6 @@
 -- The sides at which a scrollbar stands.
 use Rattle.std.specs.Prelude.{ℕ, ◌+◌, ◌-◌, min, Bool, true, false, List, codes, if◌then◌else◌}
+use Rattle.tui_cells.specs.Rect.{farthest_edge}
 use Rattle.tui_cells.specs.declared.position.Position.{Position}
 use Rattle.tui_cells.specs.declared.rect.Rect.{Rect}
 use Rattle.tui_cells.specs.Symbols.{ScrollbarData, double_horizontal_scrollbar, double_vertical_scrollbar}
@@ -26,7 +27,7 @@ double_symbols o = if is_vertical o then double_vertical_scrollbar else double_h
 
 -- a place further on; past 65535 there is no cell of any clip
 abbrev pub past : ℕ → ℕ → ℕ
-past place n = min (place + n) 65535
+past place n = min (place + n) farthest_edge
 
 -- the position so many places along the bar, which is the last column, the first one, the last row, or the first one
 abbrev pub along : ScrollbarOrientation → Rect → ℕ → Position

@@ -2,7 +2,7 @@
 
 ghost use Rattle.std.specs.Prelude.{◌≡◌, ◌+◌, ◌-◌, ◌*◌, ◌<◌, ◌^◌, OnOk, length, map, min, sum_by};
 ghost use Rattle.tui_cells.specs.Layers.{KeptOutside, Painted};
-ghost use Rattle.tui_cells.specs.Rect.{columns_from, covers};
+ghost use Rattle.tui_cells.specs.Rect.{columns_from, covers, farthest_edge};
 ghost use Rattle.tui_table.specs.Areas.{area_in};
 ghost use Rattle.tui_table.specs.Cell.{cell_data};
 ghost use Rattle.tui_table.specs.Row.{row_data};
@@ -13,7 +13,7 @@ use crate::cell::Cell;
 use crate::grid::Grid;
 use crate::row::Row;
 use crate::row_kind::RowKind;
-use tui_cells::{Buffer, Mem, Rect, Style};
+use tui_cells::{Buffer, FARTHEST_EDGE, Mem, Rect, Style};
 use tui_layout::Segment;
 use tui_text::{Text, paint_rows};
 
@@ -30,14 +30,14 @@ pub(crate) fn paint_over(buf: &mut Buffer, area: Rect, style: Style, text: &Text
 /// The columns of the screen that some columns and the spacing between two take, cut at 65535.
 fn width_over(columns: &[Segment], spacing: u16) -> u16
     requires { 0 < length columns.now }
-    ensures { result ≡ min (sum_by (λ c. c.width) columns.now + spacing * (length columns.now - 1)) 65535 }
+    ensures { result ≡ min (sum_by (λ c. c.width) columns.now + spacing * (length columns.now - 1)) farthest_edge }
 {
     let mut width = 0u128;
     for column in columns {
         width += u128::from(column.width);
     }
     let between = u128::from(spacing) * ((columns.len() - 1) as u128);
-    (width + between).min(65535) as u16
+    (width + between).min(FARTHEST_EDGE as u128) as u16
 }
 
 /// The part of an area from a column on, counted from behind the highlight symbol's.
@@ -105,5 +105,5 @@ pub(crate) fn area_in(rect: Rect, from: u128, row: &Row<'_>) -> Rect
     ensures { result ≡ area_in rect from (row_data row.now) }
 {
     let top = from + u128::from(row.top_margin);
-    rect.rows_from(top.min(65535) as u16, row.height)
+    rect.rows_from(top.min(FARTHEST_EDGE as u128) as u16, row.height)
 }

@@ -1,6 +1,7 @@
 //! Rows of a table.
 
 ghost use Rattle.std.specs.Prelude.{◌≡◌, ◌≤◌, IfOk, map, true};
+ghost use Rattle.tui_cells.specs.Rect.{farthest_edge};
 ghost use Rattle.tui_table.specs.Cell.{cell_data};
 ghost use Rattle.tui_table.specs.Row.{row_data, row_height, row_of};
 
@@ -104,7 +105,7 @@ impl<'a> Row<'a> {
     /// The rows of the screen that it takes, both margins included.
     pub(crate) fn outer_height(&self) -> u32
         ensures rows { result ≡ row_height (row_data self.now) }
-        ensures small { result ≤ 196605 }
+        ensures small { result ≤ 3 * farthest_edge }
     {
         // Each is read first: so its range is known where the sum is formed.
         let above = self.top_margin;

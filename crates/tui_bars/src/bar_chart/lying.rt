@@ -32,7 +32,7 @@ use crate::plan::Plan;
 use crate::shown_group::ShownGroup;
 use itoa::Buffer as Digits;
 use std::alloc::Global;
-use tui_cells::{Buffer, Mem, Position, Rect, Style};
+use tui_cells::{Buffer, FARTHEST_EDGE, Mem, Position, Rect, Style};
 use tui_text::{set_line_in, set_stringn_in};
 
 /// The columns of a bar that are filled.
@@ -67,7 +67,9 @@ fn paint_rest(
     ensures light { IsLightText Horizontal text.now → IsOk result }
 {
     let place = Position {
-        x: (plan.start as usize).saturating_add(from).min(65535) as u16,
+        x: (plan.start as usize)
+            .saturating_add(from)
+            .min(FARTHEST_EDGE as usize) as u16,
         y: middle,
     };
     let room = (plan.length as usize).saturating_sub(from);
@@ -208,7 +210,7 @@ impl<'a> BarChart<'a> {
         let below = at as u128 + bars.saturating_sub(self.bar_gap as u128);
         Rect {
             x: plan.start,
-            y: below.min(65535) as u16,
+            y: below.min(FARTHEST_EDGE as u128) as u16,
             width: plan.length,
             height: 1,
         }

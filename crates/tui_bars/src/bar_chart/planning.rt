@@ -7,7 +7,7 @@ ghost use Rattle.tui_bars.specs.ChartStrokes.{lying_plan, upright_plan};
 
 use crate::bar_chart::BarChart;
 use crate::plan::Plan;
-use tui_cells::Rect;
+use tui_cells::{FARTHEST_EDGE, Rect};
 
 impl<'a> BarChart<'a> {
     /// The value that fills a bar.
@@ -91,7 +91,7 @@ impl<'a> BarChart<'a> {
             bar_labels: false,
             group_labels: false,
             labels,
-            start: (area.x as u32 + margin).min(65535) as u16,
+            start: (area.x as u32 + margin).min(FARTHEST_EDGE as u32) as u16,
         }
     }
 }

@@ -5,6 +5,7 @@ ghost use Rattle.tui_bars.specs.BarChart.{bar_chart_data};
 ghost use Rattle.tui_bars.specs.Shown.{place_after, room_of, shown_in, space_after, step_of};
 
 use crate::bar_chart::BarChart;
+use tui_cells::FARTHEST_EDGE;
 
 impl<'a> BarChart<'a> {
     /// How many of `count` bars are shown in a space.
@@ -45,7 +46,7 @@ impl<'a> BarChart<'a> {
         ensures { result ≡ place_after (bar_chart_data self.now) place shown }
     {
         let bars = shown as u128 * (self.bar_width as u128 + self.bar_gap as u128);
-        let end = (place as u128 + bars).min(65535) as u16;
+        let end = (place as u128 + bars).min(FARTHEST_EDGE as u128) as u16;
         end.saturating_add(self.group_gap)
     }
 

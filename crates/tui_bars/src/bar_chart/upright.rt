@@ -38,11 +38,8 @@ use crate::plan::Plan;
 use crate::shown_group::ShownGroup;
 use itoa::Buffer as Digits;
 use std::alloc::Global;
-use tui_cells::{Buffer, Mem, Position, Rect, Style};
+use tui_cells::{Buffer, FARTHEST_EDGE, Mem, Position, Rect, Style};
 use tui_text::{Alignment, Line, Span, paint_row, set_stringn_in};
-
-/// The greatest number of columns, cut where no cell is.
-const FAR: usize = 65535;
 
 /// How much of what is left of a room lies before what is placed in it.
 fn before_it(alignment: Alignment, room: u16, width: u16) -> u16
@@ -149,7 +146,9 @@ impl<'a> BarChart<'a> {
                 .area
                 .y
                 .saturating_add(plan.area.height.saturating_sub(1)),
-            width: bars.saturating_sub(self.bar_gap as u128).min(65535) as u16,
+            width: bars
+                .saturating_sub(self.bar_gap as u128)
+                .min(FARTHEST_EDGE as u128) as u16,
             height: 1,
         }
     }
@@ -249,7 +248,7 @@ impl<'a> BarChart<'a> {
             return Ok(());
         }
         let place = self.value_place(plan, at, text);
-        set_stringn_in(buf, plan.area, place, text, FAR, style)?;
+        set_stringn_in(buf, plan.area, place, text, FARTHEST_EDGE as usize, style)?;
         Ok(())
     }
 

@@ -1,7 +1,7 @@
 //! The space inside a block.
 
 ghost use Rattle.std.specs.Prelude.{◌≡◌, ◌+◌, ◌-◌, ◌≤◌, min, false, IsTrue};
-ghost use Rattle.tui_cells.specs.Rect.{is_empty};
+ghost use Rattle.tui_cells.specs.Rect.{is_empty, farthest_edge};
 ghost use Rattle.tui_frames.specs.Block.{block_data};
 ghost use Rattle.tui_frames.specs.Space.{LiesIn, bottom_edge, inner, left_edge, right_edge, top_edge};
 
@@ -65,8 +65,8 @@ impl<'a> Block<'a> {
 
     /// The columns at the left and at the right of what is inside: those of a border and of the padding, at most 65535 each.
     pub fn horizontal_space(&self) -> (u16, u16)
-        ensures left { result.0 ≡ min ((block_data self.now).padding.left + left_edge (block_data self.now)) 65535 }
-        ensures right { result.1 ≡ min ((block_data self.now).padding.right + right_edge (block_data self.now)) 65535 }
+        ensures left { result.0 ≡ min ((block_data self.now).padding.left + left_edge (block_data self.now)) farthest_edge }
+        ensures right { result.1 ≡ min ((block_data self.now).padding.right + right_edge (block_data self.now)) farthest_edge }
     {
         (
             self.padding.left.saturating_add(self.left_edge()),
@@ -76,8 +76,8 @@ impl<'a> Block<'a> {
 
     /// The rows above and below what is inside: one for a border or titles, and those of the padding, at most 65535 each.
     pub fn vertical_space(&self) -> (u16, u16)
-        ensures top { result.0 ≡ min ((block_data self.now).padding.top + top_edge (block_data self.now)) 65535 }
-        ensures bottom { result.1 ≡ min ((block_data self.now).padding.bottom + bottom_edge (block_data self.now)) 65535 }
+        ensures top { result.0 ≡ min ((block_data self.now).padding.top + top_edge (block_data self.now)) farthest_edge }
+        ensures bottom { result.1 ≡ min ((block_data self.now).padding.bottom + bottom_edge (block_data self.now)) farthest_edge }
     {
         (
             self.padding.top.saturating_add(self.top_edge()),

@@ -7,7 +7,7 @@ ghost use Rattle.tui_text.specs.Line.{line_data};
 
 use crate::block::Block;
 use crate::title_position::TitlePosition;
-use tui_cells::Mem;
+use tui_cells::{FARTHEST_EDGE, Mem};
 use tui_text::{Alignment, Line};
 
 /// A line, and the side on which it stands, if it has one of its own.
@@ -64,7 +64,7 @@ fn same_alignment(a: Alignment, b: Alignment) -> bool
 pub(crate) fn title_width(line: &Line<'_>) -> u16
     ensures { result ≡ title_width (line_data line.now) }
 {
-    line.width().min(65535) as u16
+    line.width().min(FARTHEST_EDGE as usize) as u16
 }
 
 impl<'a> Block<'a> {

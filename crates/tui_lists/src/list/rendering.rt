@@ -18,7 +18,7 @@ use crate::list::item::ListItem;
 use crate::list::state::ListState;
 use crate::painting::highlight_if;
 use std::alloc::Global;
-use tui_cells::{Buffer, Mem, Rect, StatefulWidget, Style, Widget};
+use tui_cells::{Buffer, FARTHEST_EDGE, Mem, Rect, StatefulWidget, Style, Widget};
 use tui_frames::paint_frame;
 use tui_text::{Alignment, paint_row, paint_rows};
 
@@ -40,7 +40,7 @@ impl<'a> List<'a> {
         }
         match &self.highlight_symbol {
             None => 0,
-            Some(symbol) => symbol.width().min(65535) as u16,
+            Some(symbol) => symbol.width().min(FARTHEST_EDGE as usize) as u16,
         }
     }
 

@@ -6,7 +6,7 @@ ghost use Rattle.tui_lists.specs.Orientation.{along, double_symbols, is_vertical
 
 use std::fmt;
 use std::str::FromStr;
-use tui_cells::{ParseError, Position, Rect, scrollbar};
+use tui_cells::{FARTHEST_EDGE, ParseError, Position, Rect, scrollbar};
 
 /// The side of its area at which a scrollbar stands. `Display` writes the variant's name, and `FromStr` reads it.
 #[derive(Clone, Copy, Debug, PartialEq, Eq, Hash)]
@@ -92,7 +92,9 @@ impl ScrollbarOrientation {
 fn past(place: u16, by: usize) -> u16
     ensures { result ≡ past place by }
 {
-    (place as usize).saturating_add(by).min(65535) as u16
+    (place as usize)
+        .saturating_add(by)
+        .min(FARTHEST_EDGE as usize) as u16
 }
 
 impl Default for ScrollbarOrientation {

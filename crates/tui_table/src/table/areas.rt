@@ -1,6 +1,7 @@
 //! The areas and the columns of a table.
 
 ghost use Rattle.std.specs.Prelude.{◌≡◌, ◌≤◌, IfOk, option_map};
+ghost use Rattle.tui_cells.specs.Rect.{farthest_edge};
 ghost use Rattle.tui_table.specs.Areas.{body_of, cells_if, column_count, columns_in, gutter_of, height_if, room_of};
 ghost use Rattle.tui_table.specs.Moves.{cut_to};
 ghost use Rattle.tui_table.specs.Row.{row_data};
@@ -9,7 +10,7 @@ ghost use Rattle.tui_table.specs.Table.{table_data};
 use crate::row::Row;
 use crate::table::Table;
 use std::alloc::Global;
-use tui_cells::{Mem, Rect};
+use tui_cells::{FARTHEST_EDGE, Mem, Rect};
 use tui_layout::{Constraint, Segment, split};
 
 impl<'a> Table<'a> {
@@ -45,7 +46,7 @@ impl<'a> Table<'a> {
     pub(crate) fn body(&self, inner: Rect) -> Rect
         ensures { result ≡ body_of (table_data self.now) inner }
     {
-        let above = height_if(&self.header).min(65535) as u16;
+        let above = height_if(&self.header).min(FARTHEST_EDGE as u128) as u16;
         inner.rows_from(above, self.room(inner.height))
     }
 
@@ -75,7 +76,7 @@ impl<'a> Table<'a> {
 /// The rows of the screen that a header or a footer asks for.
 pub(crate) fn height_if(row: &Option<Row<'_>>) -> u128
     ensures rows { result ≡ height_if (option_map row_data row.now) }
-    ensures small { result ≤ 196605 }
+    ensures small { result ≤ 3 * farthest_edge }
 {
     match row {
         None => 0,
