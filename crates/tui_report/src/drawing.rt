@@ -30,7 +30,7 @@ use crate::shown::shown_part;
 use std::alloc::Global;
 use tui_cells::{Buffer, Mem, Position, Rect, Style, Widget};
 use tui_layout::Segment;
-use tui_para::Paragraph;
+use tui_para::{Paragraph, Wrap};
 use tui_text::{Text, set_stringn_in};
 
 /// The first row of the pieces, below the title and the names.
@@ -63,6 +63,20 @@ fn draw_cell(alloc: Global, cell: &str, line: u16, area: Rect, buf: &mut Buffer)
     draw_in(alloc, &paragraph, area, buf)
 }
 
+/// All lines of a cell. It is the same as `draw_cell` from line 0 on, but moves the paragraph less.
+fn draw_whole(alloc: Global, cell: &str, area: Rect, buf: &mut Buffer) -> Mem<()>
+    ensures ok { OnOk result (Painted (drawn_in buf.old.area area (cell_from 0 cell.now)) buf.old buf.new) }
+    ensures kept { KeptOutside (covers area) buf.old buf.new }
+{
+    let text = Text::raw(alloc, cell)?;
+    let wrap = Wrap {
+        trim: true,
+        hyphens: false,
+    };
+    let paragraph = Paragraph::new(text).wrap(wrap);
+    draw_in(alloc, &paragraph, area, buf)
+}
+
 /// From which byte a cell goes on, and near which byte behind that its lines on the page end.
 #[derive(Clone, Copy, Debug)]
 struct Resumed {
@@ -91,7 +105,7 @@ fn draw_from(
         Some((_, rest)) => {
             let rows = usize::from(clip.height);
             let shown = shown_part(rest, clip.width, rows, from.near);
-            draw_cell(alloc, shown, 0, area, buf)
+            draw_whole(alloc, shown, area, buf)
         }
         None => draw_in(alloc, &Paragraph::new(Text::new(alloc)), area, buf),
     }
@@ -121,6 +135,9 @@ fn draw_rest(
     }
 }
 
+/// The bytes of two numbers of 64 bits and a `/`.
+const MOST_BYTES: usize = 41;
+
 /// The number of a page, counted from 1, and how many there are.
 pub(crate) fn draw_number(
     alloc: Global,
@@ -133,7 +150,8 @@ pub(crate) fn draw_number(
     ensures ok { OnOk result (Painted (drawn_in buf.old.area area (number_paragraph at count)) buf.old buf.new) }
     ensures kept { KeptOutside (covers area) buf.old buf.new }
 {
-    let number = format!(in alloc; "{}/{count}", at + 1)?;
+    let mut number = String::with_capacity(alloc, MOST_BYTES)?;
+    write!(number, "{}/{count}", at + 1)?;
     set_right(number.as_str(), area, buf)
 }
 

@@ -10,10 +10,10 @@ use Rattle.tui_report.proofs.drawing.draw_from.Goals as goal
 
 pub returns-in-Some-clause-ok : goal.returns-in-Some-clause-ok
 returns-in-Some-clause-ok c =
-    rest_drawn c.draw_cell.result c.args.line c.args.from.start c.args.cell.now c.in-Some.rest.now c.shown_part-shown.result.now c.args.clip c.args.area
-    c.args.buf.now c.draw_cell.new.buf c.requires.clip c.requires.goes_on (c.in-Some.ensures.variant.0 refl) c.in-Some.ensures.back
+    rest_drawn c.draw_whole.result c.args.line c.args.from.start c.args.cell.now c.in-Some.rest.now c.shown_part-shown.result.now c.args.clip c.args.area
+    c.args.buf.now c.draw_whole.new.buf c.requires.clip c.requires.goes_on (c.in-Some.ensures.variant.0 refl) c.in-Some.ensures.back
     (subst (λ n. HaveSameLines c.args.clip.width true n c.in-Some.rest.now c.shown_part-shown.result.now) c.from-rows.ensures c.shown_part-shown.ensures)
-    c.draw_cell.ensures.ok
+    c.draw_whole.ensures.ok
 
 pub returns-in-None-clause-ok : goal.returns-in-None-clause-ok
 returns-in-None-clause-ok c =
