@@ -59,7 +59,7 @@ use Rattle.tui_bars.proofs.GaugeStrokes.{ok_then}
 use Rattle.tui_bars.specs.Areas.{put_layers}
 use Rattle.tui_bars.specs.BarChart.{BarChartData, BarData, GroupData, value_text}
 use Rattle.tui_bars.specs.ChartStrokes.{bar_layers, directed_layers, group_layers, upright_plan, walk_layers}
-use Rattle.tui_bars.specs.Lying.{filled_of, group_row_layers, left_layers, lying_layers, middle_of, row_value_layers, strip_layers}
+use Rattle.tui_bars.specs.Lying.{beyond_layers, filled_of, group_row_layers, left_layers, lying_layers, middle_of, row_value_layers, strip_layers, within_layers}
 use Rattle.tui_bars.specs.Shown.{PlacedBar, Shown, bars_of, place_after, placed_bars, shown_groups, shown_in, space_after, step_of}
 use Rattle.tui_bars.specs.Upright.{group_label_layers, has_room, value_place, value_text_layers}
 use Rattle.tui_cells.specs.declared.position.Position.{Position}
@@ -131,12 +131,13 @@ group_done f xs c paint at space i a le =
 
 -- a bar that lies, with its label and value
 pub row_painted : {T E : Type 0} (result : Result T E) (c : BarChartData) (plan : Plan) (at : ℕ) (bar : BarData) (filled middle : ℕ) (style value_style : Style) (text : List ℕ)
-    (a b d e : Screen) → filled ≡ filled_of plan bar → middle ≡ middle_of c at → style ≡ patched c.bar_style bar.style → value_style ≡ patched c.value_style bar.value_style →
+    (a b d e g : Screen) → filled ≡ filled_of plan bar → middle ≡ middle_of c at → style ≡ patched c.bar_style bar.style → value_style ≡ patched c.value_style bar.value_style →
     text ≡ value_text bar → Painted (strip_layers c plan at filled style) a b → Painted (left_layers plan middle bar) b d →
-    OnOk result (Painted (row_value_layers plan middle filled text value_style style) d e) → OnOk result (Painted (lying_layers c plan at bar) a e)
-unfolding lying_layers
-row_painted result c plan at bar filled middle style value_style text a b d e fs ms ss vs ts p q r =
-    rw (← fs, ← ms, ← ss, ← vs, ← ts) (ok_then result _ _ (Painted-then p q) r)
+    Painted (within_layers plan middle filled text value_style) d e → OnOk result (Painted (beyond_layers plan middle filled text style) e g) →
+    OnOk result (Painted (lying_layers c plan at bar) a g)
+unfolding lying_layers row_value_layers
+row_painted result c plan at bar filled middle style value_style text a b d e g fs ms ss vs ts p q r last =
+    rw (← fs, ← ms, ← ss, ← vs, ← ts) (ok_then result _ _ (Painted-then p q) (ok_then result _ _ r last))
 
 pub strip_painted : {T E : Type 0} (result : Result T E) (c : BarChartData) (plan : Plan) (at filled : ℕ) (style : Style) (x w : ℕ) (a b d : Screen) →
     x ≡ past plan.start filled → w ≡ plan.length - filled →

@@ -85,11 +85,14 @@ unfoldable pub beyond_layers : Plan → ℕ → ℕ → List ℕ → Style → L
 beyond_layers plan middle filled text style =
     if nat_lt filled (length text) then rest_layers plan middle (start_from filled text) text style else []
 
+-- the beginning of a value's text, over the filled cells
+abbrev pub within_layers : Plan → ℕ → ℕ → List ℕ → Style → List Layer
+within_layers plan middle filled text style = set_layers plan.area (record { x = plan.start; y = middle }) (styled_text text style) filled
+
 -- a value's text: its beginning over the filled cells, and what is past them
 unfoldable pub row_value_layers : Plan → ℕ → ℕ → List ℕ → Style → Style → List Layer
 row_value_layers plan middle filled text value_style style =
-    set_layers plan.area (record { x = plan.start; y = middle }) (styled_text text value_style) filled
-    ++ beyond_layers plan middle filled text style
+    within_layers plan middle filled text value_style ++ beyond_layers plan middle filled text style
 
 -- a bar with its label and value
 unfoldable pub lying_layers : BarChartData → Plan → ℕ → BarData → List Layer

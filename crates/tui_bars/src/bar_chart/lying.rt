@@ -15,9 +15,9 @@ ghost use Rattle.tui_bars.specs.Lying.{
   middle_of,
   rest_layers,
   lying_layers,
-  row_value_layers,
   start_from,
   strip_layers,
+  within_layers,
 };
 ghost use Rattle.tui_bars.specs.Shown.{shown_data};
 ghost use Rattle.tui_cells.specs.Layers.{KeptOutside, Painted};
@@ -98,27 +98,26 @@ fn paint_beyond(
     paint_rest(buf, plan, middle, from, text, style)
 }
 
-/// A value's text: its beginning over the filled cells, and what is past them.
+/// The beginning of a value's text, over the filled cells.
 #[tactic(auto, using(tui_text::proofs::LightTexts::light_styled))]
-fn paint_row_value(
+fn paint_within(
     buf: &mut Buffer,
     plan: Plan,
     middle: u16,
     filled: u16,
     text: &str,
-    styles: (Style, Style),
+    style: Style,
 ) -> Mem<()>
-    ensures ok { OnOk result (Painted (row_value_layers plan middle filled text.now styles.0 styles.1) buf.old buf.new) }
+    ensures ok { OnOk result (Painted (within_layers plan middle filled text.now style) buf.old buf.new) }
     ensures kept { KeptOutside (covers plan.area) buf.old buf.new }
     ensures light { IsLightText Horizontal text.now → IsOk result }
 {
-    let (value_style, style) = styles;
     let place = Position {
         x: plan.start,
         y: middle,
     };
-    set_stringn_in(buf, plan.area, place, text, filled as usize, value_style)?;
-    paint_beyond(buf, plan, middle, filled, text, style)
+    set_stringn_in(buf, plan.area, place, text, filled as usize, style)?;
+    Ok(())
 }
 
 /// A bar's label at the left.
@@ -199,7 +198,8 @@ impl<'a> BarChart<'a> {
         paint_left(buf, plan, middle, bar)?;
         let mut digits = Digits::new();
         let text = bar.value_text(&mut digits);
-        paint_row_value(buf, plan, middle, filled, text, (value_style, style))
+        paint_within(buf, plan, middle, filled, text, value_style)?;
+        paint_beyond(buf, plan, middle, filled, text, style)
     }
 
     /// The row below so many bars.

@@ -1,11 +1,25 @@
+use Rattle.tui_cells.proofs.Painting.{KeptOutside-then}
 use Rattle.tui_bars.proofs.Walks.{row_painted}
 use Rattle.tui_bars.specs.BarChart.{bar_data}
 use Rattle.tui_layout.specs.declared.direction.Direction.TheVariants.{Horizontal}
 use Rattle.tui_bars.proofs.bar_chart.BarChart.paint_row.Goals as goal
 
 pub returns-clause-ok : goal.returns-clause-ok
-returns-clause-ok c = row_painted _ _ _ _ (bar_data c.args.bar.now) _ _ _ _ _ _ _ _ _ c.filled_of-filled.ensures c.middle_of-middle.ensures c.patch-style.ensures c.patch-value_style.ensures
-    c.value_text-text.ensures.is c.in_ok-paint_strip.ensures.ok c.in_ok-paint_left.ensures.ok c.paint_row_value.ensures.ok
+returns-clause-ok c = row_painted _ _ _ _ (bar_data c.args.bar.now) _ _ _ _ _ _ _ _ _ _ c.filled_of-filled.ensures c.middle_of-middle.ensures c.patch-style.ensures c.patch-value_style.ensures
+    c.value_text-text.ensures.is c.in_ok-paint_strip.ensures.ok c.in_ok-paint_left.ensures.ok c.in_ok-paint_within.ensures.ok c.paint_beyond.ensures.ok
 
 pub returns-clause-light : goal.returns-clause-light
-returns-clause-light c levels light = c.paint_row_value.ensures.light (c.value_text-text.ensures.light Horizontal light.text)
+returns-clause-light c levels light = c.paint_beyond.ensures.light (c.value_text-text.ensures.light Horizontal light.text)
+
+pub returns-in_err-paint_within-clause-light : goal.returns-in_err-paint_within-clause-light
+returns-in_err-paint_within-clause-light c levels light =
+    let broken = c.in_err-paint_within.ensures.light (c.value_text-text.ensures.light Horizontal light.text) in cc
+
+pub returns-in_err-paint_within-clause-kept : goal.returns-in_err-paint_within-clause-kept
+returns-in_err-paint_within-clause-kept c =
+    KeptOutside-then c.in_ok-paint_strip.ensures.kept (KeptOutside-then c.in_ok-paint_left.ensures.kept c.in_err-paint_within.ensures.kept)
+
+pub returns-clause-kept : goal.returns-clause-kept
+returns-clause-kept c =
+    KeptOutside-then c.in_ok-paint_strip.ensures.kept
+    (KeptOutside-then c.in_ok-paint_left.ensures.kept (KeptOutside-then c.in_ok-paint_within.ensures.kept c.paint_beyond.ensures.kept))
