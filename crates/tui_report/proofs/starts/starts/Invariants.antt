@@ -1,4 +1,4 @@
-use Rattle.std.proofs.Common.{◌≡◌, length, map, take}
+use Rattle.std.proofs.Common.{length, map, take}
 use Rattle.tui_report.specs.Report.{cells_of}
 use Rattle.tui_report.specs.Starts.{HaveRows, IsLast, going_on}
 use Rattle.tui_report.proofs.starts.starts.Given as goal

@@ -1,4 +1,4 @@
-use Rattle.std.proofs.Common.{sym, ap, length, ◌∙◌}
+use Rattle.std.proofs.Common.{sym, ap, ◌∙◌}
 use Rattle.tui_report.specs.Pages.{joined}
 use Rattle.tui_report.proofs.Keeping.{joined-parts}
 use Rattle.tui_report.proofs.pages.Pages.pieces.Goals as goal
