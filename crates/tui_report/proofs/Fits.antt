@@ -6,7 +6,7 @@ use Rattle.std.proofs.lemmas.List.{length-drop, length-map}
 use Rattle.std.proofs.lemmas.List.Elements.{All-from_recursion, recursion_from_All}
 use Rattle.tui_layout.specs.declared.segment.Segment.{Segment}
 use Rattle.tui_report.specs.Heights.{heights_of, record_height}
-use Rattle.tui_report.specs.Pages.{ArePages, IsPage, joined, lines_on}
+use Rattle.tui_report.specs.Pages.{ArePages, IsPage, all_pieces, lines_on}
 use Rattle.tui_report.specs.Report.{ColumnData, IsReport}
 use Rattle.tui_report.specs.Strokes.{IsDrawable}
 use Rattle.tui_report.specs.declared.piece.Piece.{Piece}
@@ -44,12 +44,12 @@ cuts_inside all room place from (height ∷ heights) (p ∷ ps) r at high b c =
 
 -- what holds of the pieces of all pages holds of those of each page
 on_page : (P : Piece → Type 0) (pages : List (List Piece)) (at : ℕ) (page : List Piece) → at < length pages → slice_get pages at ≡ Some page →
-    AllByRecursion P (joined pages) → AllByRecursion P page
+    AllByRecursion P (all_pieces pages) → AllByRecursion P page
 on_page P [] at page h e a = absurd (omega arith)
 on_page P (first ∷ pages) zero page h e a =
     let same : first ≡ page = cc in
-    subst (AllByRecursion P) same (all_front P first (joined pages) a)
-on_page P (first ∷ pages) (suc at) page h e a = on_page P pages at page (omega arith) e (all_back P first (joined pages) a)
+    subst (AllByRecursion P) same (all_front P first (all_pieces pages) a)
+on_page P (first ∷ pages) (suc at) page h e a = on_page P pages at page (omega arith) e (all_back P first (all_pieces pages) a)
 
 page_at : (P : List Piece → Type 0) (pages : List (List Piece)) (at : ℕ) (page : List Piece) → at < length pages → slice_get pages at ≡ Some page →
     AllByRecursion P pages → P page
@@ -58,11 +58,11 @@ page_at P (first ∷ pages) zero page h e a = let same : first ≡ page = cc in 
 page_at P (first ∷ pages) (suc at) page h e a = page_at P pages at page (omega arith) e a.1
 
 all_inside : (heights : List ℕ) (room : ℕ) (pages : List (List Piece)) → 0 < room → Heights heights → ArePages heights room pages →
-    AllByRecursion (IsInside heights) (joined pages)
-all_inside [] room pages r high are = subst (λ ps. AllByRecursion (IsInside []) (joined ps)) (sym (are.none refl)) tt
+    AllByRecursion (IsInside heights) (all_pieces pages)
+all_inside [] room pages r high are = subst (λ ps. AllByRecursion (IsInside []) (all_pieces ps)) (sym (are.none refl)) tt
 all_inside (height ∷ heights) room pages r high are =
     let known = known_of (height ∷ heights) room pages high (omega arith) are in
-    cuts_inside (height ∷ heights) room 0 0 (height ∷ heights) (joined pages) r refl high (begun_first (height ∷ heights) high) known.cuts
+    cuts_inside (height ∷ heights) room 0 0 (height ∷ heights) (all_pieces pages) r refl high (begun_first (height ∷ heights) high) known.cuts
 
 drawable : (heights : List ℕ) (p : Piece) → All IsLow heights → IsInside heights p → IsDrawable (length heights) p
 drawable heights p low i =

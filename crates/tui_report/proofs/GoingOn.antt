@@ -8,14 +8,14 @@ use Rattle.std.proofs.lemmas.Option.{slice_get_within}
 use Rattle.tui_layout.specs.declared.segment.Segment.{Segment}
 use Rattle.tui_report.specs.Filling.{pages_of, pieces_from}
 use Rattle.tui_report.specs.Heights.{heights_of}
-use Rattle.tui_report.specs.Pages.{joined}
+use Rattle.tui_report.specs.Pages.{all_pieces}
 use Rattle.tui_report.specs.Report.{ColumnData, IsReport}
 use Rattle.tui_report.specs.Starts.{going_on, pieces_before}
 use Rattle.tui_report.specs.declared.piece.Piece.{Piece}
 use Rattle.tui_report.proofs.Cutting.{Cuts, ge_test, lt_test, pieces_cut}
 use Rattle.tui_report.proofs.DrawnPage.{read_page}
 use Rattle.tui_report.proofs.Measured.{heights_some}
-use Rattle.tui_report.proofs.OnePages.{fill_joined}
+use Rattle.tui_report.proofs.OnePages.{fill_pieces}
 
 going_head : (p : Piece) (ps : List Piece) → 0 < p.from → going_on (p ∷ ps) ≡ p ∷ going_on ps
 going_head p ps h = cond-true _ _ _ (lt_test 0 p.from h)
@@ -108,30 +108,30 @@ first_piece pages at = slice_get (slice_index_or pages at []) 0
 
 -- among all
 first_among : (pages : List (List Piece)) (at : ℕ) (p : Piece) → at < length pages → first_piece pages at ≡ Some p →
-    slice_get (joined pages) (pieces_before pages at) ≡ Some p
+    slice_get (all_pieces pages) (pieces_before pages at) ≡ Some p
 first_among [] at p h e = absurd (omega arith)
 first_among ([] ∷ pages) zero p h e = absurd (let n = slice_get_within [] 0 p e in omega arith)
 first_among ((q ∷ page) ∷ pages) zero p h e = e
 first_among (page ∷ pages) (suc at) p h e =
-    ap (slice_get (page ++ joined pages)) (length-append page (joined (take at pages)))
-    ∙ (slice_get_behind page (joined pages) (pieces_before pages at) ∙ first_among pages at p (omega arith) e)
+    ap (slice_get (page ++ all_pieces pages)) (length-append page (all_pieces (take at pages)))
+    ∙ (slice_get_behind page (all_pieces pages) (pieces_before pages at) ∙ first_among pages at p (omega arith) e)
 
 -- the first piece of a page of a report, if it goes on, is the one that its place among all pieces and its record's place tell
 pub going_first : (places : List Segment) (width height : ℕ) (columns : List ColumnData) (records : List (List (List ℕ))) (pages : List (List Piece))
     (at : ℕ) (page : List Piece) (p : Piece) → IsReport places width height columns records pages → at < length pages →
     slice_get pages at ≡ Some page → slice_get page 0 ≡ Some p → 0 < p.from →
-    (slice_get (joined pages) (pieces_before pages at) ≡ Some p) × (slice_get (going_on (joined pages)) (pieces_before pages at - (p.place + 1)) ≡ Some p)
+    (slice_get (all_pieces pages) (pieces_before pages at) ≡ Some p) × (slice_get (going_on (all_pieces pages)) (pieces_before pages at - (p.place + 1)) ≡ Some p)
 unfolding pages_of
 going_first places width height columns records pages at page p r h read e on =
     let heights = heights_of places records in
     let room = height - 3 in
     let high = r.high in
     let some : 0 < room = omega arith in
-    let whole : joined pages ≡ pieces_from room 0 heights = ap joined r.are_pages ∙ fill_joined room [] (pieces_from room 0 heights) in
-    let cuts : Cuts room 0 0 heights (joined pages) =
+    let whole : all_pieces pages ≡ pieces_from room 0 heights = ap all_pieces r.are_pages ∙ fill_pieces room [] (pieces_from room 0 heights) in
+    let cuts : Cuts room 0 0 heights (all_pieces pages) =
     subst (Cuts room 0 0 heights) (sym whole) (pieces_cut room 0 heights some (recursion_from_All (λ n. 0 < n) heights (heights_some places records))) in
     let first = first_among pages at p h (ap (λ ps. slice_get ps 0) (read_page pages at page h read) ∙ e) in
-    let k = going_at room 0 0 1 (pieces_before pages at) heights (joined pages) p some cuts (λ z. absurd (omega arith)) (λ z. refl) first on in
+    let k = going_at room 0 0 1 (pieces_before pages at) heights (all_pieces pages) p some cuts (λ z. absurd (omega arith)) (λ z. refl) first on in
     let sum = k.1 in
     let place : k.0 ≡ pieces_before pages at - (p.place + 1) = omega arith in
-    (first, ap (slice_get (going_on (joined pages))) (sym place) ∙ k.2)
+    (first, ap (slice_get (going_on (all_pieces pages))) (sym place) ∙ k.2)

@@ -5,7 +5,7 @@ use Rattle.std.proofs.lemmas.List.{append_assoc, length-append, length-take, tak
 use Rattle.std.proofs.lemmas.Bool.{cases_lt, cond-true, cond-false}
 use Rattle.tui_report.specs.declared.piece.Piece.{Piece}
 use Rattle.std.proofs.lemmas.List.Folds.{drop_split}
-use Rattle.tui_report.specs.Pages.{joined, size_of, lines_on}
+use Rattle.tui_report.specs.Pages.{all_pieces, size_of, lines_on}
 use Rattle.tui_report.specs.Starts.{pieces_before}
 use Rattle.tui_report.specs.Filling.{cut, pieces_from, fill, Draft, IsDraft, with_piece, pages_by, parts_of, EndAt}
 use Rattle.tui_report.proofs.Cutting.{cut_next, cut_done}
@@ -218,11 +218,11 @@ all_ended pieces ends start used d none =
     subst (EndAt 0 ends) same d.in_order
 
 -- all pages together are the pieces
-pub joined-parts : (start : ℕ) (ends : List ℕ) (pieces : List Piece) → EndAt start ends (length pieces)
-    → joined (parts_of start ends pieces) ≡ drop start pieces
-joined-parts start [] pieces e = sym (drop_past start pieces (omega (arith, e)))
-joined-parts start (stop ∷ ends) pieces e =
-    ap (λ ps. slice_range pieces start stop ++ ps) (joined-parts stop ends pieces e.1) ∙ sym (drop_split pieces start stop e.0)
+pub all_pieces-parts : (start : ℕ) (ends : List ℕ) (pieces : List Piece) → EndAt start ends (length pieces)
+    → all_pieces (parts_of start ends pieces) ≡ drop start pieces
+all_pieces-parts start [] pieces e = sym (drop_past start pieces (omega (arith, e)))
+all_pieces-parts start (stop ∷ ends) pieces e =
+    ap (λ ps. slice_range pieces start stop ++ ps) (all_pieces-parts stop ends pieces e.1) ∙ sym (drop_split pieces start stop e.0)
 
 -- so many pieces stand before a page
 before_at : (start last : ℕ) (ends : List ℕ) (pieces : List Piece) (at : ℕ) → EndAt start ends last → last ≤ length pieces → at < length ends
@@ -235,7 +235,7 @@ before_at start last (stop ∷ ends) pieces (suc at) e h n =
     let part = slice_range pieces start stop in
     let size : length part ≡ stop - start = omega (arith, length-take (stop - start) (drop start pieces), length-drop start pieces) in
     let rest = before_at stop last ends pieces at e.1 h (omega arith) in
-    omega (arith, length-append part (joined (take at (parts_of stop ends pieces))))
+    omega (arith, length-append part (all_pieces (take at (parts_of stop ends pieces))))
 
 pub before_read : (ends ends' : List ℕ) (pieces : List Piece) (view : List (List Piece)) (at start : ℕ) → parts_of 0 ends pieces ≡ view
     → EndAt 0 ends (length pieces) → at < length view → ends' ≡ ends → start ≡ get_or (0 ∷ ends') at 0 → start ≡ pieces_before view at

@@ -7,7 +7,7 @@ use Rattle.std.proofs.lemmas.List.Elements.{All-from_recursion, recursion_from_A
 use Rattle.std.proofs.lemmas.List.Sums.{sum_by-cons, sum_by_push}
 use Rattle.std.proofs.lemmas.Bool.{cases_lt}
 use Rattle.tui_report.specs.declared.piece.Piece.{Piece}
-use Rattle.tui_report.specs.Pages.{size_of, lines_on, height_of, joined, wholes, wholes_from, IsPiece, IsPage, EndsDuly, ArePages, KeepWhole}
+use Rattle.tui_report.specs.Pages.{size_of, lines_on, height_of, all_pieces, wholes, wholes_from, IsPiece, IsPage, EndsDuly, ArePages, KeepWhole}
 use Rattle.tui_report.specs.Filling.{pages_of, pieces_from, fill}
 use Rattle.tui_report.specs.Laws.{PagesAreOne, PagesAreFewest}
 use Rattle.tui_report.proofs.Cutting.{Heights, Cuts, Fits, IsCut, Follows, same_cuts, pieces_cut, lines_cut, lines_whole, cuts_lines, cuts_are, cuts_follow, follows_page, begun_first}
@@ -65,16 +65,16 @@ all_append : {A : Type 0} (P : A → Type 0) (xs ys : List A) → AllByRecursion
 all_append P [] ys a b = b
 all_append P (x ∷ xs) ys a b = (a.0, all_append P xs ys a.1 b)
 
-small_joined : (room : ℕ) (pages : List (List Piece)) → AllByRecursion (λ page. lines_on page ≤ room) pages
-    → AllByRecursion (λ p. size_of p ≤ room) (joined pages)
-small_joined room [] a = tt
-small_joined room (page ∷ pages) a = all_append (λ p. size_of p ≤ room) page (joined pages) (each_small page room a.0) (small_joined room pages a.1)
+small_pieces : (room : ℕ) (pages : List (List Piece)) → AllByRecursion (λ page. lines_on page ≤ room) pages
+    → AllByRecursion (λ p. size_of p ≤ room) (all_pieces pages)
+small_pieces room [] a = tt
+small_pieces room (page ∷ pages) a = all_append (λ p. size_of p ≤ room) page (all_pieces pages) (each_small page room a.0) (small_pieces room pages a.1)
 
 -- pages by the definition take what fits
 
 blocked_of : (all : List ℕ) (room last : ℕ) (page next : List Piece) (pages : List (List Piece)) → 0 < lines_on page
     → last ≤ lines_on page → 0 < length next
-    → Follows room last (joined (next ∷ pages)) → AllByRecursion (Fits all room) (joined (next ∷ pages))
+    → Follows room last (all_pieces (next ∷ pages)) → AllByRecursion (Fits all room) (all_pieces (next ∷ pages))
     → EndsDuly all room page next → Blocked size_of room page (next ∷ pages)
 blocked_of all room last page [] pages some le more f fit ends = absurd (omega arith)
 blocked_of all room last page (p ∷ next) pages some le more f fit ends =
@@ -101,18 +101,18 @@ some_lines_on : (all : List ℕ) (room : ℕ) (page : List Piece) → 0 < length
 some_lines_on all room [] h fit = absurd (omega arith)
 some_lines_on all room (p ∷ page) h fit = let line = fit.0.is_piece.some in omega (arith, sum_by-cons size_of p page)
 
-filled_of : (all : List ℕ) (room before : ℕ) (pages : List (List Piece)) → Follows room before (joined pages)
-    → AllByRecursion (Fits all room) (joined pages)
+filled_of : (all : List ℕ) (room before : ℕ) (pages : List (List Piece)) → Follows room before (all_pieces pages)
+    → AllByRecursion (Fits all room) (all_pieces pages)
     → AllByRecursion (λ page. 0 < length page) pages → AllByRecursion (λ page. lines_on page ≤ room) pages
     → Adjacent (EndsDuly all room) pages → Filled size_of room pages
 filled_of all room before [] f fit some within ends = tt
 filled_of all room before (page ∷ []) f fit some within ends = (within.0, some.0, tt, tt)
 filled_of all room before ([] ∷ next ∷ pages) f fit some within ends = absurd (let n = some.0 in omega arith)
 filled_of all room before ((p ∷ page) ∷ next ∷ pages) f fit some within ends =
-    let k = follows_page room (size_of p) page (joined (next ∷ pages)) f.1 in
+    let k = follows_page room (size_of p) page (all_pieces (next ∷ pages)) f.1 in
     let le = k.1 in
-    let lines = some_lines_on all room (p ∷ page) some.0 (all_front (Fits all room) (p ∷ page) (joined (next ∷ pages)) fit) in
-    let fit' = all_back (Fits all room) (p ∷ page) (joined (next ∷ pages)) fit in (
+    let lines = some_lines_on all room (p ∷ page) some.0 (all_front (Fits all room) (p ∷ page) (all_pieces (next ∷ pages)) fit) in
+    let fit' = all_back (Fits all room) (p ∷ page) (all_pieces (next ∷ pages)) fit in (
       within.0,
       some.0,
       blocked_of all room k.0 (p ∷ page) next pages lines (omega (arith, sum_by-cons size_of p page)) some.1.0 k.2 fit' ends.0,
@@ -121,33 +121,33 @@ filled_of all room before ((p ∷ page) ∷ next ∷ pages) f fit some within en
 
 -- what the definition says of pages, as recursions
 pub record Known (heights : List ℕ) (room : ℕ) (pages : List (List Piece)) : Type 0 where
-  pub cuts : Cuts room 0 0 heights (joined pages)
+  pub cuts : Cuts room 0 0 heights (all_pieces pages)
   pub filled : Filled size_of room pages
 
 pub known_of : (heights : List ℕ) (room : ℕ) (pages : List (List Piece)) → Heights heights → 0 < length heights
     → ArePages heights room pages → Known heights room pages
 known_of heights room pages high some are =
     let within = all_weaker (IsPage heights room) (λ page. lines_on page ≤ room) pages (λ page k. k.within) (recursion_from_All (IsPage heights room) pages are.each_page) in
-    let fits = all_both (IsPiece heights room) (λ p. size_of p ≤ room) (Fits heights room) (joined pages) (λ p a b. record { is_piece = a; small = b })
-    (recursion_from_All (IsPiece heights room) (joined pages) are.each_piece) (small_joined room pages within) in
-    let cuts = lines_cut heights room 0 0 heights (joined pages) refl high (begun_first heights high) fits (are.lines
+    let fits = all_both (IsPiece heights room) (λ p. size_of p ≤ room) (Fits heights room) (all_pieces pages) (λ p a b. record { is_piece = a; small = b })
+    (recursion_from_All (IsPiece heights room) (all_pieces pages) are.each_piece) (small_pieces room pages within) in
+    let cuts = lines_cut heights room 0 0 heights (all_pieces pages) refl high (begun_first heights high) fits (are.lines
     ∙ sym (lines_whole 0 heights)) in
     record {
       cuts = cuts;
-      filled = filled_of heights room 0 pages (cuts_follow room 0 0 0 heights (joined pages) (λ z. absurd (omega arith)) cuts) fits
+      filled = filled_of heights room 0 pages (cuts_follow room 0 0 0 heights (all_pieces pages) (λ z. absurd (omega arith)) cuts) fits
           (recursion_from_All (λ page. 0 < length page) pages (are.some some)) within
           (adjacent_of (EndsDuly heights room) pages are.ends);
     }
 
 -- pages that are filled in turn
 
-pub fill_joined : (room : ℕ) (page ps : List Piece) → joined (fill room page ps) ≡ page ++ ps
+pub fill_pieces : (room : ℕ) (page ps : List Piece) → all_pieces (fill room page ps) ≡ page ++ ps
 unfolding fill
-fill_joined room page [] = refl
-fill_joined room page (p ∷ ps) =
+fill_pieces room page [] = refl
+fill_pieces room page (p ∷ ps) =
     elim (cases_lt room (lines_on page + size_of p)) [
-      | inl wide ↦ ap joined (fill_wide room page p ps wide) ∙ ap (λ l. page ++ l) (fill_joined room (p ∷ []) ps)
-      | inr fits ↦ ap joined (fill_fits room page p ps fits) ∙ fill_joined room (page ++ p ∷ []) ps
+      | inl wide ↦ ap all_pieces (fill_wide room page p ps wide) ∙ ap (λ l. page ++ l) (fill_pieces room (p ∷ []) ps)
+      | inr fits ↦ ap all_pieces (fill_fits room page p ps fits) ∙ fill_pieces room (page ++ p ∷ []) ps
           ∙ append_assoc page (p ∷ []) ps
     ]
 
@@ -190,7 +190,7 @@ known_pages : (heights : List ℕ) (room : ℕ) → 0 < room → Heights heights
 unfolding pages_of
 known_pages heights room r high some =
     let cuts = pieces_cut room 0 heights r high in
-    let whole : joined (pages_of heights room) ≡ pieces_from room 0 heights = fill_joined room [] (pieces_from room 0 heights) in
+    let whole : all_pieces (pages_of heights room) ≡ pieces_from room 0 heights = fill_pieces room [] (pieces_from room 0 heights) in
     record {
       cuts = subst (Cuts room 0 0 heights) (sym whole) cuts;
       filled = filled_first heights room (pieces_from room 0 heights) some cuts (cuts_are heights room 0 0 heights (pieces_from room 0 heights) r refl high (begun_first heights high) (λ h. refl) cuts);
@@ -214,19 +214,19 @@ page_is heights room (p ∷ page) within cuts =
     }
 
 pages_are : (heights : List ℕ) (room : ℕ) (pages : List (List Piece)) → Filled size_of room pages
-    → AllByRecursion (IsCut heights room) (joined pages)
+    → AllByRecursion (IsCut heights room) (all_pieces pages)
     → AllByRecursion (IsPage heights room) pages
 pages_are heights room [] f cuts = tt
 pages_are heights room (page ∷ pages) f cuts =
-    (page_is heights room page f.0 (all_front (IsCut heights room) page (joined pages) cuts), pages_are heights room pages f.3 (all_back (IsCut heights room) page (joined pages) cuts))
+    (page_is heights room page f.0 (all_front (IsCut heights room) page (all_pieces pages) cuts), pages_are heights room pages f.3 (all_back (IsCut heights room) page (all_pieces pages) cuts))
 
 duly : (heights : List ℕ) (room : ℕ) (pages : List (List Piece)) → Filled size_of room pages
-    → AllByRecursion (IsCut heights room) (joined pages) → Adjacent (EndsDuly heights room) pages
+    → AllByRecursion (IsCut heights room) (all_pieces pages) → Adjacent (EndsDuly heights room) pages
 duly heights room [] f cuts = tt
 duly heights room (page ∷ []) f cuts = tt
 duly heights room (page ∷ [] ∷ pages) f cuts = absurd (let n = f.3.1 in omega arith)
 duly heights room (page ∷ (p ∷ next) ∷ pages) f cuts =
-    let rest = all_back (IsCut heights room) page (joined ((p ∷ next) ∷ pages)) cuts in
+    let rest = all_back (IsCut heights room) page (all_pieces ((p ∷ next) ∷ pages)) cuts in
     let blocked = f.2 in
     let low = rest.0.low in
     ((λ z. omega arith), duly heights room ((p ∷ next) ∷ pages) f.3 rest)
@@ -238,10 +238,10 @@ each_some room (page ∷ pages) f = (f.1, each_some room pages f.3)
 are_of : (heights : List ℕ) (room : ℕ) (pages : List (List Piece)) → 0 < room → Heights heights → 0 < length heights
     → Known heights room pages → ArePages heights room pages
 are_of heights room pages r high some known =
-    let cuts = cuts_are heights room 0 0 heights (joined pages) r refl high (begun_first heights high) (λ h. refl) known.cuts in
+    let cuts = cuts_are heights room 0 0 heights (all_pieces pages) r refl high (begun_first heights high) (λ h. refl) known.cuts in
     record {
-      lines = cuts_lines room 0 0 heights (joined pages) r high (begun_first heights high) known.cuts ∙ lines_whole 0 heights;
-      each_piece = All-from_recursion (IsPiece heights room) (joined pages) (all_weaker (IsCut heights room) (IsPiece heights room) (joined pages) (λ p c. c.is_piece) cuts);
+      lines = cuts_lines room 0 0 heights (all_pieces pages) r high (begun_first heights high) known.cuts ∙ lines_whole 0 heights;
+      each_piece = All-from_recursion (IsPiece heights room) (all_pieces pages) (all_weaker (IsCut heights room) (IsPiece heights room) (all_pieces pages) (λ p c. c.is_piece) cuts);
       each_page = All-from_recursion (IsPage heights room) pages (pages_are heights room pages known.filled cuts);
       ends = all_adjacent_of (EndsDuly heights room) pages (duly heights room pages known.filled cuts);
       some = λ h. All-from_recursion (λ page. 0 < length page) pages (each_some room pages known.filled);
@@ -251,7 +251,7 @@ are_of heights room pages r high some known =
 same_pages : (heights : List ℕ) (room : ℕ) (pages others : List (List Piece)) → Known heights room pages
     → Known heights room others → pages ≡ others
 same_pages heights room pages others a b =
-    same_filled size_of room pages others a.filled b.filled (same_cuts room 0 0 heights (joined pages) (joined others) a.cuts b.cuts)
+    same_filled size_of room pages others a.filled b.filled (same_cuts room 0 0 heights (all_pieces pages) (all_pieces others) a.cuts b.cuts)
 
 no_pages : (room : ℕ) → ArePages [] room ([] ∷ [])
 no_pages room = record {
@@ -283,7 +283,7 @@ pub pages_are_fewest : PagesAreFewest
 pages_are_fewest heights room pages others some high low are keep =
     let high' = recursion_from_All (λ h. 0 < h) heights high in
     let known = known_of heights room pages high' some are in
-    let same = same_cuts room 0 0 heights (wholes heights) (joined pages) (wholes_cut room 0 heights (recursion_from_All (λ h. h ≤ room) heights low)) known.cuts in
+    let same = same_cuts room 0 0 heights (wholes heights) (all_pieces pages) (wholes_cut room 0 heights (recursion_from_All (λ h. h ≤ room) heights low)) known.cuts in
     none_fewer size_of room [] pages others known.filled (recursion_from_All (λ page. lines_on page ≤ room) others keep.within) (keep.whole ∙ same)
 
 pub pages_found : (heights : List ℕ) (room : ℕ) (pages : List (List Piece)) → 0 < room → All (λ h. 0 < h) heights

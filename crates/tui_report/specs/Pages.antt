@@ -26,8 +26,8 @@ abbrev pub wholes : List ℕ → List Piece
 wholes heights = wholes_from 0 heights
 
 -- the pieces of all pages, one after another
-abbrev pub joined : List (List Piece) → List Piece
-joined pages = flat_map (λ page. page) pages
+abbrev pub all_pieces : List (List Piece) → List Piece
+all_pieces pages = flat_map (λ page. page) pages
 
 -- the height of a piece's record
 abbrev pub height_of : List ℕ → Piece → ℕ
@@ -52,8 +52,8 @@ EndsDuly heights room page (p ∷ next) = p.from ≡ 0 → room < lines_on page 
 -- The pieces of all pages give the lines of each record, the records in order. Where there are records each page has a piece; where
 -- there are none there is one page without pieces.
 pub record ArePages (heights : List ℕ) (room : ℕ) (pages : List (List Piece)) : Type 0 where
-  pub lines : flat_map lines_of (joined pages) ≡ flat_map lines_of (wholes heights)
-  pub each_piece : All (IsPiece heights room) (joined pages)
+  pub lines : flat_map lines_of (all_pieces pages) ≡ flat_map lines_of (wholes heights)
+  pub each_piece : All (IsPiece heights room) (all_pieces pages)
   pub each_page : All (IsPage heights room) pages
   pub ends : AllAdjacentBelow (EndsDuly heights room) pages (length pages)
   pub some : 0 < length heights → All (λ page. 0 < length page) pages
@@ -61,5 +61,5 @@ pub record ArePages (heights : List ℕ) (room : ℕ) (pages : List (List Piece)
 
 -- pages that keep each record whole, in order and within the room
 pub record KeepWhole (heights : List ℕ) (room : ℕ) (pages : List (List Piece)) : Type 0 where
-  pub whole : joined pages ≡ wholes heights
+  pub whole : all_pieces pages ≡ wholes heights
   pub within : All (λ page. lines_on page ≤ room) pages

@@ -29,7 +29,7 @@ use Rattle.tui_layout.specs.declared.segment.Segment.{Segment}
 use Rattle.tui_para.specs.Hyphens.{at_blanks}
 use Rattle.tui_para.specs.Lines.{GlyphLine}
 use Rattle.tui_para.specs.WrappedText.{wrap_text}
-use Rattle.tui_report.specs.Pages.{joined}
+use Rattle.tui_report.specs.Pages.{all_pieces}
 use Rattle.tui_report.specs.declared.piece.Piece.{Piece}
 use Rattle.tui_text.specs.Text.{raw_text}
 use Rattle.tui_text.specs.declared.alignment.Alignment.TheVariants.{Left}
@@ -46,7 +46,7 @@ pub record GoesOn (width line : ℕ) (cell : List ℕ) (start : ℕ) : Type 0 wh
 
 -- how many pieces stand before a page
 abbrev pub pieces_before : List (List Piece) → ℕ → ℕ
-pieces_before pages at = length (joined (take at pages))
+pieces_before pages at = length (all_pieces (take at pages))
 
 -- the pieces that go on with a record, behind its first one
 abbrev pub going_on : List Piece → List Piece

@@ -2,7 +2,7 @@
 
 ghost use Rattle.std.specs.Prelude.{◌≡◌, ◌<◌, ◌≤◌, ◌∷◌, List, length, slice_get, slice_index, slice_range, Some, All, IfOk};
 ghost use Rattle.tui_report.specs.Filling.{pages_of};
-ghost use Rattle.tui_report.specs.Pages.{ArePages, KeepWhole, joined};
+ghost use Rattle.tui_report.specs.Pages.{ArePages, KeepWhole, all_pieces};
 ghost use Rattle.tui_report.specs.Starts.{pieces_before};
 ghost use Rattle.tui_report.specs.declared.piece.Piece.{Piece};
 
@@ -68,7 +68,7 @@ impl Pages {
 
     /// The pieces of all pages, one after another.
     pub(crate) fn pieces(&self) -> &[Piece]
-        ensures { result.now ≡ joined self.now }
+        ensures { result.now ≡ all_pieces self.now }
     {
         &self.pieces
     }

@@ -54,7 +54,7 @@ impl<'a> Drop for Report<'a> {
 
 impl<'a> Model for Report<'a> {
     ghost use Rattle.std.specs.Prelude.{length, map};
-    ghost use Rattle.tui_report.specs.Pages.{joined};
+    ghost use Rattle.tui_report.specs.Pages.{all_pieces};
     ghost use Rattle.tui_report.specs.Report.{IsReport, ReportData, column_data, cells_of};
     ghost use Rattle.tui_report.specs.Starts.{HaveRows, going_on};
 
@@ -70,7 +70,7 @@ impl<'a> Model for Report<'a> {
     } };
 
     ghost invariant = { λ r. IsReport r.places.items r.width r.height (map column_data r.columns.items) (map cells_of r.records.items) r.pages
-        × HaveRows r.places.items (map cells_of r.records.items) (joined r.pages) (length (going_on (joined r.pages))) r.starts.items };
+        × HaveRows r.places.items (map cells_of r.records.items) (all_pieces r.pages) (length (going_on (all_pieces r.pages))) r.starts.items };
 }
 
 impl<'a> Report<'a> {
