@@ -8,7 +8,7 @@ use Rattle.std.proofs.lemmas.List.{append_assoc, length-append, length-map, map-
 use Rattle.tui_cells.specs.declared.style.Style.{Style}
 use Rattle.tui_para.specs.Hyphens.{Wrapped, at_blanks, glyph_rule, with_cuts, wrap}
 use Rattle.tui_para.specs.Lines.{GlyphLine, glyph_line}
-use Rattle.tui_para.specs.Wrapped.{WrapsKept, kept}
+use Rattle.tui_para.specs.Wrapped.{WrapsKept, not_wider}
 use Rattle.tui_para.specs.WrappedText.{text_glyph_line}
 use Rattle.tui_para.specs.declared.wrap.Wrap.{Wrap}
 use Rattle.tui_places.specs.AfterLine.{wrapped_lines}
@@ -110,7 +110,7 @@ some_line w way glyphs lines (cut, wraps, e) =
     let size = length-map cut (map (λ p. p.0)) in
     omega (arith, ap length e)
   where
-    by_case : (cut : List (List (Glyph × Bool))) → WrapsKept (glyph_rule w way) (with_cuts way.hyphens [] (kept glyph_width w glyphs)) cut → 0 < length cut
+    by_case : (cut : List (List (Glyph × Bool))) → WrapsKept (glyph_rule w way) (with_cuts way.hyphens [] (not_wider glyph_width w glyphs)) cut → 0 < length cut
     by_case [] h = ⊎_elim (λ e. absurd (let l = ap length e.1 in omega arith)) (λ h. absurd (h.0 h.1)) h
     by_case (line ∷ cut) h = omega arith
 
