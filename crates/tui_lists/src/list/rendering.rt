@@ -22,7 +22,7 @@ use tui_cells::{Buffer, FARTHEST_EDGE, Mem, Rect, StatefulWidget, Style, Widget}
 use tui_frames::paint_frame;
 use tui_text::{Alignment, paint_row, paint_rows};
 
-/// An item of which rows are shown.
+/// An item in its rows, of which there may be fewer than it has lines.
 #[derive(Clone, Copy, Debug)]
 struct ShownItem<'i, 'a> {
     rows: Rect,

@@ -42,7 +42,7 @@ fn places(symbol: Option<&str>) -> usize
     ensures is { result ≡ places (option_copied symbol.entry) }
     ensures few { result ≤ 1 }
 {
-    if symbol.is_some() { 1 } else { 0 }
+    usize::from(symbol.is_some())
 }
 
 /// A symbol at a place, if there is a symbol.
