@@ -19,7 +19,7 @@ use Rattle.tui_places.proofs.AfterLine.{has_line}
 use Rattle.tui_places.proofs.NewLines.{is_newline_byte}
 use Rattle.tui_places.proofs.WrappedLines.{all_lines}
 
-abbrev parts : List ℕ → List (List ℕ)
+abbrev pub parts : List ℕ → List (List ℕ)
 parts bytes = slice_split is_newline_byte bytes
 
 -- parts up to a newline, and those behind it
@@ -49,12 +49,12 @@ split_at (b ∷ front) more =
     (cases_Bool (is_newline_byte b))
 
 -- lines of parts of which others follow
-lines_before : (p : List ℕ) (ps : List (List ℕ)) (q : List ℕ) (qs : List (List ℕ)) →
+pub lines_before : (p : List ℕ) (ps : List (List ℕ)) (q : List ℕ) (qs : List (List ℕ)) →
     lines_of_parts (p ∷ (ps ++ q ∷ qs)) ≡ map strip_carriage_return (p ∷ ps) ++ lines_of_parts (q ∷ qs)
 lines_before p [] q qs = refl
 lines_before p (r ∷ ps) q qs = ap (λ x. strip_carriage_return p ∷ x) (lines_before r ps q qs)
 
-some_parts : (bytes : List ℕ) → (q : List ℕ) × (qs : List (List ℕ)) × (parts bytes ≡ q ∷ qs)
+pub some_parts : (bytes : List ℕ) → (q : List ℕ) × (qs : List (List ℕ)) × (parts bytes ≡ q ∷ qs)
 some_parts bytes = let s = split_at bytes [] in (s.first, s.others, s.alone)
 
 lines_are : (front more : List ℕ) → lines (front ++ 10 ∷ more) ≡ lines (front ++ 10 ∷ []) ++ lines more
@@ -73,7 +73,7 @@ lines_are front more =
     ∙ ap (λ x. map strip_carriage_return x ++ lines more) same) in
     behind ∙ sym all
 
-some_lines : (front more : List ℕ) → text_lines (front ++ 10 ∷ more) ≡ lines (front ++ 10 ∷ more)
+pub some_lines : (front more : List ℕ) → text_lines (front ++ 10 ∷ more) ≡ lines (front ++ 10 ∷ more)
 some_lines [] more = refl
 some_lines (b ∷ front) more = refl
 

@@ -11,7 +11,7 @@ mod Walked
 mod WrappedLines
 mod AfterLine
 mod FromLine
-mod FirstPart
+pub mod FirstPart
 mod MoreClusters
 mod SeamLines
 pub mod RestLayers

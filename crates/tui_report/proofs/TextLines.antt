@@ -13,14 +13,12 @@ use Rattle.tui_para.specs.WrappedText.{text_glyph_line}
 use Rattle.tui_para.specs.declared.wrap.Wrap.{Wrap}
 use Rattle.tui_places.specs.AfterLine.{wrapped_lines}
 use Rattle.tui_places.specs.Parts.{HaveSameLines}
+use Rattle.tui_places.proofs.FirstPart.{lines_before, parts, some_lines, some_parts}
 use Rattle.tui_report.specs.Shown.{AreTextLines, newlines}
 use Rattle.tui_text.specs.Grapheme.{Glyph, glyph_width}
 use Rattle.tui_text.specs.Line.{raw_line}
 use Rattle.tui_text.specs.Text.{text_lines}
 use Rattle.tui_text.specs.declared.alignment.Alignment.{Alignment}
-
-abbrev parts : List ℕ → List (List ℕ)
-parts bytes = slice_split (λ b. b == 10) bytes
 
 -- the parts up to a newline, whatever stands behind it
 record Split (front : List ℕ) : Type 0 where
@@ -48,21 +46,6 @@ split_at (b ∷ front) =
     })
     (cases_Bool (b == 10))
 
-some_parts : (bytes : List ℕ) → (q : List ℕ) × (qs : List (List ℕ)) × (parts bytes ≡ q ∷ qs)
-some_parts [] = ([], [], refl)
-some_parts (b ∷ bytes) =
-    let (q, qs, e) = some_parts bytes in
-    ⊎_elim
-    (λ t. ([], parts bytes, cond-true _ ([] ∷ parts bytes) (onto_first b (parts bytes)) t))
-    (λ t. (b ∷ q, qs, cond-false _ ([] ∷ parts bytes) (onto_first b (parts bytes)) t ∙ ap (onto_first b) e))
-    (cases_Bool (b == 10))
-
--- lines of parts of which others follow
-lines_before : (p : List ℕ) (ps : List (List ℕ)) (q : List ℕ) (qs : List (List ℕ)) →
-    lines_of_parts (p ∷ (ps ++ q ∷ qs)) ≡ map strip_carriage_return (p ∷ ps) ++ lines_of_parts (q ∷ qs)
-lines_before p [] q qs = refl
-lines_before p (r ∷ ps) q qs = ap (λ x. strip_carriage_return p ∷ x) (lines_before r ps q qs)
-
 -- the text lines up to a newline, whatever stands behind it
 ended : List ℕ → List (List ℕ)
 ended front = let s = split_at front in map strip_carriage_return (s.first ∷ s.others)
@@ -72,12 +55,8 @@ unfolding ended
 lines_are front more =
     let s = split_at front in
     let (q, qs, e) = some_parts more in
-    some front ∙ (ap lines_of_parts (s.whole more ∙ ap (λ x. s.first ∷ (s.others ++ x)) e) ∙ (lines_before s.first s.others q qs
+    some_lines front more ∙ (ap lines_of_parts (s.whole more ∙ ap (λ x. s.first ∷ (s.others ++ x)) e) ∙ (lines_before s.first s.others q qs
     ∙ ap (λ x. ended front ++ lines_of_parts x) (sym e)))
-  where
-    some : (before : List ℕ) → text_lines (before ++ 10 ∷ more) ≡ lines (before ++ 10 ∷ more)
-    some [] = refl
-    some (b ∷ before) = refl
 
 many_ended : (front : List ℕ) → length (ended front) ≡ length (newlines front) + 1
 unfolding ended
