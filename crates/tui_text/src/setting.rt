@@ -36,7 +36,8 @@ use crate::span::Span;
 use crate::width::cell_width;
 use tui_cells::{Buffer, Mem, Position, Rect, Style};
 
-/// Puts a grapheme of a width in its columns, if it has any.
+/// Puts a grapheme of a width in its columns, if it has any. Always inlined, as it is a step of the loop over graphemes.
+#[inline(always)]
 fn put_cluster(buf: &mut Buffer, x: u16, y: u16, text: &str, style: Style, width: u16) -> Mem<()>
     requires width { width ≡ width_of text.now }
     requires within { x + width ≤ farthest_edge }
@@ -90,6 +91,7 @@ fn set_run(
 }
 
 /// Sets graphemes in a room of columns, and answers the column after the last one used.
+#[inline]
 fn set_clusters(buf: &mut Buffer, at: Position, room: u16, text: &str, style: Style) -> Mem<u16>
     requires { at.x + room ≤ farthest_edge }
     ensures ok { OnOk result (Painted (set_clusters at.x at.y room style (clusters text.now)) buf.old buf.new) }
