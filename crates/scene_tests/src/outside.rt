@@ -94,7 +94,7 @@ fn printed_twice(alloc: Global, sink: &mut MemSink) -> Mem<bool> {
     let first = print.end(sink);
     print.place(sink, None);
     print.place(sink, Some(23));
-    Ok(first && print.end(sink))
+    Ok(first.is_ok() && print.end(sink).is_ok())
 }
 
 #[test]

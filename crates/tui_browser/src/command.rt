@@ -11,7 +11,7 @@ use crate::run::press_keys;
 use serde_json::Value;
 use std::alloc::Global;
 use tui_json::InputError;
-use tui_port::Sink;
+use tui_port::{Sink, WriteFault};
 use tui_run::{Job, Leftovers, Reader, Stop, are_none, put_refused_field};
 
 /// The command of the program: it reads entries and keys, and writes the state behind each key and the last screen.
@@ -53,7 +53,7 @@ impl Job for PagerCommand {
         }
     }
 
-    fn refuse<K: Sink>(&self, refusal: BadInput, sink: &mut K) -> bool {
+    fn refuse<K: Sink>(&self, refusal: BadInput, sink: &mut K) -> Result<(), WriteFault> {
         put_refused_field(refusal.field.name(), refusal.at, sink)
     }
 }
@@ -70,5 +70,6 @@ fn show<K: Sink>(
     let run = press_keys(alloc, input)?;
     let put = put_run(&run, sink);
     leftovers.done_with(run);
-    if put { Ok(()) } else { Err(Stop::WriteFault) }
+    put?;
+    Ok(())
 }

@@ -2,7 +2,7 @@
 
 ghost use Rattle.std.specs.Prelude.{◌≡◌, ◌<◌, ◌++◌, ℕ, List, [], true};
 ghost use Rattle.tui_browser.specs.Printed.{key_line, key_lines};
-ghost use Rattle.tui_port.specs.Causes.{Puts};
+ghost use Rattle.tui_port.specs.Causes.{Writes};
 ghost use Rattle.tui_port.specs.Gathers.{Gathers};
 ghost use Rattle.tui_port.specs.Print.{IsPrint};
 ghost use Rattle.tui_viewer.specs.Screen.{IsDrawn, page_area, pager_layers};
@@ -10,15 +10,16 @@ ghost use Rattle.tui_cells.specs.Buffer.{Screen};
 
 use crate::run::Run;
 use tui_cells::Buffer;
-use tui_port::{Print, Sink};
+use tui_port::{Print, Sink, WriteFault};
 use tui_viewer::PagerState;
 
-/// Writes the line of each state, and the print of the last screen; answers whether all of it was put. Takes no memory.
-pub(crate) fn put_run<K: Sink>(run: &Run<'_>, sink: &mut K) -> bool
+/// Writes the line of each state, and the print of the last screen. `WriteFault`: the sink has taken the first bytes, but not all
+/// of them. Takes no memory.
+pub(crate) fn put_run<K: Sink>(run: &Run<'_>, sink: &mut K) -> Result<(), WriteFault>
     ensures { (screen : Screen) × (text : List ℕ)
         × IsDrawn (pager_layers run.now.pager) (page_area run.now.pager.width run.now.pager.height) screen
         × IsPrint screen [] text
-        × Puts (K.told sink.old) (K.told sink.new) true result (key_lines 0 run.now.states.items ++ text) }
+        × Writes (K.told sink.old) (K.told sink.new) result (key_lines 0 run.now.states.items ++ text) }
 {
     let mut print = Print::new();
     add_states(&mut print, sink, &run.states);

@@ -1,7 +1,8 @@
 -- Several pieces, one after the other.
-use Rattle.std.proofs.Common.{◌≡◌, ℕ, List, [], ◌++◌, Option, Bool, true, false, refl, sym, ap, ◌∙◌, append_assoc}
+use Rattle.std.proofs.Common.{◌≡◌, ℕ, List, [], ◌++◌, Bool, true, false, Result, Ok, Err, refl, sym, ap, ◌∙◌, append_assoc}
 use Rattle.std.proofs.lemmas.List.{append-nil}
-use Rattle.tui_port.specs.Causes.{Puts, Told}
+use Rattle.std.specs.Prelude.{is_ok}
+use Rattle.tui_port.specs.Causes.{Puts, Told, Writes}
 use Rattle.tui_port.specs.Gathers.{Gathered, Passes, Gathers}
 use Rattle.tui_port.proofs.Outside.{Puts-then, Appends-none, Keeps-self}
 
@@ -53,6 +54,20 @@ end_after a b c false false false x y s k l = Puts-off a c (s ++ y) (x ++ s) (Pu
 pub Gathers-end : {a b c : Told} {r : Bool} {x y : Gathered} {s : List ℕ} →
     Gathers a b x y s → Puts b c y.going r y.bytes → Puts a c x.going r (x.bytes ++ s)
 Gathers-end {a} {b} {c} {r} {x} {y} {s} k l = end_after a b c x.going y.going r x.bytes y.bytes s k.passed l
+
+-- an answer Ok says that no put has failed
+pub Writes-puts : {T E : Type 0} {a b : Told} {s : List ℕ} (r : Result T E) → Writes a b r s → Puts a b true (is_ok r) s
+Writes-puts (Ok x) w = record { sent = w.ok.0; cause = w.ok.1 }
+Writes-puts (Err e) w = record { sent = w.failed.0; cause = w.failed.1 }
+
+Puts-writes : {T E : Type 0} {a b : Told} {s : List ℕ} (r : Result T E) → Puts a b true (is_ok r) s → Writes a b r s
+Puts-writes (Ok x) p = record { ok = (p.sent, p.cause); failed = tt }
+Puts-writes (Err e) p = record { ok = tt; failed = (p.sent, p.cause) }
+
+-- a print from its beginning to its end
+pub Gathers-writes : {T E : Type 0} {a b c : Told} {x y : Gathered} {s : List ℕ} {r : Result T E} → x ≡ record { bytes = []; going = true } →
+    Gathers a b x y s → Puts b c y.going (is_ok r) y.bytes → Writes a c r s
+Gathers-writes {r = r} new k l = Puts-writes r (rw new at (Gathers-end k l))
 
 -- nothing is put
 pub added : (a : Told) (p : Bool) (x y s : List ℕ) → y ≡ x ++ s → Passes a a p p x y s

@@ -16,7 +16,7 @@ pub use laws::print_laws;
 pub use memory_sink::MemSink;
 pub use memory_source::MemSource;
 pub use print::Print;
-pub use put::{put_all, put_if};
+pub use put::put_all;
 pub use read::{CHUNK, LIMIT, ReadEnd, read_all};
 pub use sink::{Sink, WriteFault};
 pub use source::{Failed, Source};

@@ -1,6 +1,6 @@
 //! A print, gathered so that a sink is handed few and long pieces.
 
-ghost use Rattle.std.specs.Prelude.{◌≡◌, ◌+◌, ◌<◌, ◌≤◌, ℕ, List, [], ◌∷◌, ◌++◌, decimal, flat_map, length, true};
+ghost use Rattle.std.specs.Prelude.{◌≡◌, ◌+◌, ◌<◌, ◌≤◌, ℕ, List, [], ◌∷◌, ◌++◌, decimal, flat_map, is_ok, length, true};
 ghost use Rattle.tui_port.specs.Causes.{Puts};
 ghost use Rattle.tui_port.specs.Gathers.{Gathers};
 ghost use Rattle.tui_port.specs.Print.{AreRunLines, IsPrint, place_text, row_line, state_lines};
@@ -16,8 +16,8 @@ use crate::print::rows::put_rows;
 use crate::print::runs::put_runs;
 use crate::print::states::{put_place, put_states};
 use crate::print::words::put_number;
-use crate::put::put_if;
-use crate::sink::Sink;
+use crate::put::put_all;
+use crate::sink::{Sink, WriteFault};
 use std::marker::Model;
 use tui_cells::Buffer;
 use tui_scene::Scene;
@@ -120,14 +120,14 @@ impl Print {
         self.states(sink, scene);
     }
 
-    /// Puts what is gathered, and answers whether no put has failed since `new`. More may be added afterwards.
-    pub fn end<K: Sink>(&mut self, sink: &mut K) -> bool
+    /// Puts what is gathered. `WriteFault`: a put has failed since `new`. More may be added afterwards.
+    pub fn end<K: Sink>(&mut self, sink: &mut K) -> Result<(), WriteFault>
         ensures puts { Puts (K.told sink.old) (K.told sink.new)
-            self.old.going result self.old.bytes }
-        ensures new { self.new ≡ record { bytes = []; going = result } }
+            self.old.going (is_ok result) self.old.bytes }
+        ensures new { self.new ≡ record { bytes = []; going = is_ok result } }
     {
         self.put(sink);
-        self.going
+        if self.going { Ok(()) } else { Err(WriteFault) }
     }
 
     // Adds a byte.
@@ -198,4 +198,11 @@ impl Print {
         self.going = put_if(self.going, sink, &self.bytes[..self.len]);
         self.len = 0;
     }
+}
+
+// Puts all of the bytes if no put has failed so far, and answers whether none has.
+fn put_if<K: Sink>(going: bool, sink: &mut K, bytes: &[u8]) -> bool
+    ensures { Puts (K.told sink.old) (K.told sink.new) going result bytes.now }
+{
+    going && put_all(sink, bytes).is_ok()
 }

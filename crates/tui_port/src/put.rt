@@ -1,6 +1,6 @@
 //! Putting all of some bytes.
 
-ghost use Rattle.tui_port.specs.Causes.{Writes, Puts};
+ghost use Rattle.tui_port.specs.Causes.{Writes};
 
 use crate::sink::{Sink, WriteFault};
 
@@ -17,11 +17,4 @@ pub fn put_all<K: Sink>(sink: &mut K, bytes: &[u8]) -> Result<(), WriteFault>
         at += count;
     }
     Ok(())
-}
-
-/// Puts all of the bytes if no put has failed so far, and answers whether none has.
-pub fn put_if<K: Sink>(going: bool, sink: &mut K, bytes: &[u8]) -> bool
-    ensures { Puts (K.told sink.old) (K.told sink.new) going result bytes.now }
-{
-    going && put_all(sink, bytes).is_ok()
 }

@@ -1,7 +1,7 @@
 //! Whole prints: of a screen, and of rows behind a text.
 
-ghost use Rattle.std.specs.Prelude.{List, ◌++◌, ℕ, flat_map, true};
-ghost use Rattle.tui_port.specs.Causes.{Puts, Writes};
+ghost use Rattle.std.specs.Prelude.{List, ◌++◌, ℕ, flat_map};
+ghost use Rattle.tui_port.specs.Causes.{Writes};
 ghost use Rattle.tui_port.specs.Print.{IsPrint, row_line};
 
 use crate::print::Print;
@@ -20,16 +20,6 @@ pub fn write_screen<K: Sink>(
 ) -> Result<(), WriteFault>
     ensures { (text : List ℕ) × IsPrint buf.now scene.now text × Writes (K.told sink.old) (K.told sink.new) result text }
 {
-    if put_screen(buf, scene, sink) {
-        Ok(())
-    } else {
-        Err(WriteFault)
-    }
-}
-
-fn put_screen<K: Sink>(buf: &Buffer, scene: &Scene<'_>, sink: &mut K) -> bool
-    ensures { (text : List ℕ) × IsPrint buf.now scene.now text × Puts (K.told sink.old) (K.told sink.new) true result text }
-{
     let mut print = Print::new();
     print.screen(sink, buf, scene);
     print.end(sink)
@@ -39,17 +29,6 @@ fn put_screen<K: Sink>(buf: &Buffer, scene: &Scene<'_>, sink: &mut K) -> bool
 /// first bytes, but not all of them. Takes no memory.
 pub fn write_rows<K: Sink>(before: &str, buf: &Buffer, sink: &mut K) -> Result<(), WriteFault>
     ensures { Writes (K.told sink.old) (K.told sink.new) result
-        (before.now ++ flat_map row_line buf.now.rows) }
-{
-    if put_text_and_rows(before, buf, sink) {
-        Ok(())
-    } else {
-        Err(WriteFault)
-    }
-}
-
-fn put_text_and_rows<K: Sink>(before: &str, buf: &Buffer, sink: &mut K) -> bool
-    ensures { Puts (K.told sink.old) (K.told sink.new) true result
         (before.now ++ flat_map row_line buf.now.rows) }
 {
     let mut print = Print::new();

@@ -1,15 +1,19 @@
 //! The lines of fields that are refused.
 
-ghost use Rattle.std.specs.Prelude.{[], None, Some, true};
-ghost use Rattle.tui_port.specs.Causes.{Puts};
+ghost use Rattle.std.specs.Prelude.{[], None, Some};
+ghost use Rattle.tui_port.specs.Causes.{Writes};
 ghost use Rattle.tui_run.specs.FieldLine.{refused_field, refused_in_scene};
 
-use tui_port::{Print, Sink};
+use tui_port::{Print, Sink, WriteFault};
 
 /// Writes `refused: field NAME`, or `refused: field NAME at I` for a field of the part with that number from 0, as a line of its
-/// own. Answers whether all of it was put. Takes no memory.
-pub fn put_refused_field<K: Sink>(name: &str, at: Option<usize>, sink: &mut K) -> bool
-    ensures { Puts (K.told sink.old) (K.told sink.new) true result (refused_field name.now at) }
+/// own. `WriteFault`: the sink has taken the first bytes, but not all of them. Takes no memory.
+pub fn put_refused_field<K: Sink>(
+    name: &str,
+    at: Option<usize>,
+    sink: &mut K,
+) -> Result<(), WriteFault>
+    ensures { Writes (K.told sink.old) (K.told sink.new) result (refused_field name.now at) }
 {
     match at {
         None => put_name(name, sink),
@@ -17,8 +21,8 @@ pub fn put_refused_field<K: Sink>(name: &str, at: Option<usize>, sink: &mut K) -
     }
 }
 
-fn put_name<K: Sink>(name: &str, sink: &mut K) -> bool
-    ensures { Puts (K.told sink.old) (K.told sink.new) true result (refused_field name.now None) }
+fn put_name<K: Sink>(name: &str, sink: &mut K) -> Result<(), WriteFault>
+    ensures { Writes (K.told sink.old) (K.told sink.new) result (refused_field name.now None) }
 {
     let mut print = Print::new();
     print.text(sink, "refused: field ");
@@ -27,8 +31,8 @@ fn put_name<K: Sink>(name: &str, sink: &mut K) -> bool
     print.end(sink)
 }
 
-fn put_name_at<K: Sink>(name: &str, i: usize, sink: &mut K) -> bool
-    ensures { Puts (K.told sink.old) (K.told sink.new) true result (refused_field name.now (Some i)) }
+fn put_name_at<K: Sink>(name: &str, i: usize, sink: &mut K) -> Result<(), WriteFault>
+    ensures { Writes (K.told sink.old) (K.told sink.new) result (refused_field name.now (Some i)) }
 {
     let mut print = Print::new();
     print.text(sink, "refused: field ");
@@ -40,14 +44,14 @@ fn put_name_at<K: Sink>(name: &str, i: usize, sink: &mut K) -> bool
 }
 
 /// Writes `refused: scene field NAME`, or `refused: PART I field NAME` for a field of what is called so in the scene and has that
-/// number from 0, as a line of its own. Answers whether all of it was put. Takes no memory.
+/// number from 0, as a line of its own. `WriteFault`: the sink has taken the first bytes, but not all of them. Takes no memory.
 pub fn put_refused_in_scene<K: Sink>(
     part: &str,
     at: Option<usize>,
     name: &str,
     sink: &mut K,
-) -> bool
-    ensures { Puts (K.told sink.old) (K.told sink.new) true result (refused_in_scene part.now at name.now) }
+) -> Result<(), WriteFault>
+    ensures { Writes (K.told sink.old) (K.told sink.new) result (refused_in_scene part.now at name.now) }
 {
     match at {
         None => put_scene_field(name, sink),
@@ -55,8 +59,8 @@ pub fn put_refused_in_scene<K: Sink>(
     }
 }
 
-fn put_scene_field<K: Sink>(name: &str, sink: &mut K) -> bool
-    ensures { Puts (K.told sink.old) (K.told sink.new) true result (refused_in_scene [] None name.now) }
+fn put_scene_field<K: Sink>(name: &str, sink: &mut K) -> Result<(), WriteFault>
+    ensures { Writes (K.told sink.old) (K.told sink.new) result (refused_in_scene [] None name.now) }
 {
     let mut print = Print::new();
     print.text(sink, "refused: scene field ");
@@ -65,8 +69,8 @@ fn put_scene_field<K: Sink>(name: &str, sink: &mut K) -> bool
     print.end(sink)
 }
 
-fn put_part_field<K: Sink>(part: &str, i: usize, name: &str, sink: &mut K) -> bool
-    ensures { Puts (K.told sink.old) (K.told sink.new) true result (refused_in_scene part.now (Some i) name.now) }
+fn put_part_field<K: Sink>(part: &str, i: usize, name: &str, sink: &mut K) -> Result<(), WriteFault>
+    ensures { Writes (K.told sink.old) (K.told sink.new) result (refused_in_scene part.now (Some i) name.now) }
 {
     let mut print = Print::new();
     print.text(sink, "refused: ");

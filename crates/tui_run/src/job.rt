@@ -1,8 +1,7 @@
 //! Commands that read a JSON value.
 
-ghost use Rattle.std.specs.Prelude.{true};
 ghost use Rattle.serde_json.specs.View.{view};
-ghost use Rattle.tui_port.specs.Causes.{Puts};
+ghost use Rattle.tui_port.specs.Causes.{Writes};
 ghost use Rattle.tui_run.specs.Call.{call_of};
 ghost use Rattle.tui_run.specs.Endings.{Answers, EndsReading, EndsWith, IsDueFor, IsPart};
 ghost use Rattle.tui_run.specs.Rules.{Reading};
@@ -15,7 +14,7 @@ use crate::stop::Stop;
 use crate::written::Written;
 use serde_json::Value;
 use std::alloc::Global;
-use tui_port::{ReadEnd, Sink, Source, put_if, read_all};
+use tui_port::{ReadEnd, Sink, Source, WriteFault, put_all, read_all};
 
 /// What a command does with the JSON value that it reads.
 pub trait Job {
@@ -35,9 +34,9 @@ pub trait Job {
     ) -> Result<(), Stop<Self::Refusal>>
         ensures { Answers (reading self.now) (view value.now) (K.told sink.old) (K.told sink.new) result };
 
-    /// Writes the line of a refusal, and answers whether all of it was put. Takes no memory.
-    fn refuse<K: Sink>(&self, refusal: Self::Refusal, sink: &mut K) -> bool
-        ensures { Puts (K.told sink.old) (K.told sink.new) true result ((reading self.now).line refusal) };
+    /// Writes the line of a refusal. `WriteFault`: the sink has taken the first bytes, but not all of them. Takes no memory.
+    fn refuse<K: Sink>(&self, refusal: Self::Refusal, sink: &mut K) -> Result<(), WriteFault>
+        ensures { Writes (K.told sink.old) (K.told sink.new) result ((reading self.now).line refusal) };
 }
 
 /// Reads a source to its end, as JSON, and writes what is due for the value.
@@ -55,7 +54,7 @@ pub fn run_json<J: Job, S: Source, K: Sink>(
         Ok(bytes) => bytes,
         Err(ReadEnd::ReadFault) => return Ending::Broken(Broken::ReadFault),
         Err(ReadEnd::TooLong) => {
-            return Written::TooLong.if_put(put_if(true, sink, b"refused: too long\n"));
+            return Written::TooLong.if_put(put_all(sink, b"refused: too long\n"));
         }
         Err(ReadEnd::NoMemory) => return Ending::Broken(Broken::NoMemory),
     };
@@ -66,7 +65,7 @@ pub fn run_json<J: Job, S: Source, K: Sink>(
             ending
         }
         Err(JsonError::NotJson) => {
-            Written::NotJson.if_put(put_if(true, sink, b"refused: not JSON\n"))
+            Written::NotJson.if_put(put_all(sink, b"refused: not JSON\n"))
         }
         Err(JsonError::NoMemory) => Ending::Broken(Broken::NoMemory),
     }

@@ -13,7 +13,7 @@ use std::alloc::Global;
 use std::env::Args;
 use std::io;
 use tui_cells::NoMemory;
-use tui_port::{Sink, Source, put_if};
+use tui_port::{Sink, Source, put_all};
 
 /// Runs the command that the words name. Where they name none, nothing is read, and the line of the usage is written, for which
 /// no memory is wanted.
@@ -29,7 +29,7 @@ pub fn run<C: Command + Drop, S: Source, K: Sink>(
 {
     match C::of_words(words) {
         Some(command) => command.run(alloc, source, sink, leftovers),
-        None => Written::Usage.if_put(put_if(true, sink, b"refused: usage\n")),
+        None => Written::Usage.if_put(put_all(sink, b"refused: usage\n")),
     }
 }
 

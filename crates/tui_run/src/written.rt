@@ -1,11 +1,12 @@
 //! What a run has written whole.
 
-ghost use Rattle.std.specs.Prelude.{◌≡◌, if◌then◌else◌};
+ghost use Rattle.std.specs.Prelude.{◌≡◌, if◌then◌else◌, is_ok};
 ghost use Rattle.tui_run.specs.declared.broken.Broken.TheVariants as broken;
 ghost use Rattle.tui_run.specs.declared.ending.Ending.TheVariants as ending;
 
 use crate::broken::Broken;
 use crate::ending::Ending;
+use tui_port::WriteFault;
 
 /// What a run has written whole, where R is what its program may refuse of the value that it reads: the output, or one line that
 /// says what is wrong.
@@ -24,14 +25,13 @@ pub enum Written<R> {
 }
 
 impl<R: Copy> Written<R> {
-    /// How a run ends that was to write this: so where everything was put, and else with a fault of the sink.
-    pub fn if_put(self, all: bool) -> Ending<R>
-        ensures { result ≡ (if all then ending.Written self else ending.Broken broken.WriteFault) }
+    /// How a run ends that was to write this: so where it was put whole, and else with a fault of the sink.
+    pub fn if_put(self, put: Result<(), WriteFault>) -> Ending<R>
+        ensures { result ≡ (if is_ok put then ending.Written self else ending.Broken broken.WriteFault) }
     {
-        if all {
-            Ending::Written(self)
-        } else {
-            Ending::Broken(Broken::WriteFault)
+        match put {
+            Ok(()) => Ending::Written(self),
+            Err(WriteFault) => Ending::Broken(Broken::WriteFault),
         }
     }
 }

@@ -11,7 +11,7 @@ use crate::refusal::{PagesRefusal, put_refusal};
 use serde_json::Value;
 use std::alloc::Global;
 use tui_json::InputError;
-use tui_port::Sink;
+use tui_port::{Sink, WriteFault};
 use tui_run::{Job, Leftovers, Reader, Stop, are_none, is_word};
 
 /// A command of the program. Each reads a report.
@@ -64,7 +64,7 @@ impl Job for PagesCommand {
         }
     }
 
-    fn refuse<K: Sink>(&self, refusal: PagesRefusal, sink: &mut K) -> bool {
+    fn refuse<K: Sink>(&self, refusal: PagesRefusal, sink: &mut K) -> Result<(), WriteFault> {
         put_refusal(refusal, sink)
     }
 }

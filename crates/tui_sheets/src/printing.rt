@@ -1,7 +1,7 @@
 //! The pages as they are written.
 
-ghost use Rattle.std.specs.Prelude.{◌≡◌, ◌<◌, Bool, Err, IfOk, OnOk, if◌then◌else◌, length, true};
-ghost use Rattle.tui_port.specs.Causes.{Puts};
+ghost use Rattle.std.specs.Prelude.{◌≡◌, ◌<◌, Bool, Err, IfOk, OnOk, if◌then◌else◌, length};
+ghost use Rattle.tui_port.specs.Causes.{Puts, Writes};
 ghost use Rattle.tui_port.specs.Gathers.{Gathers};
 ghost use Rattle.tui_report.specs.Strokes.{body_area, page_area};
 ghost use Rattle.tui_run.specs.Endings.{AnswersWith, no_refusal, nothing};
@@ -11,7 +11,7 @@ ghost use Rattle.tui_sheets.specs.Printed.{AreAllPages, AreFewerPages, ShowsHead
 use crate::refusal::PagesRefusal;
 use std::alloc::Global;
 use tui_cells::{Buffer, Mem, NoMemory, Rect};
-use tui_port::{Print, Sink};
+use tui_port::{Print, Sink, WriteFault};
 use tui_report::Report;
 use tui_run::Stop;
 
@@ -50,11 +50,8 @@ fn ended<K: Sink>(
     ensures { (goes : Bool) × Puts (K.told sink.old) (K.told sink.new) print.old.going goes print.old.bytes
         × (result ≡ (if goes then answer else Err stop.WriteFault)) }
 {
-    if print.end(sink) {
-        answer
-    } else {
-        Err(Stop::WriteFault)
-    }
+    print.end(sink)?;
+    answer
 }
 
 /// The buffer of a page that shows the title and the names alone.
@@ -104,15 +101,12 @@ pub(crate) fn print_count<K: Sink>(
 ) -> Result<(), Stop<PagesRefusal>>
     ensures { AnswersWith (λ text. text ≡ count_line report.now) nothing no_refusal (K.told sink.old) (K.told sink.new) result }
 {
-    if put_count(report, sink) {
-        Ok(())
-    } else {
-        Err(Stop::WriteFault)
-    }
+    put_count(report, sink)?;
+    Ok(())
 }
 
-fn put_count<K: Sink>(report: &Report<'_>, sink: &mut K) -> bool
-    ensures { Puts (K.told sink.old) (K.told sink.new) true result (count_line report.now) }
+fn put_count<K: Sink>(report: &Report<'_>, sink: &mut K) -> Result<(), WriteFault>
+    ensures { Writes (K.told sink.old) (K.told sink.new) result (count_line report.now) }
 {
     let mut print = Print::new();
     print.text(sink, "pages ");

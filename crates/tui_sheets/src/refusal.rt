@@ -1,12 +1,11 @@
 //! What is refused.
 
-ghost use Rattle.std.specs.Prelude.{true};
-ghost use Rattle.tui_port.specs.Causes.{Puts};
+ghost use Rattle.tui_port.specs.Causes.{Writes};
 ghost use Rattle.tui_sheets.specs.Refusals.{refusal_line};
 ghost use Rattle.tui_sheets.specs.declared.refusal.PagesRefusal.TheVariants as refusals;
 
 use crate::field::ReportField;
-use tui_port::{Print, Sink};
+use tui_port::{Print, Sink, WriteFault};
 use tui_run::put_refused_field;
 
 /// Why the program makes no pages of an input in JSON.
@@ -23,9 +22,9 @@ pub enum PagesRefusal {
     },
 }
 
-/// Writes the line of a refusal, and answers whether all of it was put. Takes no memory.
-pub(crate) fn put_refusal<K: Sink>(refusal: PagesRefusal, sink: &mut K) -> bool
-    ensures { Puts (K.told sink.old) (K.told sink.new) true result (refusal_line refusal) }
+/// Writes the line of a refusal. `WriteFault`: the sink has taken the first bytes, but not all of them. Takes no memory.
+pub(crate) fn put_refusal<K: Sink>(refusal: PagesRefusal, sink: &mut K) -> Result<(), WriteFault>
+    ensures { Writes (K.told sink.old) (K.told sink.new) result (refusal_line refusal) }
 {
     match refusal {
         PagesRefusal::BadInput { at, field } => put_refused_field(field.name(), at, sink),
@@ -33,8 +32,8 @@ pub(crate) fn put_refusal<K: Sink>(refusal: PagesRefusal, sink: &mut K) -> bool
     }
 }
 
-fn put_too_tall<K: Sink>(place: usize, sink: &mut K) -> bool
-    ensures { Puts (K.told sink.old) (K.told sink.new) true result (refusal_line (refusals.TooTall place)) }
+fn put_too_tall<K: Sink>(place: usize, sink: &mut K) -> Result<(), WriteFault>
+    ensures { Writes (K.told sink.old) (K.told sink.new) result (refusal_line (refusals.TooTall place)) }
 {
     let mut print = Print::new();
     print.text(sink, "refused: record ");

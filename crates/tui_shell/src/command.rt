@@ -8,7 +8,7 @@ use crate::bad_field::BadField;
 use crate::demo::show_demo;
 use serde_json::Value;
 use std::alloc::Global;
-use tui_port::{Sink, Source, write_screen};
+use tui_port::{Sink, Source, WriteFault, write_screen};
 use tui_run::{
     Command, Ending, Job, Leftovers, Numerals, Stop, is_word, number_after, put_refused_in_scene,
     run_json, told,
@@ -89,7 +89,7 @@ impl Job for ShowCommand {
         }
     }
 
-    fn refuse<K: Sink>(&self, refusal: BadField, sink: &mut K) -> bool {
+    fn refuse<K: Sink>(&self, refusal: BadField, sink: &mut K) -> Result<(), WriteFault> {
         put_refused_in_scene("item", refusal.item, refusal.field.name(), sink)
     }
 }

@@ -17,7 +17,7 @@ use serde_json::Value;
 use std::alloc::Global;
 use tui_cells::Position;
 use tui_json::InputError;
-use tui_port::{Sink, write_screen};
+use tui_port::{Sink, WriteFault, write_screen};
 use tui_run::{Job, Leftovers, Numerals, Reader, Stop, are_none, is_word, numbers_after};
 
 /// A command of the program. Each reads a tree of panes and changes.
@@ -78,7 +78,7 @@ impl Job for PanesCommand {
         }
     }
 
-    fn refuse<K: Sink>(&self, refusal: PanesRefusal, sink: &mut K) -> bool {
+    fn refuse<K: Sink>(&self, refusal: PanesRefusal, sink: &mut K) -> Result<(), WriteFault> {
         put_refusal(refusal, sink)
     }
 }
@@ -133,5 +133,6 @@ fn find<K: Sink>(
     let leaf = leaf_in(&panes, position);
     let put = put_leaf(leaf, sink);
     leftovers.done_with(panes);
-    if put { Ok(()) } else { Err(Stop::WriteFault) }
+    put?;
+    Ok(())
 }

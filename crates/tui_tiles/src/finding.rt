@@ -1,11 +1,10 @@
 //! Which leaf stands at a position, and the line that says so.
 
-ghost use Rattle.std.specs.Prelude.{true};
-ghost use Rattle.tui_port.specs.Causes.{Puts};
+ghost use Rattle.tui_port.specs.Causes.{Writes};
 ghost use Rattle.tui_tiles.specs.Found.{IsLeafAt, leaf_line};
 
 use tui_cells::Position;
-use tui_port::{Print, Sink, put_if};
+use tui_port::{Print, Sink, WriteFault, put_all};
 use tui_splits::Panes;
 
 /// The number of the leaf whose rectangle has a position, or none.
@@ -16,18 +15,19 @@ pub(crate) fn leaf_in(panes: &Panes<'_>, position: Position) -> Option<usize>
     panes.leaf_at(position)
 }
 
-/// Writes the line of the leaf of a number, or of none. Answers whether all of it was put. Takes no memory.
-pub(crate) fn put_leaf<K: Sink>(leaf: Option<usize>, sink: &mut K) -> bool
-    ensures { Puts (K.told sink.old) (K.told sink.new) true result (leaf_line leaf) }
+/// Writes the line of the leaf of a number, or of none. `WriteFault`: the sink has taken the first bytes, but not all
+/// of them. Takes no memory.
+pub(crate) fn put_leaf<K: Sink>(leaf: Option<usize>, sink: &mut K) -> Result<(), WriteFault>
+    ensures { Writes (K.told sink.old) (K.told sink.new) result (leaf_line leaf) }
 {
     match leaf {
         Some(number) => put_number(number, sink),
-        None => put_if(true, sink, b"none\n"),
+        None => put_all(sink, b"none\n"),
     }
 }
 
-fn put_number<K: Sink>(number: usize, sink: &mut K) -> bool
-    ensures { Puts (K.told sink.old) (K.told sink.new) true result (leaf_line (Some number)) }
+fn put_number<K: Sink>(number: usize, sink: &mut K) -> Result<(), WriteFault>
+    ensures { Writes (K.told sink.old) (K.told sink.new) result (leaf_line (Some number)) }
 {
     let mut print = Print::new();
     print.text(sink, "leaf ");

@@ -1,11 +1,10 @@
 //! What is refused.
 
-ghost use Rattle.std.specs.Prelude.{true};
-ghost use Rattle.tui_port.specs.Causes.{Puts};
+ghost use Rattle.tui_port.specs.Causes.{Writes};
 ghost use Rattle.tui_tiles.specs.Refusals.{refusal_line};
 
 use crate::field::PaneField;
-use tui_port::Sink;
+use tui_port::{Sink, WriteFault};
 use tui_run::put_refused_in_scene;
 use tui_schema::Field;
 
@@ -26,9 +25,9 @@ pub enum PanesRefusal {
     },
 }
 
-/// Writes the line of a refusal, and answers whether all of it was put. Takes no memory.
-pub(crate) fn put_refusal<K: Sink>(refusal: PanesRefusal, sink: &mut K) -> bool
-    ensures { Puts (K.told sink.old) (K.told sink.new) true result (refusal_line refusal) }
+/// Writes the line of a refusal. `WriteFault`: the sink has taken the first bytes, but not all of them. Takes no memory.
+pub(crate) fn put_refusal<K: Sink>(refusal: PanesRefusal, sink: &mut K) -> Result<(), WriteFault>
+    ensures { Writes (K.told sink.old) (K.told sink.new) result (refusal_line refusal) }
 {
     match refusal {
         PanesRefusal::BadPane { pane, field } => put_refused_in_scene(

@@ -1,4 +1,4 @@
-use Rattle.tui_port.proofs.Gathering.{Gathers-end, Gathers-then}
+use Rattle.tui_port.proofs.Gathering.{Gathers-then, Gathers-writes}
 use Rattle.tui_run.specs.FieldLine.{refused_in_scene}
 use Rattle.tui_run.proofs.field_line.put_part_field.Goals as goal
 
@@ -7,5 +7,4 @@ unfolding refused_in_scene
 returns g c =
     let name = Gathers-then c.text-4.ensures (Gathers-then c.text-5.ensures c.text-6.ensures) in
     let line = Gathers-then c.text.ensures (Gathers-then c.text-2.ensures (Gathers-then c.text-3.ensures (Gathers-then c.number.ensures name))) in
-    let all = Gathers-end line c.end.ensures.puts in
-    rw c.new-print.ensures at all
+    Gathers-writes c.new-print.ensures line c.end.ensures.puts

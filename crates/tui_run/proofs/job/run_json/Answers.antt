@@ -1,22 +1,24 @@
 use Rattle.std.proofs.Common.{Err, ap, codes, refl, rules}
+use Rattle.std.specs.Prelude.{is_ok}
 use Rattle.serde_json.specs.View.{view}
 use Rattle.tui_run.specs.declared.written.Written.TheVariants as written
+use Rattle.tui_port.proofs.Gathering.{Writes-puts}
 use Rattle.tui_run.proofs.Endings.{ends_for, ends_line}
 use Rattle.tui_run.proofs.job.run_json.Goals as goal
 
 pub returns-in-Err-TooLong : goal.returns-in-Err-TooLong
 returns-in-Err-TooLong g c =
     let gave = c.in-Err-TooLong.ensures.too_long (ap (λ x. Err x) c.in-Err-TooLong.field-0-is) in
-    rw c.if_put.ensures (ends_line (g.J.Job.reading c.args.job.now) _ c.put_if.result written.TooLong (codes "refused: too long\n")
-    (record { gave = gave; quiet = search rules }, refl) c.put_if.ensures)
+    rw c.if_put.ensures (ends_line (g.J.Job.reading c.args.job.now) _ (is_ok c.put_all.result) written.TooLong (codes "refused: too long\n")
+    (record { gave = gave; quiet = search rules }, refl) (Writes-puts c.put_all.result c.put_all.ensures))
 
 pub returns-in-Err-NotJson : goal.returns-in-Err-NotJson
 returns-in-Err-NotJson g c =
     let ok = c.in-Ok.ensures.ok in
     let no_reading = c.in-Err-NotJson.ensures.not_json (ap (λ x. Err x) c.in-Err-NotJson.field-0-is) in
-    let put = c.put_if-in-Err-NotJson in
-    rw c.if_put-in-Err-NotJson.ensures (ends_line (g.J.Job.reading c.args.job.now) _ put.result written.NotJson (codes "refused: not JSON\n")
-    ((c.in-Ok.bytes.items, record { taken = ok.0; end = ok.1; within = ok.2; quiet = search rules }, no_reading), refl) put.ensures)
+    let put = c.put_all-in-Err-NotJson in
+    rw c.if_put-in-Err-NotJson.ensures (ends_line (g.J.Job.reading c.args.job.now) _ (is_ok put.result) written.NotJson (codes "refused: not JSON\n")
+    ((c.in-Ok.bytes.items, record { taken = ok.0; end = ok.1; within = ok.2; quiet = search rules }, no_reading), refl) (Writes-puts put.result put.ensures))
 
 pub returns-in-Ok-json_of : goal.returns-in-Ok-json_of
 returns-in-Ok-json_of g c =

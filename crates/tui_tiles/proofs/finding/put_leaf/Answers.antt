@@ -3,4 +3,4 @@ use Rattle.tui_tiles.proofs.finding.put_leaf.Goals as goal
 
 pub returns-in-None : goal.returns-in-None
 unfolding leaf_line
-returns-in-None g c = rw c.in-None.is c.put_if.ensures
+returns-in-None g c = rw c.in-None.is c.put_all.ensures

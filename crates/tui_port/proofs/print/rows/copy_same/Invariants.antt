@@ -1,4 +1,4 @@
-use Rattle.std.proofs.Common.{◌≡◌, ◌+◌, ◌*◌, ◌-◌, ◌≤◌, ◌++◌, length, take}
+use Rattle.std.proofs.Common.{◌≡◌, ◌+◌, ◌*◌, ◌-◌, ◌≤◌, ◌++◌, take}
 use Rattle.tui_port.specs.Print.{symbols_from}
 use Rattle.tui_port.proofs.print.rows.copy_same.Given as goal
 
