@@ -97,7 +97,7 @@ impl<'a> BarChart<'a> {
         ensures kept { KeptOutside (covers clip) buf.old buf.new }
         ensures light { AreLight (line_data label.now).spans → IsOk result }
     {
-        let width = label.width().min(FAR) as u16;
+        let width = label.width().min(FARTHEST_EDGE as usize) as u16;
         let part = place_in(row, alignment_of(label), width);
         self.paint_titled(buf, clip, part, label)
     }
