@@ -51,65 +51,69 @@ fn put_next<'r, K: Sink>(
         × Gathers (K.told sink.old) (K.told sink.new) print.old print.new text }
 {
     let plain = copy_plain(row, column, piece);
-    if plain == 1 {
-        print.push(sink, piece[0]);
-        return column + 1;
-    }
-    if plain > 1 {
-        print.extend(sink, &piece[..plain]);
+    if plain > 0 {
+        put_plain(print, &piece[..plain], sink);
         return column + plain;
     }
     let symbol = row[column].symbol();
     let step = steps.step(symbol);
-    put_symbol(print, symbol, sink);
     let next = column + step.min(row.len() - column);
-    if step == 1 {
-        return put_same(print, row, next, symbol, piece, sink);
+    match symbol.as_bytes().as_array::<3>() {
+        Some(three) => put_three(print, row, next, *three, step, piece, sink),
+        None => {
+            put_symbol(print, symbol, sink);
+            next
+        }
     }
-    next
 }
 
-// Most symbols have two or three bytes, and a copy of a known length needs no call.
+// A single byte needs no call.
+#[inline]
+fn put_plain<K: Sink>(print: &mut Print, bytes: &[u8], sink: &mut K)
+    ensures { Gathers (K.told sink.old) (K.told sink.new) print.old print.new bytes.now }
+{
+    match bytes {
+        [byte] => print.push(sink, *byte),
+        _ => print.extend(sink, bytes),
+    }
+}
+
+// Two bytes are a letter of many scripts, and a copy of a known length needs no call.
 #[inline]
 fn put_symbol<K: Sink>(print: &mut Print, symbol: &str, sink: &mut K)
     ensures { Gathers (K.told sink.old) (K.told sink.new) print.old print.new symbol.now }
 {
     let bytes = symbol.as_bytes();
-    if let Some(three) = bytes.as_array::<3>() {
-        print.extend(sink, three);
-    } else if let Some(two) = bytes.as_array::<2>() {
-        print.extend(sink, two);
-    } else {
-        print.extend(sink, bytes);
+    match bytes.as_array::<2>() {
+        Some(two) => print.extend(sink, two),
+        None => print.extend(sink, bytes),
     }
 }
 
-// Adds a symbol of one column as long as the cells from a column on have it, and answers the column behind them. One of other
-// than three bytes is left to `put_next`.
+// Adds a symbol, and where it takes one column also those of the next cells that have it too; answers the column behind them.
 #[inline]
-fn put_same<K: Sink>(
+fn put_three<K: Sink>(
     print: &mut Print,
     row: &[Cell],
-    from: usize,
-    symbol: &str,
+    next: usize,
+    symbol: [u8; 3],
+    step: usize,
     piece: &mut [u8; PIECE],
     sink: &mut K,
 ) -> usize
-    requires within { from ≤ length row.now }
-    requires narrow { step_of symbol.now ≡ 1 }
-    ensures within { (from ≤ result) × (result ≤ length row.now) }
-    ensures put { (text : List ℕ) × (symbols_from row.now from ≡ text ++ symbols_from row.now result)
-        × Gathers (K.told sink.old) (K.told sink.new) print.old print.new text }
+    requires within { next ≤ length row.now }
+    requires step { step ≡ step_of symbol }
+    ensures within { (next ≤ result) × (result ≤ length row.now) }
+    ensures put { (text : List ℕ) × (symbols_from row.now next ≡ text ++ symbols_from row.now result)
+        × Gathers (K.told sink.old) (K.told sink.new) print.old print.new (symbol ++ text) }
 {
-    let Some(bytes) = symbol.as_bytes().as_array::<3>() else {
-        return from;
-    };
-    if from == row.len() || !is_text(row[from].symbol(), *bytes) {
-        return from;
+    print.extend(sink, &symbol);
+    if step != 1 || next == row.len() || !is_text(row[next].symbol(), symbol) {
+        return next;
     }
-    let count = copy_same(row, from, *bytes, piece);
+    let count = copy_same(row, next, symbol, piece);
     print.extend(sink, &piece[..3 * count]);
-    from + count
+    next + count
 }
 
 // Copies a symbol of one column as long as the cells from a column on have it, and answers how many there are.
