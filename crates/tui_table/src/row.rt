@@ -1,6 +1,6 @@
 //! Rows of a table.
 
-ghost use Rattle.std.specs.Prelude.{◌≡◌, ◌≤◌, IfOk, map, true};
+ghost use Rattle.std.specs.Prelude.{◌≡◌, ◌*◌, ◌≤◌, IfOk, map, true};
 ghost use Rattle.tui_cells.specs.Rect.{farthest_edge};
 ghost use Rattle.tui_table.specs.Cell.{cell_data};
 ghost use Rattle.tui_table.specs.Row.{row_data, row_height, row_of};

@@ -1,6 +1,6 @@
 //! The areas and the columns of a table.
 
-ghost use Rattle.std.specs.Prelude.{◌≡◌, ◌≤◌, IfOk, option_map};
+ghost use Rattle.std.specs.Prelude.{◌≡◌, ◌*◌, ◌≤◌, IfOk, option_map};
 ghost use Rattle.tui_cells.specs.Rect.{farthest_edge};
 ghost use Rattle.tui_table.specs.Areas.{body_of, cells_if, column_count, columns_in, gutter_of, height_if, room_of};
 ghost use Rattle.tui_table.specs.Moves.{cut_to};
