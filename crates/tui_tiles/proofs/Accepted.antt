@@ -1,6 +1,6 @@
 -- What is known of an input that passes its tests.
-use Rattle.std.proofs.Common.{◌≡◌, ℕ, zero, suc, ◌+◌, ◌<◌, ◌≤◌, max, List, [], ◌∷◌, ◌++◌, length, Option, Some, None, Result, Ok, Err, All, map}
-use Rattle.std.proofs.Common.{refl, sym, ap, ◌∙◌, subst, arith}
+use Rattle.std.proofs.Common.{◌≡◌, ℕ, zero, suc, ◌+◌, ◌<◌, ◌≤◌, max, List, [], ◌∷◌, length, Option, Some, None, Result, Ok, Err, All}
+use Rattle.std.proofs.Common.{refl, subst, arith}
 use Rattle.std.specs.Prelude.{codes, option_and_then}
 use Rattle.std.specs.List.{AllByRecursion}
 use Rattle.std.proofs.lemmas.Bool.Decides.{nat_tests}
@@ -25,7 +25,7 @@ use Rattle.tui_tree.specs.Place.{PaneData, PartsData, leaf, split, no_parts, par
 use Rattle.tui_tiles.specs.Changes.{ChangeData, bad_change, change_in, change_key, changes_in, each_change, in_change, leaf_number}
 use Rattle.tui_tiles.specs.Counts.{CountsData, no_panes, with_leaf, with_split}
 use Rattle.tui_tiles.specs.Input.{InputData, input_of, most_below, size_in}
-use Rattle.tui_tiles.specs.Objects.{object_of, objects_within}
+use Rattle.tui_tiles.specs.Objects.{object_of}
 use Rattle.tui_tiles.specs.Refusals.{bad_pane}
 use Rattle.tui_tiles.specs.Tree.{Reader, by_parts, leaf_in, lone_in, optional, pane_in, part_in, parts_in, required, shape_in, split_in, values_in}
 use Rattle.tui_tiles.specs.Widgets.{widget_in}
@@ -34,7 +34,6 @@ use Rattle.tui_tiles.specs.declared.change_field.ChangeField.TheVariants as chan
 use Rattle.tui_tiles.specs.declared.field.PaneField.TheVariants as fields
 use Rattle.tui_tiles.specs.declared.input.Size.{Size}
 use Rattle.tui_tiles.specs.declared.refusal.PanesRefusal.{PanesRefusal}
-use Rattle.tui_tiles.specs.declared.shape.Shape.{Shape}
 
 -- where one test after the other passes, each does
 pub record Passed {A B R : Type 0} (r : Result A R) (f : A → Result B R) (y : B) : Type 0 where

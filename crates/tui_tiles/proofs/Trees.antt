@@ -9,7 +9,6 @@ use Rattle.serde_json.specs.View.{view, items_view}
 use Rattle.serde_json.specs.declared.value.Value.{Value}
 use Rattle.tui_json.specs.Refusals.{◌>>=◌, Refuses}
 use Rattle.tui_json.proofs.Arrays.{items_view-drop}
-use Rattle.tui_layout.specs.declared.constraint.Constraint.{Constraint}
 use Rattle.tui_tree.specs.Pane.{pane_data, parts_of}
 use Rattle.tui_tree.specs.Place.{PaneData, PartsData, split, no_parts, part}
 use Rattle.tui_tree.specs.declared.pane.Pane.{Split}

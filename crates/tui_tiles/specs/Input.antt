@@ -1,5 +1,5 @@
 -- The input: its fields in order, the first test that fails being the refusal.
-use Rattle.std.specs.Prelude.{ℕ, List, map, Option, None, Result, Ok, codes}
+use Rattle.std.specs.Prelude.{ℕ, List, map, None, Result, Ok, codes}
 use Rattle.serde_json.specs.Data.{Data}
 use Rattle.serde_json.specs.Find.{get}
 use Rattle.tui_json.specs.Number.{within}

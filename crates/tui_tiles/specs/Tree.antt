@@ -1,5 +1,5 @@
 -- The tree of panes: the tests of each pane in order, outermost and first part first, the first that fails being the refusal.
-use Rattle.std.specs.Prelude.{ℕ, zero, suc, ◌-◌, ◌&&◌, nat_lt, if◌then◌else◌, List, Option, Some, None, unwrap_or, Result, Ok, Err, codes}
+use Rattle.std.specs.Prelude.{ℕ, zero, suc, nat_lt, if◌then◌else◌, Option, Some, None, unwrap_or, Result, Ok, Err, codes}
 use Rattle.serde_json.specs.Data.{Data, Items, no_items, item}
 use Rattle.serde_json.specs.Find.{get}
 use Rattle.tui_json.specs.Constraint.{constraint_of}

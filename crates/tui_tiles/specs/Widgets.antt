@@ -1,7 +1,6 @@
 -- The widgets of leaves and changes.
 use Rattle.std.specs.Prelude.{ℕ, Result, Ok, Err}
 use Rattle.serde_json.specs.Data.{Data}
-use Rattle.tui_cells.specs.Rect.{area_of}
 use Rattle.tui_cells.specs.declared.rect.Rect.{Rect}
 use Rattle.tui_scene.specs.Item.{ItemData, PlacedData}
 use Rattle.tui_schema.specs.Items.{item_of}
