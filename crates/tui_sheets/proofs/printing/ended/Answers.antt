@@ -1,4 +1,4 @@
-use Rattle.std.proofs.Common.{true, false, refl}
+use Rattle.std.proofs.Common.{true, refl}
 use Rattle.tui_sheets.proofs.printing.ended.Goals as goal
 
 pub returns : goal.returns
