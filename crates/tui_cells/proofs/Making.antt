@@ -16,6 +16,7 @@ use Rattle.std.proofs.Common.{
   slice_index_or,
   refl,
   ap,
+  ap₂,
   sym,
   ◌∙◌,
   subst,
@@ -27,7 +28,7 @@ use Rattle.std.proofs.Common.{
   inl,
   inr,
 }
-use Rattle.std.specs.List.{All}
+use Rattle.std.specs.List.{All, FoldsTo}
 use Rattle.std.proofs.lemmas.Bool.{cases_lt}
 use Rattle.std.proofs.lemmas.List.{get_or-replicate, length-replicate}
 use Rattle.std.proofs.lemmas.List.Elements.{All-from_get_or, All-get_or}
@@ -87,3 +88,9 @@ pub plain_row : (width room : ℕ) (styled : Bool) (from to : ℕ) (edit : Edit)
     (length old ≡ width) × (styled ≡ false → All IsAtRest old) → RowEdited from to edit old new → IsRow width room styled new
 plain_row width room styled from to edit old new keeps is k =
     kept_row width room styled new (k.len ∙ is.0) (λ unstyled. rest_kept from to edit old new keeps k (is.1 unstyled))
+
+-- what calls returned that return one value alone
+pub results_same : {F X : Type 0} (step : F → X → F → Type 0) (x : X) → ((p q : F) (y : X) → step p y q → y ≡ x) →
+    (f last : F) (ys : List X) → FoldsTo step f ys last → ys ≡ replicate (length ys) x
+results_same step x same f last [] ran = refl
+results_same step x same f last (y ∷ ys) ran = ap₂ ◌∷◌ (same f ran.0 y ran.1) (results_same step x same ran.0 last ys ran.2)

@@ -62,7 +62,7 @@ pub(crate) fn byte_symbol(byte: u8) -> ArrayString<SHORT>
 
 /// A text in place, where it has at most 8 bytes. A single byte needs no copy of memory.
 #[inline]
-fn short_symbol(text: &str) -> Option<ArrayString<SHORT>>
+pub(crate) fn short_symbol(text: &str) -> Option<ArrayString<SHORT>>
     ensures some { IfSome result (λ symbol. symbol.bytes ≡ text.now) }
     ensures none { result ≡ None → 8 < length text.now }
 {

@@ -32,6 +32,7 @@ under_items (Some b) style cell = dressed b.style (dressed style cell)
 
 -- inside the block the items are drawn over the old cells in these styles
 abbrev pub InsideIsDressed : Type 0
-InsideIsDressed = (l : ListData) (s : ListState) (clip : Rect) (x y : ℕ) (cell : Look) → clip.x + clip.width ≤ farthest_edge → clip.y + clip.height ≤ farthest_edge
+InsideIsDressed = (l : ListData) (s : ListState) (clip : Rect) (x y : ℕ) (cell : Look)
+    → clip.x + clip.width ≤ farthest_edge → clip.y + clip.height ≤ farthest_edge
     → covers (inner_of l.block clip) x y ≡ true
     → layers_at (list_layers l s clip) x y cell ≡ layers_at (content_layers l (inner_of l.block clip) s) x y (under_items l.block l.style cell)

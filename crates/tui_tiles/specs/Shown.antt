@@ -36,7 +36,8 @@ AreChanged leaves before (c ∷ cs) last after = (next : Screen)
     × AreChanged (changed before.area leaves c) next cs last after
 
 -- All leaves were drawn in an order on a blank buffer, and then changed.
-pub record IsDrawn (order : List ℕ) (area : Rect) (leaves : List PlacedData) (changes : List ChangeData) (last : List PlacedData) (after : Screen) : Type 0 where
+pub record IsDrawn (order : List ℕ) (area : Rect) (leaves : List PlacedData) (changes : List ChangeData) (last : List PlacedData)
+    (after : Screen) : Type 0 where
   pub first : Screen
   pub blank_first : IsFilled area blank first
   pub drawn : Screen

@@ -33,18 +33,16 @@ pub(crate) fn make_cells(cells: &mut Vec<Cell>, alloc: Global, width: u16)
     }
 }
 
-// The room is reserved, so no push fails.
+// The room is reserved, so none is asked for here.
 #[inline(never)]
 fn make_blanks(cells: &mut Vec<Cell>, alloc: Global, width: u16)
     requires empty { cells.old.items ≡ [] }
     requires room { width ≤ vec_capacity cells.old }
     ensures { cells.new.items ≡ replicate width blank }
 {
-    for _i in 0..width {
-        match cells.push(Cell::new(alloc)) {
-            Ok(()) => {}
-            Err(_) => {}
-        }
+    match cells.resize_with(width as usize, || Cell::new(alloc)) {
+        Ok(()) => {}
+        Err(_) => {}
     }
 }
 
