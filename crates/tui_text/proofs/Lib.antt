@@ -16,6 +16,7 @@ pub mod RowStrokes
 pub mod SetStays
 pub mod Settings
 pub mod Runs
+pub mod PaintedRuns
 pub mod Signs
 pub mod TextRows
 pub mod Elements

@@ -84,7 +84,7 @@ pub run_boundary : (text : List ℕ) (n : ℕ) → IsUtf8 text → IsRun text n 
 run_boundary text n u r = IsCharBoundary-from_take text n u r.within (IsUtf8-from_ascii (take n text) (printable_ascii (take n text) r.printable))
 
 -- the strokes of one byte as a grapheme, at a place of a buffer
-byte_width : (b : ℕ) → is_printable b ≡ true → width_of (b ∷ []) ≡ 1
+pub byte_width : (b : ℕ) → is_printable b ≡ true → width_of (b ∷ []) ≡ 1
 unfolding width_of
 byte_width b e = printable_width false (b ∷ []) b refl (grind (arith, nat_tests)) (grind (arith, nat_tests))
 

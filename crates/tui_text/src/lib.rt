@@ -9,6 +9,7 @@ pub mod line;
 pub mod painting;
 mod plain;
 mod printable;
+mod row;
 pub mod setting;
 pub mod span;
 pub mod text;

@@ -1,24 +1,16 @@
 //! Painting of lines in rows, and of texts in areas.
 
 ghost use Rattle.std.specs.Prelude.{◌≡◌, ◌+◌, ◌-◌, ◌^◌, ◌≤◌, ◌<◌, All, IsOk, OnOk, false, map, sum_by};
-ghost use Rattle.tui_cells.specs.Cell.{IsLight, wipe};
-ghost use Rattle.tui_cells.specs.Layers.{KeptOutside, Painted, stroke};
-ghost use Rattle.tui_cells.specs.Rect.{covers, intersection_of, farthest_edge};
-ghost use Rattle.tui_text.specs.Grapheme.{glyph_of, glyph_width};
-ghost use Rattle.tui_text.specs.Graphemes.{glyphs_left};
+ghost use Rattle.tui_cells.specs.Layers.{KeptOutside, Painted};
+ghost use Rattle.tui_cells.specs.Rect.{covers, intersection_of};
 ghost use Rattle.tui_text.specs.Line.{line_data, spans_line};
 ghost use Rattle.tui_text.specs.Painting.{
   alignment_in,
   before_it,
   below,
-  cells_at,
-  column_at,
-  glyph_at,
   line_part,
   lines_layers,
   row_layers,
-  shown_glyph,
-  shown_glyphs,
   text_layers,
 };
 ghost use Rattle.tui_text.specs.Setting.{AreLight};
@@ -27,119 +19,12 @@ ghost use Rattle.tui_text.specs.Text.{text_data};
 ghost use Rattle.tui_text.specs.Width.{saturated, span_width};
 
 use crate::alignment::Alignment;
-use crate::grapheme::StyledGrapheme;
-use crate::graphemes::Graphemes;
 use crate::line::Line;
+use crate::row::paint_glyphs;
 use crate::span::Span;
 use crate::text::Text;
-use crate::width::{cell_width, has_columns, spans_width};
-use tui_cells::{Buffer, Mem, Position, Rect, Style};
-
-/// Makes the cells behind the first one of a grapheme blank. Mostly there is none.
-#[inline(always)]
-fn reset_behind(buf: &mut Buffer, x: u16, y: u16, width: u16)
-    requires { (0 < width) × (x + width ≤ farthest_edge) }
-    ensures { Painted (stroke (covers (cells_at (x + 1) y (width - 1))) wipe) buf.old buf.new }
-{
-    if width == 1 {
-        return;
-    }
-    buf.reset(Rect {
-        x: x + 1,
-        y,
-        width: width - 1,
-        height: 1,
-    });
-}
-
-/// Puts a grapheme of a width in its columns.
-#[inline]
-pub(crate) fn put_glyph(
-    buf: &mut Buffer,
-    x: u16,
-    y: u16,
-    grapheme: &StyledGrapheme<'_>,
-    width: u16,
-) -> Mem<()>
-    requires width { width ≡ glyph_width (glyph_of grapheme.now) }
-    requires within { (0 < width) × (x + width ≤ farthest_edge) }
-    ensures ok { OnOk result (Painted (glyph_at x y (glyph_of grapheme.now)) buf.old buf.new) }
-    ensures kept { KeptOutside (covers (cells_at x y width)) buf.old buf.new }
-    ensures light { IsLight (glyph_of grapheme.now).text → IsOk result }
-{
-    buf.set_symbol(Position { x, y }, grapheme.symbol)?;
-    let cell = Rect {
-        x,
-        y,
-        width: 1,
-        height: 1,
-    };
-    buf.set_style(cell, grapheme.style);
-    reset_behind(buf, x, y, width);
-    Ok(())
-}
-
-/// The column where a grapheme of a width begins, if it lies whole inside the row.
-#[inline(always)]
-fn column_at(row: Rect, skip: usize, place: usize, width: u16) -> Option<u16>
-    ensures is { result ≡ column_at row skip place width }
-{
-    if width == 0 || place < skip || row.y >= row.bottom() {
-        return None;
-    }
-    let room = (row.right() - row.x) as usize;
-    let from = place - skip;
-    if from >= room || width as usize > room - from {
-        return None;
-    }
-    Some(row.x + from as u16)
-}
-
-#[inline(always)]
-fn paint_glyph(
-    buf: &mut Buffer,
-    row: Rect,
-    skip: usize,
-    place: usize,
-    grapheme: &StyledGrapheme<'_>,
-    width: u16,
-) -> Mem<()>
-    requires { width ≡ glyph_width (glyph_of grapheme.now) }
-    ensures ok { OnOk result (Painted (shown_glyph row skip place (glyph_of grapheme.now)) buf.old buf.new) }
-    ensures kept { KeptOutside (line_part row) buf.old buf.new }
-    ensures light { IsLight (glyph_of grapheme.now).text → IsOk result }
-{
-    match column_at(row, skip, place, width) {
-        None => Ok(()),
-        Some(x) => put_glyph(buf, x, row.y, grapheme, width),
-    }
-}
-
-/// Puts graphemes side by side from a place on, each that lies whole inside the row.
-fn paint_glyphs(
-    buf: &mut Buffer,
-    row: Rect,
-    skip: usize,
-    start: usize,
-    graphemes: Graphemes<'_, '_>,
-) -> Mem<()>
-    requires { skip + row.width < 2 ^ 64 }
-    ensures ok { OnOk result (Painted (shown_glyphs row skip start (glyphs_left graphemes.entry)) buf.old buf.new) }
-    ensures kept { KeptOutside (line_part row) buf.old buf.new }
-    ensures light { All (λ g. IsLight g.text) (glyphs_left graphemes.entry) → IsOk result }
-{
-    let end = skip.saturating_add(row.width as usize);
-    let mut place = start;
-    for grapheme in graphemes {
-        if place >= end {
-            return Ok(());
-        }
-        let width = cell_width(grapheme.symbol);
-        paint_glyph(buf, row, skip, place, &grapheme, width)?;
-        place = place.saturating_add(width as usize);
-    }
-    Ok(())
-}
+use crate::width::{has_columns, spans_width};
+use tui_cells::{Buffer, Mem, Rect, Style};
 
 /// How much of what is left of a room lies before what is placed in it.
 fn before_it(alignment: Alignment, room: usize, width: usize) -> usize
@@ -156,7 +41,7 @@ fn before_it(alignment: Alignment, room: usize, width: usize) -> usize
 /// Paints spans in the first row of an area, as `paint_row` paints a line of them in a style. No line is made for it.
 ///
 /// Spans that begin at the left are read once, and others once more for their width.
-#[tactic(auto, using(crate::proofs::TextRows::light_glyphs), unfolding(crate::specs::Painting::row_layers))]
+#[tactic(auto, unfolding(crate::specs::Painting::row_layers))]
 pub fn paint_spans(
     buf: &mut Buffer,
     row: Rect,
@@ -174,7 +59,7 @@ pub fn paint_spans(
     }
     let (skip, start) = beginning(spans, alignment, row.width);
     buf.set_style(Rect { height: 1, ..row }, style);
-    paint_glyphs(buf, row, skip, start, Graphemes::new(spans, Style::new()))
+    paint_glyphs(buf, row, skip, start, spans)
 }
 
 /// The columns of spans that are cut at their left, and the columns of a row before spans that fit.

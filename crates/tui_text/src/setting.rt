@@ -30,8 +30,8 @@ ghost use Rattle.tui_text.specs.Setting.{
 use crate::clusters::{Clusters, split_run};
 use crate::grapheme::StyledGrapheme;
 use crate::line::Line;
-use crate::painting::put_glyph;
 use crate::plain::is_plain_char;
+use crate::row::put_glyph;
 use crate::span::Span;
 use crate::width::cell_width;
 use tui_cells::{Buffer, Mem, Position, Rect, Style};

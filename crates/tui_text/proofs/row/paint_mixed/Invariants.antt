@@ -1,0 +1,19 @@
+use Rattle.std.proofs.Common.{All, List, length, map, ◌++◌}
+use Rattle.tui_cells.specs.Cell.{IsLight}
+use Rattle.tui_cells.specs.Layers.{KeptOutside}
+use Rattle.tui_text.specs.Grapheme.{Glyph}
+use Rattle.tui_text.specs.Graphemes.{clusters, clusters_left, glyph_in}
+use Rattle.tui_text.specs.Painting.{line_part}
+use Rattle.tui_text.specs.Row.{ShownUpTo}
+use Rattle.tui_text.proofs.row.paint_mixed.Given as goal
+
+-- what is left to paint completes the whole
+abbrev pub invariant-clusters : goal.invariant-clusters
+invariant-clusters l = record {
+  shown : (more : List Glyph) → ShownUpTo l.row l.skip l.start (map (glyph_in l.style) (clusters l.text) ++ more) l.place (map (glyph_in l.style) (clusters_left l.clusters) ++ more) l.fn.buf l.buf;
+  light : All IsLight (clusters l.text) → All IsLight (clusters_left l.clusters);
+  kept : KeptOutside (line_part l.row) l.fn.buf l.buf;
+}
+
+abbrev pub decreases-clusters : goal.decreases-clusters
+decreases-clusters l = length (clusters_left l.clusters)
