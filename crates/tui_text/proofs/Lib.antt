@@ -17,6 +17,7 @@ pub mod SetStays
 pub mod Settings
 pub mod Runs
 pub mod PaintedRuns
+pub mod RunColumns
 pub mod Signs
 pub mod TextRows
 pub mod Elements

@@ -21,7 +21,7 @@ use Rattle.tui_text.specs.Plain.{IsPlainFirst, IsRun, plain_len}
 use Rattle.tui_text.specs.Setting.{set_cluster, set_clusters, set_end}
 use Rattle.tui_text.proofs.EmptyText.{clusters-nil}
 use Rattle.tui_text.proofs.LightTexts.{printable_ascii}
-use Rattle.tui_text.proofs.OneByte.{printable_width}
+use Rattle.tui_text.proofs.RunColumns.{byte_columns}
 use Rattle.tui_text.proofs.QuickParts.{quick_alone, quick_before, shown-first}
 use Rattle.tui_text.proofs.Settings.{end_more, fits, pick_true}
 
@@ -86,7 +86,7 @@ run_boundary text n u r = IsCharBoundary-from_take text n u r.within (IsUtf8-fro
 -- the strokes of one byte as a grapheme, at a place of a buffer
 pub byte_width : (b : ℕ) → is_printable b ≡ true → width_of (b ∷ []) ≡ 1
 unfolding width_of
-byte_width b e = printable_width false (b ∷ []) b refl (grind (arith, nat_tests)) (grind (arith, nat_tests))
+byte_width b e = byte_columns false b e
 
 byte_at : (x y u v b : ℕ) (style : Style) (c : Look) → u < 65535 → v < 65535 → width_of (b ∷ []) ≡ 1 →
     layers_at (set_cluster x y style (b ∷ [])) u v c ≡ layers_at (over (at_place x y) (put (b ∷ []) ∷ dress style ∷ [])) u v c

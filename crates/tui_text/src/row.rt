@@ -39,7 +39,7 @@ fn reset_behind(buf: &mut Buffer, x: u16, y: u16, width: u16)
 }
 
 /// Puts a grapheme of a width in its columns.
-#[inline]
+#[inline(always)]
 pub(crate) fn put_glyph(
     buf: &mut Buffer,
     x: u16,
@@ -117,7 +117,7 @@ fn room_from(row: Rect, skip: usize, place: usize) -> usize
 }
 
 /// Paints printable bytes from a place on, whose columns lie in the row. Where other characters stand, there is mostly none.
-#[inline]
+#[inline(always)]
 fn paint_bytes(buf: &mut Buffer, row: Rect, skip: usize, place: usize, bytes: &[u8], style: Style)
     requires printable { list_all is_printable bytes.now ≡ true }
     requires inside { 0 < length bytes.now → InRow row skip place (length bytes.now) }

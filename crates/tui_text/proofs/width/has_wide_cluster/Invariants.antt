@@ -1,7 +1,7 @@
 use Rattle.std.proofs.Common.{◌≡◌, false, sum_by}
 use Rattle.tui_text.specs.Grapheme.{columns_of}
 use Rattle.tui_text.specs.Graphemes.{clusters, clusters_left}
-use Rattle.tui_text.proofs.width.has_column.Given as goal
+use Rattle.tui_text.proofs.width.has_wide_cluster.Given as goal
 
 -- the graphemes so far have no column
 abbrev pub invariant-loop-cluster : goal.invariant-loop-cluster
