@@ -22,7 +22,8 @@ use Rattle.tui_text.specs.Span.{SpanData}
 use Rattle.tui_text.proofs.Runs.{byte_width, kept_spelt, set_spelt}
 use Rattle.tui_text.proofs.Settings.{fits, pick_true, set_none}
 
-column_in : (row : Rect) (skip place x : ℕ) → skip ≤ place → x ≡ row.x + (place - skip) → x < right_of row → row.y < bottom_of row → column_at row skip place 1 ≡ Some x
+column_in : (row : Rect) (skip place x : ℕ) → skip ≤ place → x ≡ row.x + (place - skip) → x < right_of row → row.y < bottom_of row →
+    column_at row skip place 1 ≡ Some x
 column_in row skip place x begun is within low = grind (arith, nat_tests)
 
 shown_byte : (row : Rect) (skip place x b : ℕ) (style : Style) → width_of (b ∷ []) ≡ 1 → column_at row skip place 1 ≡ Some x →
@@ -32,7 +33,8 @@ shown_byte row skip place x b style wide column = rw (wide, column) refl
 -- what is shown of bytes whose columns lie in a row is what is set of them in a room
 shown_run : (row : Rect) (skip place x room : ℕ) (style : Style) (run : List ℕ) (more : List Glyph) → list_all is_printable run ≡ true →
     skip ≤ place → x ≡ row.x + (place - skip) → length run ≤ room → x + length run ≤ right_of row → row.y < bottom_of row →
-    set_clusters x row.y room style (map one_byte run) ++ shown_glyphs row skip (place + length run) more ≡ shown_glyphs row skip place (map (glyph_in style) (map one_byte run) ++ more)
+    set_clusters x row.y room style (map one_byte run) ++ shown_glyphs row skip (place + length run) more
+    ≡ shown_glyphs row skip place (map (glyph_in style) (map one_byte run) ++ more)
 unfolding set_clusters shown_glyphs
 shown_run row skip place x room style [] more e begun is le within low =
     ap (λ n. shown_glyphs row skip n more) (let same : place + 0 ≡ place = omega arith in same)
@@ -80,9 +82,11 @@ pub painted_first : (row : Rect) (skip place next : ℕ) (style : Style) (run : 
     ((more : List Glyph) → ShownUpTo row skip place (map (glyph_in style) (map one_byte run) ++ more) next more a b) →
     (more : List Glyph) → ShownUpTo row skip place (map (glyph_in style) all ++ more) next (map (glyph_in style) cs ++ more) a b
 painted_first row skip place next style run cs all a b e p more =
-    subst (λ gs. ShownUpTo row skip place gs next (map (glyph_in style) cs ++ more) a b) (first_glyphs style run cs all more e) (p (map (glyph_in style) cs ++ more))
+    subst (λ gs. ShownUpTo row skip place gs next (map (glyph_in style) cs ++ more) a b) (first_glyphs style run cs all more e)
+    (p (map (glyph_in style) cs ++ more))
 
-run_out : (row : Rect) (x n u v : ℕ) → row.x ≤ x → x + n ≤ right_of row → row.y < bottom_of row → line_part row u v ≡ false → covers (cells_at x row.y n) u v ≡ false
+run_out : (row : Rect) (x n u v : ℕ) → row.x ≤ x → x + n ≤ right_of row → row.y < bottom_of row → line_part row u v ≡ false →
+    covers (cells_at x row.y n) u v ≡ false
 run_out row x n u v first last low out = grind (arith, nat_tests)
 
 -- bytes whose columns lie in a row change nothing outside it
@@ -99,10 +103,12 @@ pub painted_next : (row : Rect) (skip place next : ℕ) (style : Style) (c : Lis
 painted_next row skip place next style c rest cs a b e p more = rw e (p (map (glyph_in style) rest ++ more))
 
 -- one span more of a line
-pub painted_span : (row : Rect) (skip place next : ℕ) (style : Style) (s : SpanData) (ss spans : List SpanData) (a b : Screen) → spans ≡ s ∷ ss → style ≡ patched no_style s.style →
+pub painted_span : (row : Rect) (skip place next : ℕ) (style : Style) (s : SpanData) (ss spans : List SpanData) (a b : Screen) →
+    spans ≡ s ∷ ss → style ≡ patched no_style s.style →
     ((more : List Glyph) → ShownUpTo row skip place (map (glyph_in style) (clusters s.content) ++ more) next more a b) →
     ShownUpTo row skip place (flat_map (span_graphemes no_style) spans) next (flat_map (span_graphemes no_style) ss) a b
 painted_span row skip place next style s ss spans a b e is p =
     let rest = flat_map (span_graphemes no_style) ss in
     subst (λ gs. ShownUpTo row skip place gs next rest a b)
-    (ap (λ t. map (glyph_in t) (clusters s.content) ++ rest) is ∙ sym (ap (flat_map (span_graphemes no_style)) e ∙ flat_map-cons (span_graphemes no_style) s ss)) (p rest)
+    (ap (λ t. map (glyph_in t) (clusters s.content) ++ rest) is
+    ∙ sym (ap (flat_map (span_graphemes no_style)) e ∙ flat_map-cons (span_graphemes no_style) s ss)) (p rest)

@@ -35,7 +35,8 @@ shown_begun row skip place all gs b e = record { done = λ final p. rw e at p }
 
 -- past the row all is painted, whatever is left
 pub shown_whole : (row : Rect) (skip place : ℕ) (all left : List Glyph) (b : Screen) → skip + row.width ≤ place → ShownUpTo row skip place all place left b b
-shown_whole row skip place all left b far = record { done = λ final p. rw (shown_past row skip place all far) (rw (shown_past row skip place left far) at p) }
+shown_whole row skip place all left b far =
+    record { done = λ final p. rw (shown_past row skip place all far) (rw (shown_past row skip place left far) at p) }
 
 -- what is painted, and then more of what was left
 pub shown_then : {row : Rect} {skip place next later : ℕ} {all left rest : List Glyph} {a b c : Screen} →
@@ -43,7 +44,8 @@ pub shown_then : {row : Rect} {skip place next later : ℕ} {all left rest : Lis
 shown_then p q = record { done = λ final r. p.done final (q.done final r) }
 
 pub shown_one : (row : Rect) (skip place next most : ℕ) (g : Glyph) (more : List Glyph) (a b : Screen) →
-    skip + row.width ≤ most → next ≡ min (place + glyph_width g) most → Painted (shown_glyph row skip place g) a b → ShownUpTo row skip place (g ∷ more) next more a b
+    skip + row.width ≤ most → next ≡ min (place + glyph_width g) most → Painted (shown_glyph row skip place g) a b →
+    ShownUpTo row skip place (g ∷ more) next more a b
 unfolding shown_glyphs
 shown_one row skip place next most g more a b wide n p = record {
   done = λ final q.

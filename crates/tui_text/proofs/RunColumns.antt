@@ -1,10 +1,10 @@
 -- The columns of runs of printable bytes: one each.
-use Rattle.std.proofs.Common.{◌≡◌, ℕ, ◌+◌, ◌-◌, ◌^◌, ◌<◌, Bool, true, min, nat_lt, List, [], ◌∷◌, ◌++◌, map, length, sum_by, zero-add, refl, sym, ap, ◌∙◌, arith}
+use Rattle.std.proofs.Common.{◌≡◌, ℕ, false, ◌+◌, ◌-◌, ◌^◌, ◌<◌, Bool, true, min, nat_lt, List, [], ◌∷◌, ◌++◌, map, length, sum_by, zero-add, refl, sym, ap, ◌∙◌, arith}
 use Rattle.std.specs.List.{list_all}
 use Rattle.std.proofs.lemmas.Bool.{and_parts}
 use Rattle.std.proofs.lemmas.Bool.Decides.{nat_tests}
 use Rattle.std.proofs.lemmas.List.Sums.{sum_by-cons}
-use Rattle.tui_text.specs.Grapheme.{columns_of}
+use Rattle.tui_text.specs.Grapheme.{columns_of, width_of}
 use Rattle.tui_text.specs.Graphemes.{one_byte}
 use Rattle.tui_text.specs.Part.{is_printable}
 use Rattle.tui_text.specs.Width.{saturated}
@@ -41,3 +41,8 @@ some_column cjk run cs all e printable some = above (sum_by (columns_of cjk) all
   where
     above : (n : ℕ) → 0 < n → true ≡ nat_lt 0 n
     above n lt = grind (arith, nat_tests)
+
+-- one cluster alone
+pub lone_column : (text : List ℕ) (cs : List (List ℕ)) → cs ≡ text ∷ [] → nat_lt 0 (width_of text) ≡ nat_lt 0 (sum_by (columns_of false) cs)
+unfolding width_of
+lone_column text cs e = rw e (ap (nat_lt 0) (sym (zero-add (columns_of false text))))

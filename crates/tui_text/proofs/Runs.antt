@@ -169,3 +169,7 @@ none_spelt x y style (r ∷ rs) b e = absurd (omega (arith, e))
 pub clusters-none : (text : List ℕ) → length text ≡ 0 → clusters text ≡ []
 clusters-none [] e = clusters-nil
 clusters-none (b ∷ bs) e = absurd (omega (arith, e))
+
+-- a run with no text behind it
+pub run_alone : (run rest : List ℕ) (all : List (List ℕ)) → all ≡ map one_byte run ++ clusters rest → length rest ≡ 0 → all ≡ map one_byte run ++ []
+run_alone run rest all e none = e ∙ ap (λ cs. map one_byte run ++ cs) (clusters-none rest none)

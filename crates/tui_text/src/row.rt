@@ -121,7 +121,8 @@ fn room_from(row: Rect, skip: usize, place: usize) -> usize
 fn paint_bytes(buf: &mut Buffer, row: Rect, skip: usize, place: usize, bytes: &[u8], style: Style)
     requires printable { list_all is_printable bytes.now ≡ true }
     requires inside { 0 < length bytes.now → InRow row skip place (length bytes.now) }
-    ensures shown { (more : List Glyph) → ShownUpTo row skip place (map (glyph_in style) (map one_byte bytes.now) ++ more) (place + length bytes.now) more buf.old buf.new }
+    ensures shown { (more : List Glyph) → ShownUpTo row skip place (map (glyph_in style) (map one_byte bytes.now) ++ more)
+        (place + length bytes.now) more buf.old buf.new }
     ensures kept { KeptOutside (line_part row) buf.old buf.new }
 {
     if bytes.is_empty() {
@@ -180,8 +181,8 @@ fn paint_cluster(
     Ok(place.saturating_add(width as usize))
 }
 
-/// Paints a text from a place on, each grapheme that lies whole inside the row, and answers the place behind them. Past the row
-/// it is any such place.
+/// Paints a text from a place on, each grapheme that lies whole inside the row, and answers the place behind them, or any
+/// place past the row.
 #[inline]
 fn paint_clusters(
     buf: &mut Buffer,
@@ -192,7 +193,8 @@ fn paint_clusters(
     style: Style,
 ) -> Mem<usize>
     requires { skip + row.width < 2 ^ 64 }
-    ensures shown { IfOk result (λ next. (more : List Glyph) → ShownUpTo row skip place (map (glyph_in style) (clusters text.now) ++ more) next more buf.old buf.new) }
+    ensures shown { IfOk result (λ next. (more : List Glyph) →
+        ShownUpTo row skip place (map (glyph_in style) (clusters text.now) ++ more) next more buf.old buf.new) }
     ensures kept { KeptOutside (line_part row) buf.old buf.new }
     ensures light { All IsLight (clusters text.now) → IsOk result }
 {
@@ -216,7 +218,8 @@ fn paint_others(
     style: Style,
 ) -> Mem<usize>
     requires { skip + row.width < 2 ^ 64 }
-    ensures shown { IfOk result (λ next. (more : List Glyph) → ShownUpTo row skip place (map (glyph_in style) (clusters text.now) ++ more) next more buf.old buf.new) }
+    ensures shown { IfOk result (λ next. (more : List Glyph) →
+        ShownUpTo row skip place (map (glyph_in style) (clusters text.now) ++ more) next more buf.old buf.new) }
     ensures kept { KeptOutside (line_part row) buf.old buf.new }
     ensures light { All IsLight (clusters text.now) → IsOk result }
 {
@@ -237,7 +240,8 @@ fn paint_mixed(
     style: Style,
 ) -> Mem<usize>
     requires { skip + row.width < 2 ^ 64 }
-    ensures shown { IfOk result (λ next. (more : List Glyph) → ShownUpTo row skip start (map (glyph_in style) (clusters text.now) ++ more) next more buf.old buf.new) }
+    ensures shown { IfOk result (λ next. (more : List Glyph) →
+        ShownUpTo row skip start (map (glyph_in style) (clusters text.now) ++ more) next more buf.old buf.new) }
     ensures kept { KeptOutside (line_part row) buf.old buf.new }
     ensures light { All IsLight (clusters text.now) → IsOk result }
 {

@@ -1,21 +1,21 @@
-use Rattle.std.proofs.Common.{◌≡◌, ◌∙◌, ◌++◌, [], ap, arith, length, map}
-use Rattle.tui_text.specs.Graphemes.{one_byte}
+use Rattle.std.proofs.Common.{◌≡◌, [], arith, length}
 use Rattle.tui_text.proofs.Elements.{if_ok}
 use Rattle.tui_text.proofs.PaintedRuns.{painted_first}
 use Rattle.tui_text.proofs.RowStrokes.{shown_then}
-use Rattle.tui_text.proofs.Runs.{clusters-none, light_behind}
+use Rattle.tui_text.proofs.Runs.{light_behind, run_alone}
 use Rattle.tui_text.proofs.row.paint_clusters.Goals as goal
 
 pub returns-then-is_empty-clause-shown : goal.returns-then-is_empty-clause-shown
 returns-then-is_empty-clause-shown c =
+    let run = c.split_run.result.0.now in
+    let rest = c.split_run.result.1.now in
     let none : length c.split_run.result.1.now ≡ 0 = grind (arith, c.is_empty.ensures) in
-    painted_first _ _ _ _ c.args.style c.split_run.result.0.now [] _ _ _
-    (c.split_run.ensures.clusters ∙ ap (λ cs. map one_byte c.split_run.result.0.now ++ cs) (clusters-none c.split_run.result.1.now none)) c.paint_bytes.ensures.shown
+    painted_first _ _ _ _ c.args.style run [] _ _ _ (run_alone run rest _ c.split_run.ensures.clusters none) c.paint_bytes.ensures.shown
 
 pub returns-clause-shown : goal.returns-clause-shown
-returns-clause-shown c = if_ok c.paint_others.result
-    (λ next p more. shown_then (painted_first _ _ _ _ c.args.style c.split_run.result.0.now _ _ _ _ c.split_run.ensures.clusters c.paint_bytes.ensures.shown more) (p more))
-    c.paint_others.ensures.shown
+returns-clause-shown c =
+    let run = painted_first _ _ _ _ c.args.style c.split_run.result.0.now _ _ _ _ c.split_run.ensures.clusters c.paint_bytes.ensures.shown in
+    if_ok c.paint_others.result (λ next p more. shown_then (run more) (p more)) c.paint_others.ensures.shown
 
 pub returns-clause-light : goal.returns-clause-light
 returns-clause-light c = λ all. c.paint_others.ensures.light (light_behind c.split_run.result.0.now _ _ c.split_run.ensures.clusters all)

@@ -17,7 +17,8 @@ returns-then-place-end-clause-ok c =
 pub returns-in_err-place-clause-light : goal.returns-in_err-place-clause-light
 returns-in_err-place-clause-light c all =
     let broken =
-    c.in_err-place.ensures.light (seen_at span_data (λ s. All IsLight (clusters s.content)) c.args.spans.now c.loop-span.span-index _ _ (omega arith) refl all) in
+    c.in_err-place.ensures.light
+    (seen_at span_data (λ s. All IsLight (clusters s.content)) c.args.spans.now c.loop-span.span-index _ _ (omega arith) refl all) in
     cc
 
 pub loop-span-preserved : goal.loop-span-preserved

@@ -10,7 +10,8 @@ use Rattle.tui_text.proofs.row.paint_mixed.Given as goal
 -- what is left to paint completes the whole
 abbrev pub invariant-clusters : goal.invariant-clusters
 invariant-clusters l = record {
-  shown : (more : List Glyph) → ShownUpTo l.row l.skip l.start (map (glyph_in l.style) (clusters l.text) ++ more) l.place (map (glyph_in l.style) (clusters_left l.clusters) ++ more) l.fn.buf l.buf;
+  shown : (more : List Glyph) → ShownUpTo l.row l.skip l.start (map (glyph_in l.style) (clusters l.text) ++ more)
+      l.place (map (glyph_in l.style) (clusters_left l.clusters) ++ more) l.fn.buf l.buf;
   light : All IsLight (clusters l.text) → All IsLight (clusters_left l.clusters);
   kept : KeptOutside (line_part l.row) l.fn.buf l.buf;
 }
