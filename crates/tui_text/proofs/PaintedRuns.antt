@@ -1,6 +1,9 @@
 -- Runs of printable bytes in a row.
-use Rattle.std.proofs.Common.{◌≡◌, ℕ, ◌+◌, ◌-◌, ◌<◌, ◌≤◌, true, false, nat_le, List, [], ◌∷◌, ◌++◌, flat_map, map, length, Some, refl, sym, ap, ap₂, subst, ◌∙◌, arith}
+use Rattle.std.proofs.Common.{◌≡◌, ℕ, ◌+◌, ◌-◌, ◌<◌, ◌≤◌, true, false, nat_le, List, [], ◌∷◌, ◌++◌, flat_map, map, length, Option, None, Some, refl, sym, ap, ap₂, subst, ◌∙◌, arith}
+use Rattle.std.specs.Int.Bits.{or_zero_l, xor_self}
 use Rattle.std.specs.List.{list_all}
+use Rattle.std.specs.Option.{option_or}
+use Rattle.std.specs.Prelude.{bit_or, bit_xor}
 use Rattle.std.proofs.lemmas.Bool.{and_parts}
 use Rattle.std.proofs.lemmas.Bool.Decides.{nat_tests}
 use Rattle.std.proofs.lemmas.List.Concat.{flat_map-cons}
@@ -102,13 +105,23 @@ pub painted_next : (row : Rect) (skip place next : ℕ) (style : Style) (c : Lis
     (more : List Glyph) → ShownUpTo row skip place (map (glyph_in style) cs ++ more) next (map (glyph_in style) rest ++ more) a b
 painted_next row skip place next style c rest cs a b e p more = rw e (p (map (glyph_in style) rest ++ more))
 
+-- a style over one that sets nothing is itself
+or_none : {A : Type 0} (o : Option A) → option_or o None ≡ o
+or_none None = refl
+or_none (Some x) = refl
+
+bits_alone : (add sub : ℕ) → bit_or (bit_xor (bit_or 0 sub) sub) add ≡ add
+bits_alone add sub = rw (or_zero_l sub, xor_self sub, or_zero_l add) refl
+
+unpatched : (s : Style) → patched no_style s ≡ s
+unpatched s = rw (or_none s.fg, or_none s.bg, bits_alone s.add_modifier.bits s.sub_modifier.bits, bits_alone s.sub_modifier.bits s.add_modifier.bits) refl
+
 -- one span more of a line
-pub painted_span : (row : Rect) (skip place next : ℕ) (style : Style) (s : SpanData) (ss spans : List SpanData) (a b : Screen) →
-    spans ≡ s ∷ ss → style ≡ patched no_style s.style →
-    ((more : List Glyph) → ShownUpTo row skip place (map (glyph_in style) (clusters s.content) ++ more) next more a b) →
+pub painted_span : (row : Rect) (skip place next : ℕ) (s : SpanData) (ss spans : List SpanData) (a b : Screen) → spans ≡ s ∷ ss →
+    ((more : List Glyph) → ShownUpTo row skip place (map (glyph_in s.style) (clusters s.content) ++ more) next more a b) →
     ShownUpTo row skip place (flat_map (span_graphemes no_style) spans) next (flat_map (span_graphemes no_style) ss) a b
-painted_span row skip place next style s ss spans a b e is p =
+painted_span row skip place next s ss spans a b e p =
     let rest = flat_map (span_graphemes no_style) ss in
     subst (λ gs. ShownUpTo row skip place gs next rest a b)
-    (ap (λ t. map (glyph_in t) (clusters s.content) ++ rest) is
+    (ap (λ t. map (glyph_in t) (clusters s.content) ++ rest) (sym (unpatched s.style))
     ∙ sym (ap (flat_map (span_graphemes no_style)) e ∙ flat_map-cons (span_graphemes no_style) s ss)) (p rest)

@@ -279,14 +279,7 @@ pub(crate) fn paint_glyphs(
         if place >= end {
             return Ok(());
         }
-        place = paint_clusters(
-            buf,
-            row,
-            skip,
-            place,
-            span.content,
-            Style::new().patch(span.style),
-        )?;
+        place = paint_clusters(buf, row, skip, place, span.content, span.style)?;
     }
     Ok(())
 }

@@ -24,8 +24,7 @@ returns-in_err-place-clause-light c all =
 pub loop-span-preserved : goal.loop-span-preserved
 loop-span-preserved c = record {
   shown = shown_then c.loop-span.invariant.shown
-      (painted_span _ _ _ _ _ _ _ _ _ _ (seen_from span_data c.args.spans.now c.loop-span.span-index _ _ (omega arith) refl)
-      (rw c.new.ensures at c.patch.ensures) c.in_ok-place.ensures.shown);
+      (painted_span _ _ _ _ _ _ _ _ _ (seen_from span_data c.args.spans.now c.loop-span.span-index _ _ (omega arith) refl) c.in_ok-place.ensures.shown);
   kept = KeptOutside-then c.loop-span.invariant.kept c.in_ok-place.ensures.kept;
 }
 
