@@ -3,7 +3,8 @@
 ghost use Rattle.std.proofs.Common.{rules};
 ghost use Rattle.std.specs.Prelude.{◌≡◌, true};
 ghost use Rattle.tui.specs.Order.{PaddingIsOrdered};
-ghost use Rattle.tui.specs.Same.{same_attributes, same_bar, same_style};
+ghost use Rattle.tui.specs.Same.{same_bar};
+ghost use Rattle.tui_cells.specs.Same.{same_attributes, same_style};
 
 use crate::buffer::{Attributes, NoMemory};
 use crate::layout::{

@@ -17,3 +17,4 @@ pub mod Stays
 pub mod Drawing
 pub mod Symbols
 pub mod Names
+pub mod Same
