@@ -22,6 +22,9 @@ mod TextCut
 mod ShowingRuns
 pub mod ShowingLines
 mod Painted
+mod ByteRuns
+mod ByteMarks
+mod SameStyles
 mod LinesExist
 mod LinesAgree
 mod Sources

@@ -1,16 +1,16 @@
 -- Strokes of graphemes side by side, and of lines one below the other.
-use Rattle.std.proofs.Common.{Option, Some, None, option_map, ◌≡◌, ℕ, ◌+◌, ◌≤◌, ◌<◌, min, List, [], ◌∷◌, Bool, true, false, if◌then◌else◌, refl, ◌∙◌, ap, sym, subst, arith, drop, map, length, get_or, drop-cons, add-one}
+use Rattle.std.proofs.Common.{Option, Some, None, option_map, ◌≡◌, ℕ, ◌+◌, ◌≤◌, ◌<◌, min, List, [], ◌∷◌, ◌++◌, Bool, true, false, if◌then◌else◌, refl, ◌∙◌, ap, sym, subst, arith, drop, map, length, get_or, drop-cons, add-one}
 use Rattle.std.proofs.lemmas.List.{drop_all, drop-drop, drop-map, length-drop}
 use Rattle.std.proofs.lemmas.Bool.Decides.{nat_tests}
 use Rattle.tui_cells.specs.declared.rect.Rect.{Rect}
 use Rattle.tui_cells.specs.Rect.{covers, right_of, bottom_of}
 use Rattle.tui_cells.specs.Buffer.{Screen, cell_at}
-use Rattle.tui_cells.specs.Cell.{Look, Edit, edited}
-use Rattle.tui_cells.specs.Layers.{Layer, Painted, KeptOutside, stroke}
-use Rattle.tui_cells.proofs.Painting.{Painted-then, Painted-none}
+use Rattle.tui_cells.specs.Cell.{Look, Edit, dress, edited, put}
+use Rattle.tui_cells.specs.Layers.{Layer, Painted, KeptOutside, at_place, stroke}
+use Rattle.tui_cells.proofs.Painting.{Painted-then, Painted-none, Painted-region}
 use Rattle.tui_text.specs.Grapheme.{Glyph, glyph_of, glyph_width}
 use Rattle.tui_text.specs.declared.grapheme.StyledGrapheme.{StyledGrapheme}
-use Rattle.std.specs.Prelude.{sum_by}
+use Rattle.std.specs.Prelude.{nat_lt, sum_by}
 use Rattle.tui_text.specs.declared.alignment.Alignment.{Alignment}
 use Rattle.tui_para.specs.Lines.{GlyphLine, glyph_line}
 use Rattle.tui_para.specs.Strokes.{glyph_layers, run_layers, start_of, glyph_line_layers, glyph_lines_layers}
@@ -63,6 +63,20 @@ stroke_kept R S e a b inside p = record { area = p.area; cells = λ x y out. p.c
     same_cell : (r : Bool) (e : Edit) (o : Option Look) → r ≡ false → option_map (λ c. if r then edited e c else c) o ≡ o
     same_cell r e None f = refl
     same_cell r e (Some c) f = rw f refl
+
+-- a grapheme with a width is put in its cell
+pub glyph_put : (clip : Rect) (x y : ℕ) (g : Glyph) (a b c : Screen) → covers clip x y ≡ true → 0 < glyph_width g →
+    Painted (stroke (at_place x y) (put g.text)) a b → Painted (stroke (covers (record { x = x; y = y; width = 1; height = 1 })) (dress g.style)) b c →
+    Painted (glyph_layers clip x y g) a c
+glyph_put clip x y g a b c inside some p q =
+    let wide : nat_lt 0 (glyph_width g) ≡ true = grind (arith, nat_tests) in
+    let cell : Rect = record { x = x; y = y; width = 1; height = 1 } in
+    let shown : glyph_layers clip x y g ≡ stroke (at_place x y) (put g.text) ++ stroke (at_place x y) (dress g.style) = rw (wide, inside) refl in
+    subst (λ (ls : List Layer). Painted ls a c) (sym shown)
+    (Painted-then p (Painted-region (covers cell) (at_place x y) (dress g.style ∷ []) b c q (λ u v. same u v)))
+  where
+    same : (u v : ℕ) → covers (record { x = x; y = y; width = 1; height = 1 }) u v ≡ at_place x y u v
+    same u v = grind (arith, nat_tests)
 
 pub cell_outside : (clip : Rect) (x y a b : ℕ) → covers clip x y ≡ true → covers clip a b ≡ false → covers (record { x = x; y = y; width = 1; height = 1 }) a b ≡ false
 cell_outside clip x y a b inside out = grind (arith, nat_tests)

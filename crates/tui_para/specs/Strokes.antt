@@ -1,6 +1,7 @@
 -- The strokes of lines.
 use Rattle.std.specs.Prelude.{ℕ, ◌+◌, ◌-◌, ◌/◌, List, [], ◌∷◌, ◌++◌, ◌&&◌, nat_lt, if◌then◌else◌, sum_by}
 use Rattle.tui_cells.specs.declared.rect.Rect.{Rect}
+use Rattle.tui_cells.specs.declared.style.Style.{Style}
 use Rattle.tui_cells.specs.Rect.{covers}
 use Rattle.tui_cells.specs.Cell.{put, dress}
 use Rattle.tui_cells.specs.Layers.{Layer, stroke, at_place}
@@ -15,6 +16,10 @@ glyph_layers clip x y g =
     if nat_lt 0 (glyph_width g) && covers clip x y
     then stroke (at_place x y) (put g.text) ++ stroke (at_place x y) (dress g.style)
     else []
+
+-- a grapheme of one byte
+abbrev pub byte_glyph : Style → ℕ → Glyph
+byte_glyph style b = record { text = b ∷ []; style = style }
 
 -- graphemes side by side
 unfoldable pub run_layers : Rect → ℕ → ℕ → List Glyph → List Layer

@@ -1,4 +1,5 @@
 //! Painting of lines.
 
+mod bytes;
 mod line;
 pub(crate) mod rows;

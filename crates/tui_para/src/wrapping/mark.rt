@@ -1,9 +1,10 @@
 //! What wrapping sees of a grapheme.
 
-ghost use Rattle.std.specs.Prelude.{◌≡◌, false};
+ghost use Rattle.std.specs.Prelude.{◌≡◌, IfSome, false};
 ghost use Rattle.tui_text.specs.Grapheme.{glyph_of};
 ghost use Rattle.tui_para.specs.Mark.{ends_before, mark_of};
 
+use crate::printable::printable_byte;
 use tui_text::{StyledGrapheme, cell_width};
 
 /// The width of a grapheme, and whether it is a blank.
@@ -27,6 +28,19 @@ impl Mark {
             blank: grapheme.is_whitespace(),
             cut: false,
         }
+    }
+
+    /// The same of a grapheme that is one printable byte.
+    #[inline(always)]
+    pub(crate) fn of_printable(grapheme: &StyledGrapheme<'_>) -> Option<Mark>
+        ensures { IfSome result (λ mark. mark ≡ mark_of (glyph_of grapheme.now, false)) }
+    {
+        let byte = printable_byte(grapheme.symbol)?;
+        Some(Mark {
+            width: 1,
+            blank: byte == b' ',
+            cut: false,
+        })
     }
 
     /// Whether a piece of a word ends before it, if one stands there.

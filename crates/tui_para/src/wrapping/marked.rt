@@ -90,8 +90,21 @@ impl<'a> Marked<'a> {
         }
     }
 
-    /// Puts a grapheme behind those that are there, unless it is wider than a line.
+    /// Puts a grapheme behind those that are there, unless it is wider than a line. Of a printable byte nothing is looked up.
+    #[inline(always)]
     fn put(&mut self, grapheme: StyledGrapheme<'a>, width: u16) -> Mem<()>
+        ensures ok { OnOk result (HasPut width (grapheme.entry ∷ []) self.old self.new) }
+        ensures err { OnErr result (HasPut width [] self.old self.new) }
+    {
+        match Mark::of_printable(&grapheme) {
+            Some(mark) if mark.width <= width => self.push(grapheme, mark),
+            _ => self.put_other(grapheme, width),
+        }
+    }
+
+    /// The same of any grapheme.
+    #[inline(always)]
+    fn put_other(&mut self, grapheme: StyledGrapheme<'a>, width: u16) -> Mem<()>
         ensures ok { OnOk result (HasPut width (grapheme.entry ∷ []) self.old self.new) }
         ensures err { OnErr result (HasPut width [] self.old self.new) }
     {
@@ -193,6 +206,9 @@ fn drop_front<T: Copy>(items: &mut Vec<T>, count: usize)
     requires { count ≤ vec_len items.old }
     ensures { items.new.items ≡ drop count items.old.items }
 {
+    if count == 0 {
+        return;
+    }
     let len = items.len();
     items.as_mut_slice().copy_within(count..len, 0);
     items.truncate(len - count);

@@ -18,8 +18,8 @@ use tui_text::StyledGrapheme;
 /// How many graphemes are read at once at least.
 const FIRST: usize = 16;
 
-/// The same where many were read before.
-const CHUNK: usize = 256;
+/// The same where many were read before, if a line has no more columns than half of these.
+const CHUNK: usize = 512;
 
 /// A text line that is wrapped and lent in parts. It is read as far as the parts need.
 #[derive(Drop)]
@@ -200,9 +200,10 @@ impl<'a, I: Iterator<Item = StyledGrapheme<'a>>> TextLine<'a, I> {
         };
         self.line.drop_front(self.place);
         self.place = 0;
-        let wanted = self.line.len().max(usize::from(self.width));
+        let width = usize::from(self.width);
+        let wanted = self.line.len().max(width);
         let count = wanted.max(self.chunk).max(FIRST);
-        self.chunk = count.saturating_mul(2).min(CHUNK);
+        self.chunk = count.saturating_mul(2).min(CHUNK.max(2 * width));
         self.source = self.line.read(source, count, self.width)?;
         Ok(())
     }

@@ -8,5 +8,5 @@ pub returns-clause-ok : goal.returns-clause-ok
 returns-clause-ok c =
     let line = c.args.line.now in
     subst (λ (ls : List Layer). OnOk c.paint_run.result (Painted ls c.args.buf.now c.paint_run.new.buf))
-    (glyph_line_is c.args.rect c.saturating_add-x.result c.args.y c.start_of-start.result line.width line.alignment (map glyph_of line.graphemes.now) c.saturating_add-x.ensures c.start_of-start.ensures c.requires)
+    (glyph_line_is c.args.rect c.saturating_add-x.result c.args.y c.start_of-start.result line.width line.alignment (map glyph_of line.graphemes.now) c.saturating_add-x.ensures c.start_of-start.ensures c.requires.width)
     c.paint_run.ensures.ok

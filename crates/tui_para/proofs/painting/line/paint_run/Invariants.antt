@@ -1,4 +1,4 @@
-use Rattle.std.proofs.Common.{drop, map}
+use Rattle.std.proofs.Common.{◌-◌, ◌≤◌, drop, length, map}
 use Rattle.tui_cells.specs.Rect.{covers}
 use Rattle.tui_cells.specs.Buffer.{Screen}
 use Rattle.tui_cells.specs.Layers.{Painted, KeptOutside}
@@ -7,9 +7,14 @@ use Rattle.tui_para.specs.Strokes.{run_layers}
 use Rattle.tui_para.proofs.painting.line.paint_run.Given as goal
 
 -- what is left to paint completes the whole
-abbrev pub invariant-loop-grapheme : goal.invariant-loop-grapheme
-invariant-loop-grapheme l = record {
-  rest : (final : Screen) → Painted (run_layers l.clip l.x l.at.y (drop l.grapheme-index (map glyph_of l.run))) l.buf final
+abbrev pub invariant-loop-place : goal.invariant-loop-place
+invariant-loop-place l = record {
+  rest : (final : Screen) → Painted (run_layers l.clip l.x l.at.y (drop l.place (map glyph_of l.run))) l.buf final
       → Painted (run_layers l.clip l.at.x l.at.y (map glyph_of l.run)) l.fn.buf final;
   kept : KeptOutside (covers l.clip) l.fn.buf l.buf;
+  within : l.place ≤ length l.run;
+  column : l.clip.x ≤ l.x;
 }
+
+abbrev pub decreases-loop-place : goal.decreases-loop-place
+decreases-loop-place l = length l.run - l.place
