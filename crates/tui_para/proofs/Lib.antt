@@ -24,7 +24,6 @@ pub mod ShowingLines
 mod Painted
 mod ByteRuns
 mod ByteMarks
-mod SameStyles
 mod LinesExist
 mod LinesAgree
 mod Sources

@@ -9,7 +9,6 @@ mod laws;
 pub mod logo;
 mod painting;
 pub mod paragraph;
-mod printable;
 pub mod size;
 pub mod text_lines;
 pub mod truncator;

@@ -16,6 +16,7 @@ use Rattle.ucd_breaks.proofs.Computing.{ucd_breaks}
 use Rattle.ucd_breaks.proofs.GraphemeClusterBreakLemmas.{grapheme_cluster_break_stepped}
 use Rattle.unicode_segmentation.specs.Grapheme.{break_by_pair, is_grapheme_break, graphemes}
 use Rattle.unicode_segmentation.specs.Segments.{prepend, cut, segments}
+use Rattle.tui_text.proofs.Seams.{cut_some, picked-append}
 use Rattle.tui_places.proofs.Boundaries.{cut-fresh}
 use Rattle.tui_places.proofs.NewLines.{EndsInReturn}
 
@@ -23,20 +24,6 @@ use Rattle.tui_places.proofs.NewLines.{EndsInReturn}
 abbrev onto : List ℕ → List ℕ → List ℕ
 onto [] before = before
 onto (c ∷ cs) before = onto cs (c ∷ before)
-
-cut_some : (before : List ℕ) (x : ℕ) (xs : List ℕ) → cut (is_grapheme_break true) before (x ∷ xs) [] ≢ []
-unfolding cut
-cut_some before x xs = picked (is_grapheme_break true (x ∷ before) (xs ++ [])) (cut (is_grapheme_break true) (x ∷ before) xs [])
-  where
-    picked : (b : Bool) (rest : List (List ℕ)) → (if b then (x ∷ []) ∷ rest else prepend (x ∷ []) rest) ≢ []
-    picked true rest = λ e. cc
-    picked false [] = λ e. cc
-    picked false (r ∷ rest) = λ e. cc
-
-picked-append : (b : Bool) (part : List ℕ) (ps qs : List (List ℕ)) → ps ≢ [] → (if b then part ∷ (ps ++ qs) else prepend part (ps ++ qs)) ≡ (if b then part ∷ ps else prepend part ps) ++ qs
-picked-append true part ps qs some = refl
-picked-append false part [] qs some = absurd (some refl)
-picked-append false part (p ∷ ps) qs some = refl
 
 last_one : (x : ℕ) (before : List ℕ) → (x ∷ []) ∷ [] ≡ (if is_grapheme_break true (x ∷ before) [] then (x ∷ []) ∷ [] else prepend (x ∷ []) [])
 unfolding is_grapheme_break

@@ -9,9 +9,8 @@ ghost use Rattle.tui_text.specs.Grapheme.{glyph_of};
 ghost use Rattle.tui_text.specs.Part.{is_printable};
 ghost use Rattle.tui_para.specs.Strokes.{byte_glyph, run_layers};
 
-use crate::printable::printable_byte;
 use tui_cells::{Buffer, Position, Rect, Style};
-use tui_text::StyledGrapheme;
+use tui_text::{StyledGrapheme, printable_byte};
 
 /// How many bytes are set in one stroke at most.
 const ROOM: usize = 64;

@@ -4,8 +4,7 @@ ghost use Rattle.std.specs.Prelude.{◌≡◌, IfSome, false};
 ghost use Rattle.tui_text.specs.Grapheme.{glyph_of};
 ghost use Rattle.tui_para.specs.Mark.{ends_before, mark_of};
 
-use crate::printable::printable_byte;
-use tui_text::{StyledGrapheme, cell_width};
+use tui_text::{StyledGrapheme, cell_width, printable_byte};
 
 /// The width of a grapheme, and whether it is a blank.
 #[derive(Clone, Copy, Debug, PartialEq, Eq)]

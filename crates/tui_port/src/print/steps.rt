@@ -1,6 +1,6 @@
 //! The columns of symbols.
 
-ghost use Rattle.std.specs.Prelude.{◌≡◌, [], ◌∷◌, IfSome};
+ghost use Rattle.std.specs.Prelude.{◌≡◌, [], ◌∷◌, IfSome, IsTrue};
 ghost use Rattle.tui_text.specs.Visible.{step_of};
 
 use tui_text::symbol_columns;
@@ -25,13 +25,24 @@ impl<'a> Steps<'a> {
     pub(crate) fn step(&mut self, symbol: &'a str) -> usize
         ensures { result ≡ step_of symbol.now }
     {
-        if symbol != self.symbol {
+        if !is_same(symbol, self.symbol) {
             *self = Steps {
                 symbol,
                 step: symbol_columns(symbol),
             };
         }
         self.step
+    }
+}
+
+/// Whether two symbols are the same. Three bytes, which lines and blocks have, need no call.
+#[inline]
+fn is_same(one: &str, other: &str) -> bool
+    ensures { IsTrue result → one.now ≡ other.now }
+{
+    match (one.as_bytes(), other.as_bytes()) {
+        ([a, b, c], [d, e, f]) => *a == *d && *b == *e && *c == *f,
+        _ => one == other,
     }
 }
 

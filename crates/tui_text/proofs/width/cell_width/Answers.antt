@@ -6,4 +6,4 @@ use Rattle.tui_text.proofs.width.cell_width.Goals as goal
 
 pub returns-in-Some : goal.returns-in-Some
 unfolding width_of
-returns-in-Some c = let one = c.in-Some.ensures in sym (printable_width false c.args.text.now c.in-Some._byte one.0 one.1 one.2)
+returns-in-Some c = let one = c.in-Some.ensures.some in sym (printable_width false c.args.text.now c.in-Some._byte one.0 one.1 one.2)
