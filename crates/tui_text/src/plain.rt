@@ -69,20 +69,16 @@ fn plain_len(byte: u8) -> usize
     }
 }
 
-/// The length of the plain character at a text's start, where first bytes alone tell it and one behind it, if there is one. Else 0.
+/// Whether a text begins with a printable character of one byte and then ends, or goes on with another one.
 #[inline(always)]
-pub(crate) fn quick_len(text: &str) -> usize
+pub(crate) fn is_printable_first(text: &str) -> bool
     requires { 0 < length text.now }
-    ensures { 0 < result → IsPlainFirst text.now result }
+    ensures { IsTrue result → IsPlainFirst text.now 1 }
 {
-    if begins_printable(text.as_bytes()) {
-        1
-    } else {
-        told_len(text)
-    }
+    begins_printable(text.as_bytes())
 }
 
-/// Whether bytes begin with a printable character of one byte and then end, or go on with another one.
+/// The same of bytes.
 #[inline(always)]
 fn begins_printable(bytes: &[u8]) -> bool
     requires { 0 < length bytes.now }
@@ -92,9 +88,10 @@ fn begins_printable(bytes: &[u8]) -> bool
     is_printable(bytes[0]) && (bytes.len() == 1 || is_printable(bytes[1]))
 }
 
-/// The same length by the bytes of any plain character. Never inlined, so that printable bytes cost no call.
+/// The length of the plain character at a text's start, where first bytes alone tell it and one behind it, if there is one. Else 0.
+/// Never inlined, so that printable bytes, which are told before, cost no call.
 #[inline(never)]
-fn told_len(text: &str) -> usize
+pub(crate) fn told_len(text: &str) -> usize
     requires { 0 < length text.now }
     ensures { 0 < result → IsPlainFirst text.now result }
 {
