@@ -11,7 +11,7 @@ use tui_layout::{
 };
 
 fn sums_of(alloc: Global, heights: &[u64]) -> Mem<Sums> {
-    let mut sums = Sums::new(alloc);
+    let mut sums = Sums::with_capacity(alloc, heights.len())?;
     for height in heights {
         sums.push(*height)?;
     }

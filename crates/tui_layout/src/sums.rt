@@ -1,6 +1,6 @@
 //! Heights, whose sums `window` alone tells.
 
-ghost use Rattle.std.specs.Prelude.{◌≡◌, ◌+◌, ◌≤◌, ◌++◌, [], ◌∷◌, length, sum, take, OnOk, OnErr};
+ghost use Rattle.std.specs.Prelude.{◌≡◌, ◌+◌, ◌≤◌, ◌++◌, [], ◌∷◌, length, sum, take, IfOk, OnOk, OnErr};
 ghost use Rattle.tui_layout.specs.Sums.{total};
 
 use crate::steps::Steps;
@@ -34,6 +34,15 @@ impl Sums {
         Sums {
             sums: Vec::new(alloc),
         }
+    }
+
+    /// No heights, and room for so many of them. `NoMemory` where there is none for these.
+    pub fn with_capacity(alloc: Global, capacity: usize) -> Mem<Sums>
+        ensures { IfOk result (λ sums. sums ≡ []) }
+    {
+        Ok(Sums {
+            sums: Vec::with_capacity(alloc, capacity)?,
+        })
     }
 
     /// Adds a height at the end. Where memory is wanted nothing has changed.

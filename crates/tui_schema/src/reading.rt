@@ -27,7 +27,7 @@ pub struct Reading<'v> {
 fn read_items<'v>(alloc: Global, values: &'v [Value]) -> Result<Scene<'v>, SceneError>
     ensures { Gives (λ scene. scene) result (items_of 0 (items_view values.now)) }
 {
-    let mut scene = Scene::new(alloc);
+    let mut scene = Scene::with_capacity(alloc, values.len())?;
     for (i, value) in values.iter().enumerate() {
         scene.push(read_placed(alloc, i, value)?)?;
     }

@@ -101,7 +101,7 @@ impl<'a> Rows<'a> {
 fn heights_of(rows: &Vec<Row<'_>>) -> Mem<Sums>
     ensures { IfOk result (λ heights. heights ≡ heights_of (map row_data rows.now.items)) }
 {
-    let mut heights = Sums::new(*rows.allocator());
+    let mut heights = Sums::with_capacity(*rows.allocator(), rows.len())?;
     for row in rows {
         heights.push(u64::from(row.outer_height()))?;
     }

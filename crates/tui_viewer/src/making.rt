@@ -31,7 +31,7 @@ pub(crate) fn title_items<'a>(alloc: Global, entries: &[Entry<'a>]) -> Mem<Vec<L
 pub(crate) fn heights(alloc: Global, items: &[ListItem<'_>]) -> Mem<Sums>
     ensures { IfOk result (λ heights. heights ≡ heights_of (map list_item_data items.now)) }
 {
-    let mut heights = Sums::new(alloc);
+    let mut heights = Sums::with_capacity(alloc, items.len())?;
     'heights: for i in 0..items.len() {
         heights.push(items[i].height() as u64)?;
     }

@@ -34,7 +34,7 @@ impl<'a> Items<'a> {
     pub(crate) fn new(alloc: Global, items: Vec<ListItem<'a>>) -> Mem<Items<'a>>
         ensures { IfOk result (λ made. made.items.items ≡ items.entry.items) }
     {
-        let mut heights = Sums::new(alloc);
+        let mut heights = Sums::with_capacity(alloc, items.len())?;
         for item in &items {
             heights.push(item.height() as u64)?;
         }

@@ -125,6 +125,16 @@ impl<'a> Marked<'a> {
         drop_front(&mut self.marks, count);
     }
 
+    /// Takes room for so many more at once. At NoMemory the graphemes are as before.
+    fn reserve(&mut self, count: usize) -> Mem<()>
+        ensures cuts { cuts_of self.new ≡ cuts_of self.old }
+        ensures same { self.new.hyphenation ≡ self.old.hyphenation }
+    {
+        self.graphemes.reserve(count)?;
+        self.marks.reserve(count)?;
+        Ok(())
+    }
+
     /// Reads `count` graphemes more, and keeps those that aren't wider than a line. Answers what gives the others, or
     /// None where no more came.
     pub(crate) fn read<I: Iterator<Item = StyledGrapheme<'a>>>(
@@ -140,6 +150,7 @@ impl<'a> Marked<'a> {
         ensures ready { IfOk result (λ left. IfSome left (λ i. Ready I.Iterator i × (size (I.remaining i) + count ≤ size (I.remaining source)))) }
     {
         let start = self.len();
+        self.reserve(count)?;
         let left = self.put_all(source, count, width)?;
         self.cut_from(start);
         Ok(left)

@@ -9,7 +9,7 @@ use Rattle.tui_schema.proofs.reading.read_items.Goals as goal
 
 pub returns-in_err-read_placed : goal.returns-in_err-read_placed
 returns-in_err-read_placed c =
-    let p = err_from_is_err_and c.from_residual.result c.from_residual.ensures.1 in
+    let p = err_from_is_err_and c.from_residual-in_err-read_placed.result c.from_residual-in_err-read_placed.ensures.1 in
     rw (p.1, p.2) (numbered_err placed_of (refused c.in_err-read_placed.field-0.0) c.loop-i.scene c.loop-i.i c.args.values.now c.index-values-i.result
     (items_of 0 (items_view c.args.values.now)) c.loop-i-test.true c.index-values-i.is c.in_err-read_placed.ensures c.loop-i.invariant)
 
