@@ -3,7 +3,7 @@
 use crate::names::{are_named, is_no_name};
 use std::alloc::Global;
 use tui_cells::{Color, Mem, Style};
-use tui_text::{Alignment, Line, Span, StyledGrapheme, Text, cell_width};
+use tui_text::{Alignment, Line, Span, StyledGrapheme, Text, cell_width, printable_byte};
 
 /// Texts and their graphemes, with a bar between two: samples of UAX #29, table 1a and its test
 /// file, where clusters with a control character are left out.
@@ -78,6 +78,7 @@ fn widths_are_columns(rt: HostRuntime) {
         assert!(&rt; Span::raw(text).width_cjk() == width_cjk);
     }
     assert!(&rt; Span::raw("a\tb\u{4e00}\r\n").width() == 4);
+    assert!(&rt; printable_byte("~") == Some(b'~') && printable_byte("\u{a1}").is_none());
 }
 
 /// Graphemes, and whether they are white space.
