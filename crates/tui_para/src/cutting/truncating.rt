@@ -8,6 +8,7 @@ ghost use Rattle.tui_para.specs.Cut.{shown_of};
 ghost use Rattle.tui_para.specs.Given.{Ready};
 
 use crate::cutting::cut::Cut;
+use crate::ends::read_line;
 use tui_cells::Mem;
 use tui_text::StyledGrapheme;
 
@@ -25,10 +26,16 @@ pub(crate) fn refill<'a, I: Iterator<Item = StyledGrapheme<'a>>>(
 {
     shown.clear();
     let mut cut = start;
-    'graphemes: for grapheme in line {
+    let mut rest = line;
+    'graphemes: while !cut.full {
+        let Some(grapheme) = rest.next() else {
+            return Ok(start.room - cut.room);
+        };
         if cut.shows(&grapheme) {
             shown.push(grapheme)?;
         }
     }
+    // In a loop of its own, which copies no style.
+    read_line(rest);
     Ok(start.room - cut.room)
 }
