@@ -59,37 +59,18 @@ three_more row piece text (a ∷ b ∷ c ∷ []) rest at next len room is before
     let end : at + 2 + 1 ≡ next = omega arith in
     rw end at (plain_more (c ∷ rest) (slice_set (slice_set piece at a) (at + 1) b) text (at + 2) c rest third (rw there at two) refl)
 
--- a text of three bytes
-pub three_bytes : (s t : List ℕ) → length s ≡ 3 → length t ≡ 3 → slice_index_or s 0 0 ≡ slice_index_or t 0 0 → slice_index_or s 1 0 ≡ slice_index_or t 1 0 →
-    slice_index_or s 2 0 ≡ slice_index_or t 2 0 → s ≡ t
-three_bytes (a ∷ b ∷ c ∷ []) (x ∷ y ∷ z ∷ []) m n e f g = λ i. e i ∷ f i ∷ g i ∷ []
-three_bytes [] t m n e f g = absurd (omega (arith, m))
-three_bytes (a ∷ []) t m n e f g = absurd (omega (arith, m))
-three_bytes (a ∷ b ∷ []) t m n e f g = absurd (omega (arith, m))
-three_bytes (a ∷ b ∷ c ∷ d ∷ s) t m n e f g = absurd (omega (arith, m))
-three_bytes (a ∷ b ∷ c ∷ []) [] m n e f g = absurd (omega (arith, n))
-three_bytes (a ∷ b ∷ c ∷ []) (x ∷ []) m n e f g = absurd (omega (arith, n))
-three_bytes (a ∷ b ∷ c ∷ []) (x ∷ y ∷ []) m n e f g = absurd (omega (arith, n))
-three_bytes (a ∷ b ∷ c ∷ []) (x ∷ y ∷ z ∷ w ∷ t) m n e f g = absurd (omega (arith, n))
-
 pub row_end : (row : List Look) (i : ℕ) → length row ≤ i → symbols_from row i ≡ []
 row_end row i le = ap symbols_of (none_visible row i i le)
 
 range : (b : ℕ) → 32 ≤ b → b ≤ 126 → list_all (is_in_range 0x20 0x7E) (b ∷ []) ≡ true
 range b low high = grind (arith, nat_tests)
 
-one_byte : (b : ℕ) → 32 ≤ b → b ≤ 126 → step_of (b ∷ []) ≡ 1
+-- a printable byte takes one column
+pub one_byte : (b : ℕ) → 32 ≤ b → b ≤ 126 → step_of (b ∷ []) ≡ 1
 unfolding step_of width_of columns_of
 one_byte b low high =
     let as_is : chars (b ∷ []) ≡ b ∷ [] = chars-IsAscii (b ∷ []) (search (rules, arith)) in
     rw (as_is, str_width-printable false (b ∷ []) (range b low high)) refl
-
--- a printable byte takes one column
-pub plain_text : (s bytes : List ℕ) → bytes ≡ s → 1 ≤ length bytes → length bytes < 2 → 32 ≤ slice_index_or bytes 0 0 → slice_index_or bytes 0 0 ≤ 126 →
-    (s ≡ slice_index_or bytes 0 0 ∷ []) × (step_of s ≡ 1)
-plain_text s [] e some one low high = absurd (omega (arith, some))
-plain_text s (b ∷ []) e some one low high = (sym e, rw (← e) (one_byte b low high))
-plain_text s (b ∷ c ∷ bs) e some one low high = absurd (omega (arith, one))
 
 -- the lines of some rows, and of one row more
 pub rows_more : {A : Type 0} (line : List A → List ℕ) (rows : List (List A)) (i : ℕ) (d : List A) → i < length rows →

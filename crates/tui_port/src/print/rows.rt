@@ -1,14 +1,15 @@
 //! The rows of the print.
 
-ghost use Rattle.std.specs.Prelude.{◌≡◌, ◌+◌, ◌++◌, ◌*◌, ◌<◌, ◌≤◌, ℕ, List, IsTrue, flat_map, length, take};
+ghost use Rattle.std.specs.Prelude.{◌≡◌, ◌+◌, ◌++◌, ◌*◌, ◌<◌, ◌≤◌, ℕ, List, flat_map, length, take};
 ghost use Rattle.tui_port.specs.Gathers.{Gathers};
 ghost use Rattle.tui_port.specs.Print.{row_line, symbols_from};
 ghost use Rattle.tui_text.specs.Visible.{step_of};
 
 use crate::print::Print;
-use crate::print::steps::{Steps, plain_byte};
+use crate::print::steps::{Steps, is_text};
 use crate::sink::Sink;
 use tui_cells::{Buffer, Cell};
+use tui_text::printable_byte;
 
 /// Adds a line for each row.
 pub(crate) fn put_rows<K: Sink>(print: &mut Print, buf: &Buffer, sink: &mut K)
@@ -138,17 +139,6 @@ fn copy_same(row: &[Cell], from: usize, symbol: [u8; 3], piece: &mut [u8; PIECE]
     count
 }
 
-// Byte by byte, since a comparison of texts is a call.
-#[inline]
-fn is_text(symbol: &str, bytes: [u8; 3]) -> bool
-    ensures { IsTrue result → symbol.now ≡ bytes }
-{
-    match symbol.as_bytes() {
-        [a, b, c] if *a == bytes[0] && *b == bytes[1] && *c == bytes[2] => true,
-        _ => false,
-    }
-}
-
 // Copies the symbols from a column on as long as each is one printable byte, and answers how many there are.
 fn copy_plain(row: &[Cell], from: usize, piece: &mut [u8; PIECE]) -> usize
     requires { from ≤ length row.now }
@@ -157,7 +147,7 @@ fn copy_plain(row: &[Cell], from: usize, piece: &mut [u8; PIECE]) -> usize
 {
     let mut count = 0;
     while count < PIECE && count < row.len() - from {
-        match plain_byte(row[from + count].symbol()) {
+        match printable_byte(row[from + count].symbol()) {
             Some(byte) => {
                 piece[count] = byte;
                 count += 1;

@@ -1,6 +1,6 @@
 //! The columns of symbols.
 
-ghost use Rattle.std.specs.Prelude.{◌≡◌, [], ◌∷◌, IfSome, IsTrue};
+ghost use Rattle.std.specs.Prelude.{◌≡◌, IsTrue};
 ghost use Rattle.tui_text.specs.Visible.{step_of};
 
 use tui_text::symbol_columns;
@@ -40,19 +40,19 @@ impl<'a> Steps<'a> {
 fn is_same(one: &str, other: &str) -> bool
     ensures { IsTrue result → one.now ≡ other.now }
 {
-    match (one.as_bytes(), other.as_bytes()) {
-        ([a, b, c], [d, e, f]) => *a == *d && *b == *e && *c == *f,
-        _ => one == other,
+    match one.as_bytes().as_array::<3>() {
+        Some(three) => is_text(other, *three),
+        None => one == other,
     }
 }
 
-/// The byte of a symbol that is one printable byte. It takes one column, which needs no look-up.
+/// Whether a symbol is a text of three bytes. Byte by byte, since a comparison of texts is a call.
 #[inline]
-pub(crate) fn plain_byte(symbol: &str) -> Option<u8>
-    ensures { IfSome result (λ byte. (symbol.now ≡ byte ∷ []) × (step_of symbol.now ≡ 1)) }
+pub(crate) fn is_text(symbol: &str, bytes: [u8; 3]) -> bool
+    ensures { IsTrue result → symbol.now ≡ bytes }
 {
     match symbol.as_bytes() {
-        [byte] if 32 <= *byte && *byte <= 126 => Some(*byte),
-        _ => None,
+        [a, b, c] if *a == bytes[0] && *b == bytes[1] && *c == bytes[2] => true,
+        _ => false,
     }
 }
