@@ -13,7 +13,9 @@ use Rattle.unicode_width.proofs.Rules.{str_width-printable}
 use Rattle.tui_cells.specs.Cell.{Look}
 use Rattle.tui_text.specs.Grapheme.{width_of, columns_of}
 use Rattle.tui_port.specs.Print.{symbols_from, symbols_of}
+use Rattle.tui_text.specs.Plain.{IsLetter}
 use Rattle.tui_text.specs.Visible.{step_of}
+use Rattle.tui_text.proofs.Letters.{letter_width}
 use Rattle.tui_text.proofs.ShownCells.{none_visible, visible_next}
 
 -- a cell that shows, and what comes behind its columns
@@ -71,6 +73,11 @@ unfolding step_of width_of columns_of
 one_byte b low high =
     let as_is : chars (b ∷ []) ≡ b ∷ [] = chars-IsAscii (b ∷ []) (search (rules, arith)) in
     rw (as_is, str_width-printable false (b ∷ []) (range b low high)) refl
+
+-- a letter of two bytes takes one column
+pub letter_step : (s : List ℕ) → IsLetter s → step_of s ≡ 1
+unfolding step_of
+letter_step s letter = rw (letter_width s letter) refl
 
 -- the lines of some rows, and of one row more
 pub rows_more : {A : Type 0} (line : List A → List ℕ) (rows : List (List A)) (i : ℕ) (d : List A) → i < length rows →
