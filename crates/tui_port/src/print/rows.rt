@@ -51,12 +51,14 @@ fn put_next<'r, K: Sink>(
     ensures put { (text : List ℕ) × (symbols_from row.now column ≡ text ++ symbols_from row.now result)
         × Gathers (K.told sink.old) (K.told sink.new) print.old print.new text }
 {
-    let plain = copy_plain(row, column, piece);
-    if plain > 0 {
-        put_plain(print, &piece[..plain], sink);
-        return column + plain;
-    }
     let symbol = row[column].symbol();
+    if symbol.len() == 1 {
+        let plain = copy_plain(row, column, piece);
+        if plain > 0 {
+            put_plain(print, &piece[..plain], sink);
+            return column + plain;
+        }
+    }
     let step = steps.step(symbol);
     let next = column + step.min(row.len() - column);
     match symbol.as_bytes().as_array::<3>() {
