@@ -6,7 +6,7 @@ ghost use Rattle.tui_port.specs.Print.{row_line, symbols_from};
 ghost use Rattle.tui_text.specs.Visible.{step_of};
 
 use crate::print::Print;
-use crate::print::steps::{Steps, is_text};
+use crate::print::steps::{Steps, is_letter, is_text};
 use crate::sink::Sink;
 use tui_cells::{Buffer, Cell};
 use tui_text::printable_byte;
@@ -58,6 +58,10 @@ fn put_next<'r, K: Sink>(
             put_plain(print, &piece[..plain], sink);
             return column + plain;
         }
+    }
+    if is_letter(symbol) {
+        put_symbol(print, symbol, sink);
+        return column + 1;
     }
     let step = steps.step(symbol);
     let next = column + step.min(row.len() - column);

@@ -25,9 +25,6 @@ impl<'a> Steps<'a> {
     pub(crate) fn step(&mut self, symbol: &'a str) -> usize
         ensures { result ≡ step_of symbol.now }
     {
-        if is_letter(symbol) {
-            return 1;
-        }
         if !is_same(symbol, self.symbol) {
             *self = Steps {
                 symbol,
@@ -41,7 +38,7 @@ impl<'a> Steps<'a> {
 /// Whether a symbol is one letter of two bytes that the first of them tells, of Latin, Greek or Cyrillic. It takes one column,
 /// which needs no look-up.
 #[inline]
-fn is_letter(symbol: &str) -> bool
+pub(crate) fn is_letter(symbol: &str) -> bool
     ensures { IsTrue result → step_of symbol.now ≡ 1 }
 {
     let bytes = symbol.as_bytes();

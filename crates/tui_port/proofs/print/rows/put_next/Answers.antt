@@ -1,6 +1,6 @@
-use Rattle.std.proofs.Common.{arith, ap, sym, ◌≡◌, ◌∙◌, ◌++◌, ℕ, List, append_assoc}
+use Rattle.std.proofs.Common.{arith, rules, ap, refl, sym, ◌≡◌, ◌∙◌, ◌++◌, ℕ, List, append_assoc}
 use Rattle.tui_text.proofs.ShownCells.{some_step}
-use Rattle.tui_port.proofs.RowLemmas.{row_step}
+use Rattle.tui_port.proofs.RowLemmas.{row_narrow, row_step}
 use Rattle.tui_port.proofs.print.rows.put_next.Goals as goal
 
 pub returns-in-Some-clause-put : goal.returns-in-Some-clause-put
@@ -28,6 +28,13 @@ returns-in-None-clause-within g c =
 pub returns-in-None-clause-put : goal.returns-in-None-clause-put
 returns-in-None-clause-put g c =
     let cell = c.index-row-column.result in
-    let text = rw c.symbol-symbol.ensures.is at c.put_symbol.ensures in
+    let text = rw c.symbol-symbol.ensures.is at c.put_symbol-in-None.ensures in
     let step = rw (c.step-step.ensures, c.symbol-symbol.ensures.is) at c.min.ensures in
     (cell.symbol, row_step c.args.row.now c.args.column c.min.result cell c.requires c.index-row-column.is step, text)
+
+pub returns-then-is_letter-clause-put : goal.returns-then-is_letter-clause-put
+returns-then-is_letter-clause-put g c =
+    let cell = c.index-row-column.result in
+    let text = rw c.symbol-symbol.ensures.is at c.put_symbol.ensures in
+    let one = rw c.symbol-symbol.ensures.is at (c.is_letter.ensures (search rules)) in
+    (cell.symbol, row_narrow c.args.row.now c.args.column cell.symbol cell c.requires c.index-row-column.is refl one, text)
