@@ -3,22 +3,22 @@ use Rattle.std.specs.Prelude.{ℕ, ◌≡◌, List, [], Some, String}
 use Rattle.std.specs.declared.alloc.Global.{Global}
 use Rattle.scene_rows.specs.declared.program.Program.{Program}
 use Rattle.scene_rows.specs.declared.program.Program.TheVariants as program
-use Rattle.tui_browser.specs.Ended as pager
-use Rattle.tui_browser.specs.Rules.{pager_rules}
-use Rattle.tui_browser.specs.declared.ended.PagerEnded.{PagerEnded}
+use Rattle.tui_pager_run.specs.Ended as pager
+use Rattle.tui_pager_run.specs.Rules.{pager_rules}
+use Rattle.tui_pager_run.specs.declared.ended.PagerEnded.{PagerEnded}
 use Rattle.tui_port.specs.Causes.{Told}
 use Rattle.tui_port.specs.Memory.{SinkState}
-use Rattle.tui_run.specs.Call.{Call, call_of}
-use Rattle.tui_run.specs.Runs.{IsRun}
-use Rattle.tui_sheets.specs.Ended as pages
-use Rattle.tui_sheets.specs.Rules.{pages_rules}
-use Rattle.tui_sheets.specs.declared.ended.PagesEnded.{PagesEnded}
-use Rattle.tui_shell.specs.Ended as show
-use Rattle.tui_shell.specs.Endings.{Ends}
-use Rattle.tui_shell.specs.declared.ended.Ended.{Ended}
-use Rattle.tui_tiles.specs.Ended as panes
-use Rattle.tui_tiles.specs.Rules.{panes_rules}
-use Rattle.tui_tiles.specs.declared.ended.PanesEnded.{PanesEnded}
+use Rattle.tui_program.specs.Call.{Call, call_of}
+use Rattle.tui_program.specs.Runs.{IsRun}
+use Rattle.tui_pages_run.specs.Ended as pages
+use Rattle.tui_pages_run.specs.Rules.{pages_rules}
+use Rattle.tui_pages_run.specs.declared.ended.PagesEnded.{PagesEnded}
+use Rattle.tui_show_run.specs.Ended as show
+use Rattle.tui_show_run.specs.Endings.{Ends}
+use Rattle.tui_show_run.specs.declared.ended.Ended.{Ended}
+use Rattle.tui_panes_run.specs.Ended as panes
+use Rattle.tui_panes_run.specs.Rules.{panes_rules}
+use Rattle.tui_panes_run.specs.declared.ended.PanesEnded.{PanesEnded}
 
 -- a run of a program by these words ends with a status
 abbrev pub EndsWith : Program → List (String Global) → Call → ℕ → Type 0

@@ -2,17 +2,17 @@
 
 ghost use Rattle.scene_rows.specs.Ran.{EndsWith, Ran};
 ghost use Rattle.std.specs.Prelude.{IfOk};
-ghost use Rattle.tui_run.specs.Call.{call_of};
+ghost use Rattle.tui_program.specs.Call.{call_of};
 
 use crate::program::Program;
 use crate::row::Given;
 use anyhow::Result;
 use std::alloc::Global;
-use tui_browser::run_pager;
+use tui_pager_run::run_pager;
+use tui_pages_run::run_pages;
+use tui_panes_run::run_panes;
 use tui_port::{MemSink, MemSource, Sink, Source};
-use tui_sheets::run_pages;
-use tui_shell::show;
-use tui_tiles::run_panes;
+use tui_show_run::show;
 
 /// Runs a program over words and what is given, and answers its status and the sink.
 pub(crate) fn run(

@@ -3,7 +3,7 @@
 use crate::drawing::draws;
 use std::alloc::Global;
 use std::test::Fail;
-use text_tests::{are_named, is_no_name};
+use test_help::{are_named, is_no_name};
 use tui_bars::{Bar, BarChart, BarGroup, RenderDirection, Sparkline, SparklineBar};
 use tui_cells::{Color, Mem, Style};
 use tui_frames::Block;

@@ -6,7 +6,7 @@ ghost use Rattle.tui_frames.specs.Shadow.{in_shadow};
 
 use std::alloc::Global;
 use std::test::Fail;
-use text_tests::{are_named, attributes_at, is_no_name, shows};
+use test_help::{are_named, attributes_at, is_no_name, shows};
 use tui_cells::{
     Attributes, Buffer, Color, Mem, MergeStrategy, Modifier, Offset, Position, Rect, Style, Styled,
     Widget, border as symbols,

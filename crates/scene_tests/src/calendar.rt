@@ -4,7 +4,7 @@ use crate::drawing::draws;
 use jiff::civil::Date;
 use std::alloc::Global;
 use std::test::Fail;
-use text_tests::{are_named, is_no_name};
+use test_help::{are_named, is_no_name};
 use tui_calendar::{CalendarEventStore, DateStyler, Monthly};
 use tui_cells::{Color, Mem, Style};
 use tui_frames::{Block, Padding};

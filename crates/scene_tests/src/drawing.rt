@@ -1,7 +1,7 @@
 //! What a widget draws into a blank buffer.
 
 use std::alloc::Global;
-use text_tests::shows;
+use test_help::shows;
 use tui_cells::{Buffer, Mem, Rect, Widget};
 
 /// Whether a widget draws these rows in an area of so many columns and rows.

@@ -2,7 +2,7 @@
 
 use std::alloc::Global;
 use std::test::Fail;
-use text_tests::shows;
+use test_help::shows;
 use tui_cells::{Buffer, Color, Mem, Modifier, Rect, Style, Styled, Widget};
 use tui_frames::{Clear, Fill};
 

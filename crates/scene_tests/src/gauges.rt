@@ -1,7 +1,7 @@
 //! Gauges and line gauges by their calls.
 
 use std::test::Fail;
-use text_tests::{attributes_at, shows};
+use test_help::{attributes_at, shows};
 use tui_bars::{Gauge, GaugeError, LineGauge};
 use tui_cells::{Attributes, Buffer, Color, Rect, Style, Styled, Widget, line};
 use tui_layout::Fraction;

@@ -3,7 +3,7 @@
 use crate::drawing::draws;
 use std::alloc::Global;
 use std::test::Fail;
-use text_tests::{are_named, is_no_name};
+use test_help::{are_named, is_no_name};
 use tui_cells::{Color, Mem, Modifier, Style, Styled};
 use tui_frames::Block;
 use tui_lists::{List, ListDirection, ListItem, ListState};

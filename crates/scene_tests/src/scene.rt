@@ -2,7 +2,7 @@
 
 use std::alloc::Global;
 use std::test::Fail;
-use text_tests::shows;
+use test_help::shows;
 use tui_cells::{Mem, Rect};
 use tui_frames::Fill;
 use tui_scene::{DrawError, Item, Placed, Scene, draw_at, draw_new, drawing_laws, redraw_laws};

@@ -1,7 +1,7 @@
 //! Scrollbars by their calls, and their states; what they draw in a scene stands in scene_rows.
 
 use std::test::Fail;
-use text_tests::{are_named, is_no_name};
+use test_help::{are_named, is_no_name};
 use tui_lists::{ScrollDirection, ScrollbarOrientation, ScrollbarState};
 
 #[test]

@@ -2,9 +2,9 @@
 
 use std::alloc::Global;
 use std::test::Fail;
-use text_tests::shows;
+use test_help::shows;
 use tui_cells::Mem;
-use tui_viewer::{Entry, Key, Pager, PagerError, PagerState, pager_laws};
+use tui_pager_lib::{Entry, Key, Pager, PagerError, PagerState, pager_laws};
 
 fn entries(alloc: Global) -> Mem<Vec<Entry<'static>>> {
     let mut entries = Vec::new(alloc);

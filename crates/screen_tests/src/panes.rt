@@ -2,15 +2,14 @@
 
 use std::alloc::Global;
 use std::test::Fail;
-use text_tests::shows;
+use test_help::shows;
 use tui_cells::{Buffer, Mem, Position, Rect};
 use tui_frames::Fill;
 use tui_layout::{Constraint, Direction, Flex};
+use tui_panes_lib::{OrderError, Pane, Panes, PanesError, Part, panes_laws, tree_laws};
 use tui_para::Paragraph;
 use tui_scene::Item;
-use tui_splits::{OrderError, Panes, panes_laws};
 use tui_text::Text;
-use tui_tree::{Pane, PanesError, Part, tree_laws};
 
 fn leaf(symbol: &'static str) -> Pane<'static> {
     Pane::Leaf(Item::Fill(Fill::new(symbol)))

@@ -2,10 +2,10 @@
 
 use std::alloc::Global;
 use std::test::Fail;
-use text_tests::shows;
+use test_help::shows;
 use tui_cells::{Buffer, Mem, Rect};
 use tui_layout::Constraint;
-use tui_report::{Column, Piece, Record, Report, ReportError, page_laws};
+use tui_pages_lib::{Column, Piece, Record, Report, ReportError, page_laws};
 
 fn columns(alloc: Global, sizes: &[(&'static str, u16)]) -> Mem<Vec<Column<'static>>> {
     let mut columns = Vec::new(alloc);

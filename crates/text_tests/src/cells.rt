@@ -1,9 +1,9 @@
 //! Values worked by hand, and each call once with ample memory.
 
-use crate::symbols::{attributes_at, shows, symbol_at};
 use bitflags::Flags;
 use std::alloc::Global;
 use std::test::Fail;
+use test_help::{attributes_at, shows, symbol_at};
 use tui_cells::{
     Attributes, Buffer, Cell, Color, Mem, Modifier, ParseError, Position, Rect, Style,
 };

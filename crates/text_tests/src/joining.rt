@@ -1,8 +1,7 @@
 //! Border symbols joined, and rectangles moved, by values worked by hand.
 
-use crate::names::{are_named, is_no_name};
-use crate::symbols::symbol_at;
 use std::test::Fail;
+use test_help::{are_named, is_no_name, symbol_at};
 use tui_cells::MergeStrategy::{Exact, Fuzzy, Replace};
 use tui_cells::{Buffer, Mem, MergeStrategy, Offset, Position, Rect};
 

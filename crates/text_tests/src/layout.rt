@@ -1,8 +1,8 @@
 //! Windows and columns worked by hand.
 
-use crate::names::{are_named, is_no_name};
 use std::alloc::Global;
 use std::test::Fail;
+use test_help::{are_named, is_no_name};
 use tui_cells::Mem;
 use tui_layout::Constraint::{Fill, Length, Max, Min, Percentage, Ratio};
 use tui_layout::{

@@ -7,12 +7,7 @@ mod cells;
 mod joining;
 #[cfg(test)]
 mod layout;
-mod names;
 #[cfg(test)]
 mod painting;
-mod symbols;
 #[cfg(test)]
 mod text;
-
-pub use names::{are_named, is_no_name};
-pub use symbols::{attributes_at, shown, shows, symbol_at};

@@ -1,8 +1,8 @@
 //! Spans, lines and texts, set and painted within a clip.
 
-use crate::symbols::shows;
 use std::alloc::Global;
 use std::test::Fail;
+use test_help::shows;
 use tui_cells::{Buffer, Cell, Color, Mem, Position, Rect, Style};
 use tui_text::{
     Alignment, Line, Span, Text, paint_line, paint_text, set_line, set_span, set_stringn,

@@ -1,7 +1,7 @@
 //! Values from the standards, and each public call once.
 
-use crate::names::{are_named, is_no_name};
 use std::alloc::Global;
+use test_help::{are_named, is_no_name};
 use tui_cells::{Color, Mem, Style};
 use tui_text::{Alignment, Line, Span, StyledGrapheme, Text, cell_width, printable_byte};
 

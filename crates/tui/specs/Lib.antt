@@ -7,11 +7,11 @@ pub use Rattle.tui_frames.specs as frames
 pub use Rattle.tui_layout.specs as layout
 pub use Rattle.tui_lists.specs as lists
 pub use Rattle.tui_para.specs as para
-pub use Rattle.tui_places.specs as places
-pub use Rattle.tui_report.specs as report
+pub use Rattle.tui_line_places.specs as places
+pub use Rattle.tui_pages_lib.specs as report
 pub use Rattle.tui_scene.specs as scene
-pub use Rattle.tui_splits.specs as splits
+pub use Rattle.tui_panes_lib.specs as splits
 pub use Rattle.tui_table.specs as table
 pub use Rattle.tui_text.specs as text
-pub use Rattle.tui_tree.specs as tree
-pub use Rattle.tui_viewer.specs as viewer
+pub use Rattle.tui_panes_lib.specs as tree
+pub use Rattle.tui_pager_lib.specs as viewer

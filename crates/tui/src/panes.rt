@@ -1,4 +1,3 @@
 //! Panes: the leaves of a tree of splits on a screen, drawn in any order, and one of them anew.
 
-pub use tui_splits::{OrderError, Panes};
-pub use tui_tree::{Pane, PanesError, Part, scene_in};
+pub use tui_panes_lib::{OrderError, Pane, Panes, PanesError, Part, scene_in};

@@ -4,7 +4,7 @@
 
 use std::process::ExitCode;
 use std::{env, io};
-use tui_browser::run_program;
+use tui_pager_run::run_program;
 use tui_port::{StdSink, StdSource};
 
 fn main(rt: HostRuntime) -> ExitCode {

@@ -4,7 +4,7 @@
 use std::process::ExitCode;
 use std::{env, io};
 use tui_port::{StdSink, StdSource};
-use tui_shell::run_program;
+use tui_show_run::run_program;
 
 fn main(rt: HostRuntime) -> ExitCode {
     let mut source = StdSource::new(rt.reader());

@@ -1,5 +1,0 @@
-use Rattle.tui_browser.proofs.Output.{one_output}
-use Rattle.tui_browser.proofs.laws.output_law.Goals as goal
-
-pub returns : goal.returns
-returns c = one_output c.print_laws.ensures.print c.pager_laws.ensures.screen

@@ -1,4 +1,0 @@
-pub mod Joined
-pub mod ItemLists
-pub mod Fewer
-pub mod Counted

@@ -1,5 +1,0 @@
-use Rattle.tui_demo.proofs.Joined.{again}
-use Rattle.tui_demo.proofs.text.push_times.Goals as goal
-
-pub times-preserved : goal.times-preserved
-times-preserved c = again _ _ _ _ c.times.i c.times.invariant c.in_ok-push_str.ensures.bytes

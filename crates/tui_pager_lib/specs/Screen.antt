@@ -1,0 +1,154 @@
+-- What a pager shows, as the layers of its widgets.
+use Rattle.std.specs.Prelude.{
+  ℕ,
+  ◌≡◌,
+  ◌+◌,
+  ◌-◌,
+  ◌/◌,
+  true,
+  List,
+  [],
+  ◌∷◌,
+  ◌++◌,
+  length,
+  map,
+  Option,
+  None,
+  Some,
+  codes,
+  decimal,
+  slice_index_or,
+}
+use Rattle.tui_cells.specs.Buffer.{IsScreen, Screen, cell_at}
+use Rattle.tui_cells.specs.Cell.{blank}
+use Rattle.tui_cells.specs.Layers.{Layer, layers_at}
+use Rattle.tui_cells.specs.Rect.{covers}
+use Rattle.tui_cells.specs.Style.{no_style}
+use Rattle.tui_cells.specs.declared.rect.Rect.{Rect}
+use Rattle.tui_frames.specs.Block.{BlockData, block_of}
+use Rattle.tui_lists.specs.List.{ListData, list_of}
+use Rattle.tui_lists.specs.ListItem.{ListItemData, heights_of}
+use Rattle.tui_lists.specs.ListStrokes.{list_layers}
+use Rattle.tui_lists.specs.Scrollbar.{ScrollbarData, scrollbar_of}
+use Rattle.tui_lists.specs.ScrollbarStrokes.{scrollbar_layers}
+use Rattle.tui_lists.specs.Tabs.{reversed}
+use Rattle.tui_lists.specs.declared.list.state.ListState.{ListState}
+use Rattle.tui_lists.specs.declared.scrollbar.orientation.ScrollbarOrientation.TheVariants.{VerticalRight}
+use Rattle.tui_lists.specs.declared.scrollbar.state.ScrollbarState.{ScrollbarState}
+use Rattle.tui_para.specs.Hyphens.{at_blanks}
+use Rattle.tui_para.specs.Paragraph.{ParagraphData, paragraph_of}
+use Rattle.tui_para.specs.Rendering.{paragraph_layers}
+use Rattle.tui_para.specs.WrappedText.{wrap_text}
+use Rattle.tui_text.specs.Line.{raw_line}
+use Rattle.tui_text.specs.Text.{raw_text}
+use Rattle.tui_text.specs.declared.alignment.Alignment.TheVariants.{Left}
+use Rattle.tui_pager_lib.specs.Entry.{EntryData}
+use Rattle.tui_pager_lib.specs.Pager.{PagerData}
+use Rattle.tui_pager_lib.specs.Steps.{Sizes, most_of}
+use Rattle.tui_pager_lib.specs.declared.state.PagerState.{PagerState}
+
+-- the screen: a third of its width for the titles, the rest for the body, and a row below both; the bar stands on the body's right border
+abbrev pub page_area : ℕ → ℕ → Rect
+page_area width height = record { x = 0; y = 0; width = width; height = height }
+
+-- the left third but for the last row
+abbrev pub titles_area : ℕ → ℕ → Rect
+titles_area width height = record { x = 0; y = 0; width = width / 3; height = height - 1 }
+
+-- what is right of it
+abbrev pub body_area : ℕ → ℕ → Rect
+body_area width height = record { x = width / 3; y = 0; width = width - width / 3; height = height - 1 }
+
+-- the last column between the corners of the body's block
+abbrev pub bar_area : ℕ → ℕ → Rect
+bar_area width height = record { x = width - 1; y = 1; width = 1; height = height - 3 }
+
+-- the row below both
+abbrev pub last_row : ℕ → ℕ → Rect
+last_row width height = record { x = 0; y = height - 1; width = width; height = 1 }
+
+-- the list of the titles
+abbrev pub title_item : EntryData → ListItemData
+title_item e = record { content = raw_text e.title; style = no_style }
+
+-- the block around the titles
+abbrev pub titles_block : BlockData
+titles_block = record (block_of 15) { titles = record { line = raw_line (codes "Entries"); position = None } ∷ [] }
+
+-- a list of items inside it
+abbrev pub list_over : List ListItemData → ListData
+list_over items = record (list_of items) {
+  block = Some titles_block;
+  symbol = Some (raw_line (codes ">"));
+  highlight_style = reversed;
+  padding = 1;
+}
+
+-- the list of the titles
+abbrev pub titles_list : List EntryData → ListData
+titles_list entries = list_over (map title_item entries)
+
+-- the state of that list
+abbrev pub list_state : PagerState → ListState
+list_state s = record { offset = s.offset; selected = s.selected }
+
+-- the body, in lines without the blanks at which they break and without breaks after hyphens, from a line on
+abbrev pub body_of : List EntryData → Option ℕ → List ℕ
+body_of entries None = []
+body_of entries (Some place) = (slice_index_or entries place (record { title = []; body = [] })).body
+
+-- the body from a line on, without its block
+abbrev pub unframed : List ℕ → ℕ → ParagraphData
+unframed body line = record (paragraph_of (raw_text body)) { wrap = Some (at_blanks true); scroll_y = line }
+
+-- the body inside its block
+abbrev pub body_paragraph : List ℕ → ℕ → ParagraphData
+body_paragraph body line = record (unframed body line) { block = Some (block_of 15) }
+
+-- a bar without symbols at its ends, over the lines that the body may begin with
+abbrev pub bar : ScrollbarData
+bar = record (scrollbar_of VerticalRight) { begin = None; end = None }
+
+-- the scrollbar's state: as many places as there are lines to begin at
+abbrev pub bar_state : ℕ → ℕ → ℕ → ScrollbarState
+bar_state rows most line = record { content_length = most + 1; position = line; viewport_content_length = rows }
+
+-- how many lines a body is wrapped into at a width
+abbrev pub line_count : ℕ → List ℕ → ℕ
+line_count width body = length (wrap_text width (at_blanks true) Left (raw_text body))
+
+-- how many lines each body has
+abbrev pub body_lines : List EntryData → ℕ → List ℕ
+body_lines entries width = map (λ e. line_count (width - width / 3 - 2) e.body) entries
+
+-- what the steps need to know of a pager
+abbrev pub sizes_of : List EntryData → ℕ → ℕ → Sizes
+sizes_of entries width height = record {
+  rows = height - 3;
+  heights = heights_of (map title_item entries);
+  lines = body_lines entries width;
+}
+
+-- the place of the selected entry, from 1, and 0 for none
+abbrev pub number_of : Option ℕ → ℕ
+number_of None = 0
+number_of (Some place) = place + 1
+
+-- that number and how many entries there are
+abbrev pub place_text : Option ℕ → ℕ → List ℕ
+place_text selected count = decimal (number_of selected) ++ (codes "/" ++ decimal count)
+
+-- the titles, the body, the bar and the place, in order
+unfoldable pub pager_layers : PagerData → List Layer
+pager_layers p =
+    let most = most_of (sizes_of p.entries p.width p.height) p.state.selected in
+    list_layers (titles_list p.entries) (list_state p.state) (titles_area p.width p.height)
+    ++ (paragraph_layers (body_paragraph (body_of p.entries p.state.selected) p.state.line) (body_area p.width p.height)
+    ++ (scrollbar_layers bar (bar_state (p.height - 3) most p.state.line) (bar_area p.width p.height)
+    ++ paragraph_layers (paragraph_of (raw_text (place_text p.state.selected (length p.entries)))) (last_row p.width p.height)))
+
+-- a screen of an area and of its shape, each cell of which is the blank one under the layers
+pub record IsDrawn (layers : List Layer) (area : Rect) (screen : Screen) : Type 0 where
+  pub area_is : screen.area ≡ area
+  pub cells : (x y : ℕ) → covers area x y ≡ true → cell_at screen x y ≡ Some (layers_at layers x y blank)
+  pub shape : IsScreen screen

@@ -1,0 +1,15 @@
+-- An output is one.
+use Rattle.std.proofs.Common.{◌≡◌, ℕ, List, [], ◌++◌, sym, ap, ◌∙◌}
+use Rattle.tui_port.specs.Laws.{PrintIsUnique}
+use Rattle.tui_pager_lib.specs.Laws.{ScreenIsOne}
+use Rattle.tui_pager_run.specs.Laws.{OutputIsOne}
+use Rattle.tui_pager_run.specs.Printed.{key_lines}
+use Rattle.tui_pager_run.specs.States.{first_of, last_of, states_of}
+
+pub one_output : PrintIsUnique → ScreenIsOne → OutputIsOne
+one_output prints screens input text other a b =
+    let same = screens (last_of input) a.screen b.screen a.drawn b.drawn in
+    let print = prints a.screen [] in
+    let again = rw same at b.is_print in
+    let alike : b.print ≡ a.print = print.2 b.print again ∙ sym (print.2 a.print a.is_print) in
+    b.parts ∙ (ap (λ (p : List ℕ). key_lines 0 (states_of (first_of input) input.calls) ++ p) alike ∙ sym a.parts)

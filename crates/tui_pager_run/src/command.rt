@@ -1,0 +1,75 @@
+//! The one command: its words, and what it writes.
+
+ghost use Rattle.tui_program.specs.Endings.{AnswersWith, no_refusal, nothing};
+ghost use Rattle.tui_pager_run.specs.Input.{input_data};
+ghost use Rattle.tui_pager_run.specs.Printed.{IsWritten};
+
+use crate::bad_input::BadInput;
+use crate::input::{Input, read_input};
+use crate::printing::put_run;
+use crate::run::press_keys;
+use serde_json::Value;
+use std::alloc::Global;
+use tui_json::InputError;
+use tui_port::{Sink, WriteFault};
+use tui_program::{Job, Leftovers, Reader, Stop, are_none, put_refused_field};
+
+/// The command of the program: it reads entries and keys, and writes the state behind each key and the last screen.
+#[derive(Clone, Copy, Debug, PartialEq, Eq)]
+pub struct PagerCommand;
+
+impl Reader for PagerCommand {
+    ghost use Rattle.tui_pager_run.specs.Rules.{Names};
+
+    ghost named = { Names };
+
+    fn reader_of(words: &[String]) -> Option<PagerCommand> {
+        if are_none(words) {
+            Some(PagerCommand)
+        } else {
+            None
+        }
+    }
+}
+
+impl Job for PagerCommand {
+    ghost use Rattle.tui_pager_run.specs.Rules.{pager_reading};
+
+    type Refusal = BadInput;
+
+    ghost reading = { pager_reading };
+
+    fn answer<K: Sink>(
+        &self,
+        alloc: Global,
+        value: &Value,
+        sink: &mut K,
+        leftovers: Leftovers,
+    ) -> Result<(), Stop<BadInput>> {
+        match read_input(alloc, value) {
+            Ok(input) => show(alloc, input, sink, leftovers),
+            Err(InputError::Refused(refusal)) => Err(Stop::Refused(refusal)),
+            Err(InputError::NoMemory) => Err(Stop::NoMemory),
+        }
+    }
+
+    fn refuse<K: Sink>(&self, refusal: BadInput, sink: &mut K) -> Result<(), WriteFault> {
+        put_refused_field(refusal.field.name(), refusal.at, sink)
+    }
+}
+
+/// Makes the steps of all keys, and then writes what is due.
+fn show<K: Sink>(
+    alloc: Global,
+    input: Input<'_>,
+    sink: &mut K,
+    leftovers: Leftovers,
+) -> Result<(), Stop<BadInput>>
+    ensures { AnswersWith (IsWritten (input_data input.entry)) nothing no_refusal (K.told sink.old) (K.told sink.new) result }
+{
+    let run = press_keys(alloc, input)?;
+    let put = put_run(&run, sink);
+    leftovers.done_with(run);
+    put?;
+    Ok(())
+}

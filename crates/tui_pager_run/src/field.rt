@@ -1,0 +1,62 @@
+//! The fields of the input.
+
+use crate::bad_input::BadInput;
+use tui_json::{Fields, InputError};
+
+/// A field of the input in JSON.
+#[derive(Clone, Copy, Debug, PartialEq, Eq)]
+pub enum PagerField {
+    Width,
+    Height,
+    Entries,
+    Title,
+    Body,
+    Keys,
+}
+
+impl PagerField {
+    ghost use Rattle.std.specs.Prelude.{◌≡◌};
+    ghost use Rattle.tui_pager_run.specs.Refusals.{field_name};
+
+    /// Its name in the input, as `entries`.
+    pub fn name(&self) -> &'static str
+        ensures { result.now ≡ field_name self.now }
+    {
+        match self {
+            PagerField::Width => "width",
+            PagerField::Height => "height",
+            PagerField::Entries => "entries",
+            PagerField::Title => "title",
+            PagerField::Body => "body",
+            PagerField::Keys => "keys",
+        }
+    }
+}
+
+impl Fields for PagerField {
+    ghost use Rattle.tui_pager_run.specs.Refusals.{bad_input, field_name};
+    ghost use Rattle.tui_json.specs.Refusals.{refused};
+    ghost use Rattle.tui_pager_run.specs.declared.bad_input.BadInput.{BadInput};
+
+    type Error = InputError<BadInput>;
+
+    ghost Refusal = { BadInput };
+
+    ghost key = { field_name };
+
+    ghost refusal = { bad_input };
+
+    ghost refused = { refused };
+
+    fn key(&self) -> &'static str {
+        self.name()
+    }
+
+    fn error(self, at: Option<usize>) -> InputError<BadInput> {
+        InputError::Refused(BadInput { at, field: self })
+    }
+
+    fn no_memory() -> InputError<BadInput> {
+        InputError::NoMemory
+    }
+}

@@ -1,0 +1,61 @@
+//! What is written of a run.
+
+ghost use Rattle.std.specs.Prelude.{◌≡◌, ◌<◌, ◌++◌, ℕ, List, [], true};
+ghost use Rattle.tui_pager_run.specs.Printed.{key_line, key_lines};
+ghost use Rattle.tui_port.specs.Causes.{Writes};
+ghost use Rattle.tui_port.specs.Gathers.{Gathers};
+ghost use Rattle.tui_port.specs.Print.{IsPrint};
+ghost use Rattle.tui_pager_lib.specs.Screen.{IsDrawn, page_area, pager_layers};
+ghost use Rattle.tui_cells.specs.Buffer.{Screen};
+
+use crate::run::Run;
+use tui_cells::Buffer;
+use tui_pager_lib::PagerState;
+use tui_port::{Print, Sink, WriteFault};
+
+/// Writes the line of each state, and the print of the last screen. `WriteFault`: the sink has taken the first bytes, but not all
+/// of them. Takes no memory.
+pub(crate) fn put_run<K: Sink>(run: &Run<'_>, sink: &mut K) -> Result<(), WriteFault>
+    ensures { (screen : Screen) × (text : List ℕ)
+        × IsDrawn (pager_layers run.now.pager) (page_area run.now.pager.width run.now.pager.height) screen
+        × IsPrint screen [] text
+        × Writes (K.told sink.old) (K.told sink.new) result (key_lines 0 run.now.states.items ++ text) }
+{
+    let mut print = Print::new();
+    add_states(&mut print, sink, &run.states);
+    add_screen(&mut print, sink, run.pager.screen());
+    print.end(sink)
+}
+
+/// Adds a line for each state.
+fn add_states<K: Sink>(print: &mut Print, sink: &mut K, states: &[PagerState])
+    ensures { Gathers (K.told sink.old) (K.told sink.new) print.old print.new (key_lines 0 states.now) }
+{
+    'states: for number in 0..states.len() {
+        add_state(print, sink, number, &states[number]);
+    }
+}
+
+fn add_state<K: Sink>(print: &mut Print, sink: &mut K, number: usize, state: &PagerState)
+    ensures { Gathers (K.told sink.old) (K.told sink.new) print.old print.new (key_line number state.now) }
+{
+    let line = usize::from(state.line);
+    print.text(sink, "k ");
+    print.number(sink, number);
+    print.text(sink, " ");
+    print.place(sink, state.selected);
+    print.text(sink, " ");
+    print.number(sink, state.offset);
+    print.text(sink, " ");
+    print.number(sink, line);
+    print.text(sink, "\n");
+}
+
+/// Adds the rows and the runs of a screen.
+fn add_screen<K: Sink>(print: &mut Print, sink: &mut K, screen: &Buffer)
+    ensures { (text : List ℕ) × IsPrint screen.now [] text
+        × Gathers (K.told sink.old) (K.told sink.new) print.old print.new text }
+{
+    print.rows(sink, screen);
+    print.runs(sink, screen);
+}

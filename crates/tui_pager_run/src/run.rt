@@ -1,0 +1,80 @@
+//! A pager, moved by the keys of an input.
+
+ghost use Rattle.std.specs.Prelude.{◌≡◌, IfOk, OnOk, map};
+ghost use Rattle.tui_pager_run.specs.Input.{called, input_data};
+ghost use Rattle.tui_pager_run.specs.States.{first_of, last_of, states_of};
+ghost use Rattle.tui_pager_lib.specs.Entry.{entry_data};
+ghost use Rattle.tui_pager_lib.specs.Laws.{after_call, after_calls, pager_of, resize};
+
+use crate::input::Input;
+use crate::size::Size;
+use crate::step::Step;
+use std::alloc::Global;
+use tui_cells::{Mem, NoMemory};
+use tui_pager_lib::{Entry, Pager, PagerError, PagerState};
+
+/// A pager behind all keys, and its states: the one at the start, and the one behind each key.
+#[derive(Drop)]
+pub(crate) struct Run<'v> {
+    pub(crate) pager: Pager<'v>,
+    pub(crate) states: Vec<PagerState>,
+}
+
+/// Makes the steps of all keys. `NoMemory` where there is none for the pager, its screens and its states.
+pub(crate) fn press_keys<'v>(alloc: Global, input: Input<'v>) -> Mem<Run<'v>>
+    ensures pager { IfOk result (λ run. run.pager ≡ last_of (input_data input.entry)) }
+    ensures states { IfOk result (λ run. run.states.items ≡ states_of (first_of (input_data input.entry)) (input_data input.entry).calls) }
+{
+    let Input {
+        size,
+        entries,
+        steps,
+    } = input;
+    let mut pager = started(alloc, size, entries)?;
+    let states = step_through(alloc, &mut pager, &steps)?;
+    Ok(Run { pager, states })
+}
+
+/// A pager at its start.
+fn started<'v>(alloc: Global, size: Size, entries: Vec<Entry<'v>>) -> Mem<Pager<'v>>
+    ensures { IfOk result (λ pager. pager ≡ pager_of (map entry_data entries.entry.items) size.width size.height) }
+{
+    match Pager::new(alloc, size.width, size.height, entries) {
+        Ok(pager) => Ok(pager),
+        Err(PagerError::NoMemory) => Err(NoMemory),
+        Err(PagerError::TooSmall) => unreachable!(),
+    }
+}
+
+/// Makes the steps in order, and answers the state at the start and behind each of them.
+fn step_through(alloc: Global, pager: &mut Pager<'_>, steps: &[Step]) -> Mem<Vec<PagerState>>
+    ensures pager { OnOk result (pager.new ≡ after_calls pager.old (map called steps.now)) }
+    ensures states { IfOk result (λ states. states.items ≡ states_of pager.old (map called steps.now)) }
+{
+    let mut states = Vec::with_capacity(alloc, steps.len() + 1)?;
+    states.push(pager.state())?;
+    'steps: for i in 0..steps.len() {
+        make(pager, &steps[i])?;
+        states.push(pager.state())?;
+    }
+    Ok(states)
+}
+
+fn make(pager: &mut Pager<'_>, step: &Step) -> Mem<()>
+    ensures { OnOk result (pager.new ≡ after_call pager.old (called step.now)) }
+{
+    match step {
+        Step::Press(key) => pager.key(*key),
+        Step::Resize(size) => resize(pager, size),
+    }
+}
+
+fn resize(pager: &mut Pager<'_>, size: &Size) -> Mem<()>
+    ensures { OnOk result (pager.new ≡ after_call pager.old (resize size.now.width size.now.height)) }
+{
+    match pager.resize(size.width, size.height) {
+        Ok(()) => Ok(()),
+        Err(PagerError::NoMemory) => Err(NoMemory),
+        Err(PagerError::TooSmall) => unreachable!(),
+    }
+}

@@ -1,0 +1,75 @@
+-- Cells that go on with a line.
+use Rattle.std.proofs.Common.{◌≡◌, ℕ, zero, suc, ◌+◌, ◌-◌, ◌<◌, List, [], ◌∷◌, ◌++◌, length, take, drop, ◌⊎◌, inl, inr, sym, ap, refl, ◌∙◌, subst, arith}
+use Rattle.std.specs.Str.{IsCharBoundary, IsUtf8}
+use Rattle.std.proofs.Math.Seq.{drop-append_seam}
+use Rattle.std.proofs.lemmas.List.{append_assoc, length-append, take-append-drop}
+use Rattle.std.proofs.lemmas.Str.{IsCharBoundary-from_drop, IsCharBoundary-start}
+use Rattle.tui_pages_lib.specs.Starts.{GoesOn, cell_lines}
+
+drop_none : {A : Type 0} (n : ℕ) → drop {A = A} n [] ≡ []
+drop_none zero = refl
+drop_none (suc n) = refl
+
+pub drop_twice : {A : Type 0} (n m : ℕ) (xs : List A) → drop (n + m) xs ≡ drop m (drop n xs)
+drop_twice zero m xs = let e : zero + m ≡ m = omega arith in ap (λ k. drop k xs) e
+drop_twice (suc n) m [] = drop_none (suc n + m) ∙ sym (drop_none m)
+drop_twice (suc n) m (x ∷ xs) = let e : suc n + m ≡ suc (n + m) = omega arith in ap (λ k. drop k (x ∷ xs)) e ∙ drop_twice n m xs
+
+-- a cell has no byte there
+pub no_byte : (cell : List ℕ) (far : ℕ) → length cell < far → (IsCharBoundary cell far → ⊥)
+no_byte cell far h b = absurd (omega (arith, b.0))
+
+-- a cell without further lines has none so many lines further
+pub nowhere_more : (width line more start far : ℕ) (cell : List ℕ) → (IsCharBoundary cell start → ⊥) → (IsCharBoundary cell far → ⊥) →
+    GoesOn width line cell start → GoesOn width (line + more) cell far
+nowhere_more width line more start far cell none away g = record {
+  lines = λ b. absurd (away b);
+  none = λ _. drop_twice line more (cell_lines width cell) ∙ (ap (drop more) (g.none none) ∙ drop_none more);
+}
+
+-- nor one whose rest has no further lines
+pub none_more : (width line more start far : ℕ) (cell rest : List ℕ) → IsCharBoundary cell start → rest ≡ drop start cell →
+    (IsCharBoundary cell far → ⊥) → drop more (cell_lines width rest) ≡ [] → GoesOn width line cell start → GoesOn width (line + more) cell far
+none_more width line more start far cell rest some is away ends g = record {
+  lines = λ b. absurd (away b);
+  none = λ _. drop_twice line more (cell_lines width cell) ∙ (ap (drop more) (sym (g.lines some)) ∙ (ap (λ t. drop more (cell_lines width t)) (sym is) ∙ ends));
+}
+
+-- where a text ends with another, that one begins at a character
+pub ends_with : (cell rest front : List ℕ) → cell ≡ front ++ rest → drop (length cell - length rest) cell ≡ rest
+ends_with cell rest front whole =
+    let place : length cell - length rest ≡ length front = omega (arith, ap length whole, length-append front rest) in
+    ap (λ n. drop n cell) place ∙ (ap (drop (length front)) whole ∙ drop-append_seam front rest)
+
+pub begins_at : (cell rest : List ℕ) → drop (length cell - length rest) cell ≡ rest → IsUtf8 rest → IsCharBoundary cell (length cell - length rest)
+begins_at cell rest there u = IsCharBoundary-from_drop cell (length cell - length rest) (omega arith) (subst IsUtf8 (sym there) u)
+
+-- what is left of a rest is a rest
+pub left_whole : (cell rest left front : List ℕ) (start : ℕ) → rest ≡ drop start cell → rest ≡ front ++ left →
+    (before : List ℕ) × (cell ≡ before ++ left)
+left_whole cell rest left front start is whole =
+    (take start cell ++ front, sym (take-append-drop start cell) ∙ (ap (λ t. take start cell ++ t) (sym is ∙ whole) ∙ sym (append_assoc (take start cell) front left)))
+
+pub moved_more : (width line more start further : ℕ) (cell rest left : List ℕ) → IsCharBoundary cell start → rest ≡ drop start cell →
+    drop further cell ≡ left → IsCharBoundary cell further → cell_lines width left ≡ drop more (cell_lines width rest) →
+    GoesOn width line cell start → GoesOn width (line + more) cell further
+moved_more width line more start further cell rest left some is there begins lines g =
+    record {
+      lines = λ _. ap (cell_lines width) there ∙ (lines ∙ (ap (λ t. drop more (cell_lines width t)) is ∙ (ap (drop more) (g.lines some)
+          ∙ sym (drop_twice line more (cell_lines width cell)))));
+      none = λ away. absurd (away begins);
+    }
+
+-- at its beginning a cell goes on with its first line
+pub begins : (width : ℕ) (cell : List ℕ) → IsUtf8 cell → GoesOn width 0 cell 0
+begins width cell u = record {
+  lines = λ _. refl;
+  none = λ away. absurd (away (IsCharBoundary-start cell u));
+}
+
+-- and so it does where nothing else is known
+pub goes_on_from : (width line start : ℕ) (cell : List ℕ) → IsUtf8 cell → 0 < width →
+    (line ≡ 0) × (start ≡ 0) ⊎ (0 < width → GoesOn width line cell start) → GoesOn width line cell start
+goes_on_from width line start cell u wide (inl (l, s)) =
+    subst (λ t. GoesOn width t cell start) (sym l) (subst (λ t. GoesOn width 0 cell t) (sym s) (begins width cell u))
+goes_on_from width line start cell u wide (inr g) = g wide

@@ -1,0 +1,78 @@
+//! How many lines records have.
+
+ghost use Rattle.std.specs.Prelude.{◌≡◌, ◌≤◌, All, IfOk, MatchOption, map};
+ghost use Rattle.tui_para.specs.Paragraph.{paragraph_data};
+ghost use Rattle.tui_pages_lib.specs.Heights.{IsFirstTooTall, heights_of, line_count, most_lines, record_height};
+ghost use Rattle.tui_pages_lib.specs.Report.{cells_of};
+ghost use Rattle.tui_pages_lib.specs.Strokes.{cell_from};
+ghost use Rattle.tui_text.specs.Width.{saturated};
+
+use crate::records::Record;
+use std::alloc::Global;
+use tui_cells::Mem;
+use tui_layout::Segment;
+use tui_para::{Paragraph, Wrap, text_wraps_exactly_once};
+use tui_text::Text;
+
+/// The most lines that a record may have.
+const MOST_LINES: usize = 4096;
+
+/// A cell, wrapped without the blanks at which its lines break, from one of its lines on.
+pub(crate) fn cell_paragraph<'a>(alloc: Global, cell: &'a str, line: u16) -> Mem<Paragraph<'a>>
+    ensures { IfOk result (λ paragraph. paragraph_data paragraph ≡ cell_from line cell.now) }
+{
+    let text = Text::raw(alloc, cell)?;
+    Ok(
+        Paragraph::new(text)
+            .wrap(Wrap {
+                trim: true,
+                hyphens: false,
+            })
+            .scroll((line, 0)),
+    )
+}
+
+/// How many lines a cell has in a column of this width, cut at the greatest number of 64 bits.
+fn line_count(alloc: Global, width: u16, cell: &str) -> Mem<usize>
+    ensures { IfOk result (λ count. count ≡ saturated (line_count width cell.now)) }
+{
+    text_wraps_exactly_once();
+    let paragraph = cell_paragraph(alloc, cell, 0)?;
+    paragraph.line_count(alloc, width)
+}
+
+/// How many lines a record has: as many as its tallest cell, and at least one. Cut alike.
+fn record_height(alloc: Global, places: &[Segment], entry: &Record<'_>) -> Mem<usize>
+    ensures { IfOk result (λ height. height ≡ saturated (record_height places.now (cells_of entry.now))) }
+{
+    let cells = entry.cells.as_slice();
+    let mut height = 1usize;
+    'cells: for i in 0..places.len().min(cells.len()) {
+        let count = line_count(alloc, places[i].width, cells[i])?;
+        height = height.max(count);
+    }
+    Ok(height)
+}
+
+/// How many lines each record has, cut alike.
+pub(crate) fn heights(alloc: Global, places: &[Segment], records: &[Record<'_>]) -> Mem<Vec<usize>>
+    ensures { IfOk result (λ heights. heights.items ≡ map saturated (heights_of places.now (map cells_of records.now))) }
+{
+    let mut heights = Vec::with_capacity(alloc, records.len())?;
+    'records: for i in 0..records.len() {
+        heights.push(record_height(alloc, places, &records[i])?)?;
+    }
+    Ok(heights)
+}
+
+/// The first place where a record has too many lines.
+pub(crate) fn first_too_tall(heights: &[usize]) -> Option<usize>
+    ensures { MatchOption result (All (λ height. height ≤ most_lines) heights.now) (IsFirstTooTall heights.now) }
+{
+    'heights: for place in 0..heights.len() {
+        if heights[place] > MOST_LINES {
+            return Some(place);
+        }
+    }
+    None
+}

@@ -1,0 +1,29 @@
+//! Why there is no report.
+
+use thiserror::Error;
+use tui_cells::NoMemory;
+
+/// Why there is no report of some records.
+#[derive(Clone, Copy, Debug, PartialEq, Eq, Error)]
+pub enum ReportError {
+    /// The width is 0 or the height is below 4.
+    #[error("TooSmall")]
+    TooSmall,
+    /// A record has more than 4096 lines; `place` is that of the first such record, from 0.
+    #[error("TooTall")]
+    TooTall { place: usize },
+    /// The memory that the report takes was not there.
+    #[error("NoMemory")]
+    NoMemory,
+}
+
+impl From<NoMemory> for ReportError {
+    ghost use Rattle.std.specs.Prelude.{◌≡◌};
+    ghost use Rattle.tui_pages_lib.specs.declared.report_error.ReportError.TheVariants as errors;
+
+    ghost from_gives = { λ _ e. e ≡ errors.NoMemory };
+
+    fn from(_error: NoMemory) -> ReportError {
+        ReportError::NoMemory
+    }
+}

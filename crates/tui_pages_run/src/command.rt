@@ -1,0 +1,87 @@
+//! The commands: their words, and what they write.
+
+ghost use Rattle.std.specs.Prelude.{◌≡◌};
+ghost use Rattle.tui_pages_lib.specs.Strokes.{page_area};
+ghost use Rattle.tui_program.specs.Endings.{AnswersWith, no_refusal};
+ghost use Rattle.tui_pages_run.specs.Rules.{IsFirst, IsWritten};
+
+use crate::printing::{print_count, print_pages};
+use crate::reading::{Reading, read_report};
+use crate::refusal::{PagesRefusal, put_refusal};
+use serde_json::Value;
+use std::alloc::Global;
+use tui_json::InputError;
+use tui_port::{Sink, WriteFault};
+use tui_program::{Job, Leftovers, Reader, Stop, are_none, is_word};
+
+/// A command of the program. Each reads a report.
+#[derive(Clone, Copy, Debug, PartialEq, Eq)]
+pub enum PagesCommand {
+    /// No words: writes the pages.
+    Print,
+    /// `count` says how many pages they are.
+    Count,
+}
+
+impl Reader for PagesCommand {
+    ghost use Rattle.tui_pages_run.specs.Rules.{Names};
+
+    ghost named = { Names };
+
+    fn reader_of(words: &[String]) -> Option<PagesCommand> {
+        if are_none(words) {
+            Some(PagesCommand::Print)
+        } else if is_word(words, "count") {
+            Some(PagesCommand::Count)
+        } else {
+            None
+        }
+    }
+}
+
+impl Job for PagesCommand {
+    ghost use Rattle.tui_pages_run.specs.Rules.{pages_reading};
+
+    type Refusal = PagesRefusal;
+
+    ghost reading = { pages_reading };
+
+    fn answer<K: Sink>(
+        &self,
+        alloc: Global,
+        value: &Value,
+        sink: &mut K,
+        leftovers: Leftovers,
+    ) -> Result<(), Stop<PagesRefusal>> {
+        match read_report(alloc, value) {
+            Ok(reading) => {
+                let answer = write(*self, alloc, &reading, sink);
+                leftovers.done_with(reading);
+                answer
+            }
+            Err(InputError::Refused(refusal)) => Err(Stop::Refused(refusal)),
+            Err(InputError::NoMemory) => Err(Stop::NoMemory),
+        }
+    }
+
+    fn refuse<K: Sink>(&self, refusal: PagesRefusal, sink: &mut K) -> Result<(), WriteFault> {
+        put_refusal(refusal, sink)
+    }
+}
+
+/// Writes what is due for a report.
+fn write<K: Sink>(
+    command: PagesCommand,
+    alloc: Global,
+    reading: &Reading<'_>,
+    sink: &mut K,
+) -> Result<(), Stop<PagesRefusal>>
+    requires { reading.now.area ≡ page_area reading.now.report }
+    ensures { AnswersWith (IsWritten command reading.now.report) (IsFirst command reading.now.report) no_refusal
+        (K.told sink.old) (K.told sink.new) result }
+{
+    match command {
+        PagesCommand::Print => print_pages(alloc, reading.area, &reading.report, sink),
+        PagesCommand::Count => print_count(&reading.report, sink),
+    }
+}

@@ -1,0 +1,133 @@
+//! The fields of the input.
+
+ghost use Rattle.std.specs.Prelude.{map};
+ghost use Rattle.serde_json.specs.View.{view, items_view};
+ghost use Rattle.tui_json.specs.Kinds.{Reads};
+ghost use Rattle.tui_json.specs.Refusals.{Gives, numbered, refused};
+ghost use Rattle.tui_pages_lib.specs.Report.{cells_of, column_data};
+ghost use Rattle.tui_pages_run.specs.Input.{column_of, input_data, input_of, record_of, sheet_data, sheet_of, texts_of};
+
+use crate::field::ReportField;
+use crate::refusal::PagesRefusal;
+use serde_json::Value;
+use std::alloc::Global;
+use tui_json::{Counted, Fields, InputError, Kind, KindError, Within, each, required};
+use tui_layout::Constraint;
+use tui_pages_lib::{Column, Record};
+
+/// The size of the pages in columns and rows, and the title of each.
+#[derive(Drop)]
+pub(crate) struct Sheet<'v> {
+    pub(crate) width: u16,
+    pub(crate) height: u16,
+    pub(crate) title: &'v str,
+}
+
+/// All fields of an input. Its texts are borrowed from the value that was read.
+#[derive(Drop)]
+pub(crate) struct Input<'v> {
+    pub(crate) sheet: Sheet<'v>,
+    pub(crate) columns: Vec<Column<'v>>,
+    pub(crate) records: Vec<Record<'v>>,
+}
+
+/// The input that a value is. It is refused at the first field that is missing or not of its kind: of the input, or of the column
+/// or the record of a number.
+#[tactic(auto, unfolding(crate::specs::Input::input_of))]
+pub(crate) fn read_input<'v>(
+    alloc: Global,
+    value: &'v Value,
+) -> Result<Input<'v>, InputError<PagesRefusal>>
+    ensures { Gives input_data refused result (input_of (view value.now)) }
+{
+    let sheet = read_sheet(alloc, value)?;
+    let Counted(values): Counted<'v, 1, 32> = required(alloc, None, ReportField::Columns, value)?;
+    let columns = read_columns(alloc, values)?;
+    let Counted(values): Counted<'v, 0, 10000> = required(
+        alloc,
+        None,
+        ReportField::Records,
+        value,
+    )?;
+    let records = read_records(alloc, values)?;
+    Ok(Input {
+        sheet,
+        columns,
+        records,
+    })
+}
+
+#[tactic(auto, unfolding(crate::specs::Input::sheet_of))]
+fn read_sheet<'v>(alloc: Global, value: &'v Value) -> Result<Sheet<'v>, InputError<PagesRefusal>>
+    ensures { Gives sheet_data refused result (sheet_of (view value.now)) }
+{
+    let Within(width): Within<1, 200> = required(alloc, None, ReportField::Width, value)?;
+    let Within(height): Within<4, 200> = required(alloc, None, ReportField::Height, value)?;
+    let title: &'v str = required(alloc, None, ReportField::Title, value)?;
+    Ok(Sheet {
+        width,
+        height,
+        title,
+    })
+}
+
+fn read_columns<'v>(
+    alloc: Global,
+    values: &'v [Value],
+) -> Result<Vec<Column<'v>>, InputError<PagesRefusal>>
+    ensures { Gives (λ columns. map column_data columns.items) refused result (numbered column_of 0 (items_view values.now)) }
+{
+    let mut columns = Vec::with_capacity(alloc, values.len())?;
+    for (i, value) in values.iter().enumerate() {
+        columns.push(read_column(alloc, i, value)?)?;
+    }
+    Ok(columns)
+}
+
+#[tactic(auto, unfolding(crate::specs::Input::column_of))]
+fn read_column<'v>(
+    alloc: Global,
+    i: usize,
+    value: &'v Value,
+) -> Result<Column<'v>, InputError<PagesRefusal>>
+    ensures { Gives column_data refused result (column_of i (view value.now)) }
+{
+    let name: &'v str = required(alloc, Some(i), ReportField::Name, value)?;
+    let size: Constraint = required(alloc, Some(i), ReportField::Size, value)?;
+    Ok(Column { name, size })
+}
+
+fn read_records<'v>(
+    alloc: Global,
+    values: &'v [Value],
+) -> Result<Vec<Record<'v>>, InputError<PagesRefusal>>
+    ensures { Gives (λ records. map cells_of records.items) refused result (numbered record_of 0 (items_view values.now)) }
+{
+    let mut records = Vec::with_capacity(alloc, values.len())?;
+    for (i, value) in values.iter().enumerate() {
+        records.push(read_record(alloc, i, value)?)?;
+    }
+    Ok(records)
+}
+
+fn read_record<'v>(
+    alloc: Global,
+    i: usize,
+    value: &'v Value,
+) -> Result<Record<'v>, InputError<PagesRefusal>>
+    ensures { Gives cells_of refused result (record_of i (view value.now)) }
+{
+    match read_texts(alloc, value) {
+        Ok(cells) => Ok(Record { cells }),
+        Err(KindError::WrongKind) => Err(ReportField::Records.error(Some(i))),
+        Err(KindError::NoMemory) => Err(InputError::NoMemory),
+    }
+}
+
+#[tactic(auto, unfolding(crate::specs::Input::texts_of))]
+fn read_texts<'v>(alloc: Global, value: &'v Value) -> Result<Vec<&'v str>, KindError>
+    ensures { Reads (λ texts. map (λ text. text.now) texts.items) result (texts_of (view value.now)) }
+{
+    let Counted(values) = <Counted<'v, 0, 32> as Kind<'v, ReportField>>::read(alloc, value)?;
+    each::<&'v str, ReportField>(alloc, values)
+}

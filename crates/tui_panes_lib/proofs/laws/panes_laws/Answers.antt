@@ -1,0 +1,5 @@
+use Rattle.tui_panes_lib.proofs.Apart.{stay_fresh}
+use Rattle.tui_panes_lib.proofs.laws.panes_laws.Goals as goal
+
+pub returns : goal.returns
+returns c = record { fresh = stay_fresh }

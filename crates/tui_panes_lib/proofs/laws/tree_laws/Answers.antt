@@ -1,0 +1,5 @@
+use Rattle.tui_panes_lib.proofs.PartsApart.{lie_apart}
+use Rattle.tui_panes_lib.proofs.laws.tree_laws.Goals as goal
+
+pub returns : goal.returns
+returns c = record { apart = lie_apart }

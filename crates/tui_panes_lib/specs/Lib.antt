@@ -1,0 +1,9 @@
+pub mod Apart
+pub mod Draw
+pub mod Laws
+pub mod Levels
+pub mod Order
+pub mod Pane
+pub mod Panes
+pub mod Place
+pub mod Replace

@@ -1,0 +1,104 @@
+//! Where panes are placed.
+
+ghost use Rattle.std.specs.Prelude.{◌≡◌, ◌+◌, ◌<◌, ◌≤◌, ◌++◌, ◌↔◌, Err, IfOk, OnOk, IsTrue, length};
+ghost use Rattle.tui_cells.specs.Rect.{farthest_edge};
+ghost use Rattle.tui_layout.specs.Columns.{columns_of};
+ghost use Rattle.tui_panes_lib.specs.Levels.{levels};
+ghost use Rattle.tui_panes_lib.specs.Pane.{pane_data, sizes_data};
+ghost use Rattle.tui_panes_lib.specs.Place.{near_of, part_of, place_in, placed_of, side_of};
+ghost use Rattle.tui_panes_lib.specs.declared.error.PanesError.TheVariants.{TooDeep};
+
+use crate::error::PanesError;
+use crate::levels::stands_within;
+use crate::pane::{Pane, Part};
+use std::alloc::Global;
+use tui_cells::{Mem, NoMemory, Rect};
+use tui_layout::{Constraint, Direction, Segment, split};
+use tui_scene::{Placed, Scene};
+
+/// The deepest tree that is placed has so many levels.
+const MOST_LEVELS: u8 = 32;
+
+/// The leaves of a tree of panes in order, each with its rectangle of an area. The area's far edges are cut at 65535 first. A
+/// leaf has its whole area. A split cuts the width (Horizontal) or the height (Vertical) of its area into columns, one for each
+/// part, as `split` of the layout does, and its parts have these columns. TooDeep exactly where the tree has more than 32 levels,
+/// a lone leaf having one; it is tested first, and takes no memory.
+pub fn scene_in<'v>(alloc: Global, area: Rect, root: Pane<'v>) -> Result<Scene<'v>, PanesError>
+    ensures placed { IfOk result (λ scene. scene ≡ placed_of area (pane_data root.entry)) }
+    ensures deep { (result ≡ Err TooDeep) ↔ (32 < levels (pane_data root.entry)) }
+{
+    if !stands_within(&root, MOST_LEVELS) {
+        return Err(PanesError::TooDeep);
+    }
+    let mut scene = Scene::new(alloc);
+    let whole = Rect::new(area.x, area.y, area.width, area.height);
+    match place(alloc, whole, root, &mut scene) {
+        Ok(()) => Ok(scene),
+        Err(NoMemory) => Err(PanesError::NoMemory),
+    }
+}
+
+/// Adds the leaves of a pane to a scene, in order, each with its area.
+fn place<'v>(alloc: Global, area: Rect, pane: Pane<'v>, scene: &mut Scene<'v>) -> Mem<()>
+    requires right { area.x + area.width ≤ farthest_edge }
+    requires bottom { area.y + area.height ≤ farthest_edge }
+    ensures ok { OnOk result (scene.new ≡ scene.old ++ place_in area (pane_data pane.entry)) }
+{
+    match pane {
+        Pane::Leaf(item) => scene.push(Placed { area, item }),
+        Pane::Split {
+            direction,
+            spacing,
+            flex,
+            parts,
+        } => {
+            let sizes = sizes(alloc, &parts)?;
+            let columns = split(alloc, side(direction, area), spacing, &sizes, flex)?;
+            let mut at: usize = 0;
+            'placing: for part in parts {
+                let column = columns[at];
+                place(alloc, part_area(direction, area, column), part.pane, scene)?;
+                at += 1;
+            }
+            Ok(())
+        }
+    }
+}
+
+/// The sizes of parts.
+fn sizes(alloc: Global, parts: &[Part<'_>]) -> Mem<Vec<Constraint>>
+    ensures { IfOk result (λ sizes. sizes.items ≡ sizes_data parts.now) }
+{
+    let mut sizes = Vec::with_capacity(alloc, parts.len())?;
+    for part in parts {
+        sizes.push(part.size)?;
+    }
+    Ok(sizes)
+}
+
+fn side(direction: Direction, area: Rect) -> u16
+    ensures { result ≡ side_of direction area }
+{
+    match direction {
+        Direction::Horizontal => area.width,
+        Direction::Vertical => area.height,
+    }
+}
+
+fn part_area(direction: Direction, area: Rect, column: Segment) -> Rect
+    requires { near_of direction area + column.start < 65536 }
+    ensures { result ≡ part_of direction area column }
+{
+    match direction {
+        Direction::Horizontal => Rect {
+            x: area.x + column.start,
+            width: column.width,
+            ..area
+        },
+        Direction::Vertical => Rect {
+            y: area.y + column.start,
+            height: column.width,
+            ..area
+        },
+    }
+}

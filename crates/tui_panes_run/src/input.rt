@@ -1,0 +1,66 @@
+//! The input.
+
+ghost use Rattle.serde_json.specs.View.{view};
+ghost use Rattle.tui_json.specs.Refusals.{Gives, refused};
+ghost use Rattle.tui_panes_run.specs.Input.{input_data, input_of, size_in};
+
+use crate::change::{Change, read_changes};
+use crate::counts::Counts;
+use crate::field::PaneField;
+use crate::member::read_member;
+use crate::refusal::PanesRefusal;
+use crate::tree::read_pane;
+use serde_json::Value;
+use std::alloc::Global;
+use tui_json::{InputError, Within, required};
+use tui_panes_lib::Pane;
+
+/// So many levels may stand below the root.
+const ROOM: u8 = 31;
+
+/// The size of a screen, in columns and rows.
+#[derive(Clone, Copy)]
+pub(crate) struct Size {
+    pub(crate) width: u16,
+    pub(crate) height: u16,
+}
+
+/// All fields of an input. Its texts are borrowed from the value that was read.
+#[derive(Drop)]
+pub(crate) struct Input<'v> {
+    pub(crate) size: Size,
+    pub(crate) root: Pane<'v>,
+    pub(crate) changes: Vec<Change<'v>>,
+}
+
+/// The input that a value is. It is refused at the first test that fails.
+#[tactic(auto, unfolding(crate::specs::Input::input_of))]
+pub(crate) fn read_input<'v>(
+    alloc: Global,
+    value: &'v Value,
+) -> Result<Input<'v>, InputError<PanesRefusal>>
+    ensures { Gives input_data refused result (input_of (view value.now)) }
+{
+    let size = read_size(alloc, value)?;
+    let absent = PanesRefusal::BadPane {
+        pane: None,
+        field: PaneField::Root,
+    };
+    let root = read_member(value, "root", absent)?;
+    let (root, counts) = read_pane(alloc, ROOM, root, Counts::none())?;
+    let changes = read_changes(alloc, counts.leaves, value)?;
+    Ok(Input {
+        size,
+        root,
+        changes,
+    })
+}
+
+#[tactic(auto, unfolding(crate::specs::Input::size_in))]
+fn read_size(alloc: Global, value: &Value) -> Result<Size, InputError<PanesRefusal>>
+    ensures { Gives (λ size. size) refused result (size_in (view value.now)) }
+{
+    let Within(width): Within<1, 1000> = required(alloc, None, PaneField::Width, value)?;
+    let Within(height): Within<1, 1000> = required(alloc, None, PaneField::Height, value)?;
+    Ok(Size { width, height })
+}

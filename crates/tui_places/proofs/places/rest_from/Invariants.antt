@@ -1,7 +1,0 @@
-use denote.Text.{Utf8}
-use denote.Shadow.{shadow}
-use Rattle.tui_places.specs.AfterLine.{IsFromLine}
-use Rattle.tui_places.proofs.places.rest_from.Given as goal
-
-abbrev pub invariant-loop-line : goal.invariant-loop-line
-invariant-loop-line l = shadow (Utf8 l.rest) × IsFromLine l.width l.trim l._line l.text l.rest

@@ -1,0 +1,38 @@
+//! What the words of a program name.
+
+ghost use Rattle.std.specs.Prelude.{List, String};
+ghost use Rattle.std.specs.declared.alloc.Global.{Global};
+ghost use Rattle.tui_program.specs.Call.{call_of};
+ghost use Rattle.tui_program.specs.Endings.{EndsBy};
+ghost use Rattle.tui_program.specs.Rules.{Rules};
+ghost use Rattle.tui_program.specs.Words.{IsOnly};
+
+use crate::ending::Ending;
+use crate::leftovers::Leftovers;
+use std::alloc::Global;
+use tui_port::{Sink, Source};
+
+/// A command of a program, that words name.
+pub trait Command: Sized {
+    /// What is refused of a value that is read.
+    type Refusal: Copy;
+
+    // The words that name each command, and what it has to do.
+    ghost rules: { Rules Self Self.Refusal };
+
+    /// The one command that the words name, if they name any.
+    fn of_words(words: &[String]) -> Option<Self>
+        ensures { IsOnly (λ command. rules.named command words.now) result };
+
+    /// Runs the command: reads what it reads, and writes what is due.
+    fn run<S: Source, K: Sink>(
+        &self,
+        alloc: Global,
+        source: &mut S,
+        sink: &mut K,
+        leftovers: Leftovers,
+    ) -> Ending<Self::Refusal>
+        requires { (words : List (String Global)) × rules.named self.now words }
+        ensures { EndsBy (rules.task self.now)
+            (call_of (S.told source.old) (S.told source.new) (K.told sink.old) (K.told sink.new)) result };
+}

@@ -1,0 +1,52 @@
+//! A whole run, from the words and the bytes that are read to the bytes that are written.
+
+ghost use Rattle.tui_program.specs.Call.{call_of};
+ghost use Rattle.tui_program.specs.Runs.{IsRun, IsRunFrom};
+
+use crate::broken::Broken;
+use crate::command::Command;
+use crate::ending::Ending;
+use crate::leftovers::Leftovers;
+use crate::words::words_of;
+use crate::written::Written;
+use std::alloc::Global;
+use std::env::Args;
+use std::io;
+use tui_cells::NoMemory;
+use tui_port::{Sink, Source, put_all};
+
+/// Runs the command that the words name. Where they name none, nothing is read, and the line of the usage is written, for which
+/// no memory is wanted.
+pub fn run<C: Command + Drop, S: Source, K: Sink>(
+    alloc: Global,
+    words: &[String],
+    source: &mut S,
+    sink: &mut K,
+    leftovers: Leftovers,
+) -> Ending<C::Refusal>
+    ensures { IsRun C.rules words.now
+        (call_of (S.told source.old) (S.told source.new) (K.told sink.old) (K.told sink.new)) result }
+{
+    match C::of_words(words) {
+        Some(command) => command.run(alloc, source, sink, leftovers),
+        None => Written::Usage.if_put(put_all(sink, b"refused: usage\n")),
+    }
+}
+
+/// Runs the command that the words name, as `run` does. The words are those that the system gives; where there is no memory
+/// for them, nothing is read and nothing written. It is the last that a process does: the memory of what it read and made is left to
+/// the system.
+pub fn run_program<C: Command + Drop, S: Source, K: Sink>(
+    alloc: Global,
+    args: io::Result<Args>,
+    source: &mut S,
+    sink: &mut K,
+) -> Ending<C::Refusal>
+    ensures { IsRunFrom C.rules args
+        (call_of (S.told source.old) (S.told source.new) (K.told sink.old) (K.told sink.new)) result }
+{
+    match words_of(alloc, args) {
+        Ok(words) => run::<C, S, K>(alloc, &words, source, sink, Leftovers::Left),
+        Err(NoMemory) => Ending::Broken(Broken::NoMemory),
+    }
+}

@@ -1,9 +1,0 @@
-use Rattle.tui_report.proofs.Measured.{low_all, low_more}
-use Rattle.tui_report.proofs.measuring.first_too_tall.Goals as goal
-
-pub heights-preserved : goal.heights-preserved
-heights-preserved c =
-    low_more c.args.heights.now c.heights.place _ c.heights-test.true c.heights.invariant c.if-heights-place-gt-MOST_LINES.false
-
-pub returns : goal.returns
-returns c = low_all c.args.heights.now c.heights.place c.heights-test.false c.heights.invariant

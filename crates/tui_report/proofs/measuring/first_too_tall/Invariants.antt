@@ -1,6 +1,0 @@
-use Rattle.std.proofs.Common.{◌≤◌, All, take}
-use Rattle.tui_report.specs.Heights.{most_lines}
-use Rattle.tui_report.proofs.measuring.first_too_tall.Given as goal
-
-abbrev pub invariant-heights : goal.invariant-heights
-invariant-heights l = All (λ height. height ≤ most_lines) (take l.place l.heights)

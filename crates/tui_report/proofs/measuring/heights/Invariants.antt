@@ -1,8 +1,0 @@
-use Rattle.std.proofs.Common.{◌≡◌, map, take}
-use Rattle.tui_report.specs.Heights.{heights_of}
-use Rattle.tui_report.specs.Report.{cells_of}
-use Rattle.tui_text.specs.Width.{saturated}
-use Rattle.tui_report.proofs.measuring.heights.Given as goal
-
-abbrev pub invariant-records : goal.invariant-records
-invariant-records l = l.heights.items ≡ map saturated (heights_of l.places (map cells_of (take l.i l.records)))

@@ -1,7 +1,0 @@
-use Rattle.std.proofs.Common.{sym, ap, ◌∙◌}
-use Rattle.tui_report.specs.Pages.{all_pieces}
-use Rattle.tui_report.proofs.Keeping.{all_pieces-parts}
-use Rattle.tui_report.proofs.pages.Pages.pieces.Goals as goal
-
-pub returns : goal.returns
-returns c = c.deref.ensures.value ∙ (sym (all_pieces-parts 0 c.self.inside.ends.items c.self.inside.pieces.items c.self.invariant) ∙ ap all_pieces c.self.view_is)

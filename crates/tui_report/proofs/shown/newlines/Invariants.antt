@@ -1,9 +1,0 @@
-use Rattle.std.proofs.Common.{◌≡◌, ◌≤◌, length, take}
-use Rattle.tui_report.specs.Shown.{newlines}
-use Rattle.tui_report.proofs.shown.newlines.Given as goal
-
-abbrev pub invariant-bytes : goal.invariant-bytes
-invariant-bytes l = record {
-  counted : l.count ≡ length (newlines (take l.i l.bytes));
-  few : l.count ≤ l.i;
-}

@@ -1,8 +1,0 @@
-use Rattle.tui_port.proofs.Gathering.{Gathers-then, Gathers-writes}
-use Rattle.tui_run.specs.FieldLine.{refused_field}
-use Rattle.tui_run.proofs.field_line.put_name.Goals as goal
-
-pub returns : goal.returns
-unfolding refused_field
-returns g c =
-    Gathers-writes c.new-print.ensures (Gathers-then c.text.ensures (Gathers-then c.text-2.ensures c.text-3.ensures)) c.end.ensures.puts

@@ -1,4 +1,0 @@
-pub mod ByEnding
-pub mod Commands
-pub mod Drawn
-pub mod Showing

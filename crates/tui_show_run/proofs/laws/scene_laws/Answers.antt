@@ -1,0 +1,12 @@
+use Rattle.tui_scene.proofs.Drawn.{one_drawing}
+use Rattle.tui_show_run.proofs.Drawn.{one_demo, one_output}
+use Rattle.tui_show_run.proofs.laws.scene_laws.Goals as goal
+
+pub returns-clause-drawing : goal.returns-clause-drawing
+returns-clause-drawing c = one_drawing
+
+pub returns-clause-output : goal.returns-clause-output
+returns-clause-output c = one_output c.print_laws.ensures.print
+
+pub returns-clause-demo : goal.returns-clause-demo
+returns-clause-demo c = one_demo c.text_wraps_exactly_once.ensures

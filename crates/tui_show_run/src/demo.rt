@@ -1,0 +1,66 @@
+//! The command `demo`: a list of items beside a paragraph of words, as many of both as a number says.
+
+ghost use Rattle.std.specs.Prelude.{◌≡◌, ◌≤◌, ◌++◌, IfOk, flat_map, string_bytes};
+ghost use Rattle.tui_port.specs.Print.{row_line};
+ghost use Rattle.tui_program.specs.Endings.{AnswersWith, no_refusal, nothing};
+ghost use Rattle.tui_scene.specs.Item.{item_data};
+ghost use Rattle.tui_show_run.specs.Demo.{IsDemo, first_offset, offset_in};
+
+mod items;
+mod letters;
+mod line;
+mod scene;
+mod text;
+
+use crate::bad_field::BadField;
+use crate::demo::line::demo_line;
+use crate::demo::scene::demo_scene;
+use crate::demo::text::demo_text;
+use std::alloc::Global;
+use tui_cells::{Buffer, Mem};
+use tui_port::{Sink, write_rows};
+use tui_program::Stop;
+use tui_scene::{Item, Scene, draw_new};
+
+/// Draws the demonstration of n items and n words, and writes a line on it and the rows of its screen.
+pub(crate) fn show_demo<K: Sink>(alloc: Global, n: u32, sink: &mut K) -> Result<(), Stop<BadField>>
+    requires least { 1 ≤ n }
+    requires most { n ≤ 100000 }
+    ensures { AnswersWith (IsDemo n) nothing no_refusal (K.told sink.old) (K.told sink.new) result }
+{
+    let (line, buffer) = drawn_demo(alloc, n)?;
+    write_rows(line.as_str(), &buffer, sink)?;
+    Ok(())
+}
+
+/// The line, and the buffer whose rows follow it.
+fn drawn_demo(alloc: Global, n: u32) -> Mem<(String, Buffer)>
+    requires least { 1 ≤ n }
+    requires most { n ≤ 100000 }
+    ensures { IfOk result (λ r. IsDemo n (string_bytes r.0 ++ flat_map row_line r.1.rows)) }
+{
+    let text = demo_text(alloc, n)?;
+    let mut demo = demo_scene(alloc, n, text.as_str())?;
+    let buffer = draw_new(alloc, 40, 8, &mut demo.scene)?;
+    let line = demo_line(alloc, n, first_offset(&demo.scene), demo.lines)?;
+    Ok((line, buffer))
+}
+
+/// The first item that is shown of the list with which a scene begins.
+fn first_offset(scene: &Scene<'_>) -> usize
+    ensures { result ≡ first_offset scene.now }
+{
+    match scene.items() {
+        [first, ..] => offset_in(&first.item),
+        [] => 0,
+    }
+}
+
+fn offset_in(item: &Item<'_>) -> usize
+    ensures { result ≡ offset_in (item_data item.now) }
+{
+    match item {
+        Item::List(_, state) => state.offset(),
+        _ => 0,
+    }
+}

@@ -1,0 +1,79 @@
+//! How a run of the program ends.
+
+ghost use Rattle.std.specs.Prelude.{◌≡◌};
+
+use crate::bad_field::BadField;
+use std::process::ExitCode;
+use tui_program::{Broken, Ending, Written};
+use tui_schema::Field;
+
+/// How a run ends. Only `Ok` has written a screen whole; the endings from `Usage` to `BadField` have written one line that says so.
+#[derive(Clone, Copy, Debug, PartialEq, Eq)]
+pub enum Ended {
+    /// All was read, drawn and written.
+    Ok,
+    /// The words name no command.
+    Usage,
+    /// The input has more than 1,048,576 bytes.
+    TooLong,
+    /// The input is no JSON in UTF-8.
+    NotJson,
+    /// A field of the scene, or of the item of this number from 0, is missing or of the wrong kind.
+    BadField { item: Option<usize>, field: Field },
+    /// A read failed; nothing is written.
+    ReadFault,
+    /// A put failed; the sink holds the first bytes of the output.
+    WriteFault,
+    /// The memory was not there; nothing is written.
+    NoMemory,
+}
+
+impl From<Ending<BadField>> for Ended {
+    ghost use Rattle.tui_show_run.specs.Ended.{ending_of};
+
+    ghost from_gives = { λ ending ended. ending_of ended ≡ ending };
+
+    fn from(ending: Ending<BadField>) -> Ended {
+        match ending {
+            Ending::Written(Written::Output) => Ended::Ok,
+            Ending::Written(Written::Usage) => Ended::Usage,
+            Ending::Written(Written::TooLong) => Ended::TooLong,
+            Ending::Written(Written::NotJson) => Ended::NotJson,
+            Ending::Written(Written::Refused(BadField { item, field })) => Ended::BadField {
+                item,
+                field,
+            },
+            Ending::Broken(Broken::ReadFault) => Ended::ReadFault,
+            Ending::Broken(Broken::WriteFault) => Ended::WriteFault,
+            Ending::Broken(Broken::NoMemory) => Ended::NoMemory,
+        }
+    }
+}
+
+impl Ended {
+    ghost use Rattle.std.specs.Process.{exit_status};
+    ghost use Rattle.tui_show_run.specs.Ended.{status_of};
+
+    /// The exit status of the program.
+    pub fn status(&self) -> u8
+        ensures { result ≡ status_of self.now }
+    {
+        match self {
+            Ended::Ok => 0,
+            Ended::Usage => 2,
+            Ended::TooLong => 3,
+            Ended::NotJson => 4,
+            Ended::BadField { .. } => 5,
+            Ended::ReadFault => 6,
+            Ended::WriteFault => 7,
+            Ended::NoMemory => 8,
+        }
+    }
+
+    /// The exit status, as `main` answers it.
+    pub fn exit_code(&self) -> ExitCode
+        ensures { exit_status result ≡ status_of self.now }
+    {
+        ExitCode::from(self.status())
+    }
+}

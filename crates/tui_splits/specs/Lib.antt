@@ -1,5 +1,0 @@
-pub mod Draw
-pub mod Laws
-pub mod Order
-pub mod Panes
-pub mod Replace

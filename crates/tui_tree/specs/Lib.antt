@@ -1,4 +1,0 @@
-pub mod Laws
-pub mod Levels
-pub mod Pane
-pub mod Place

@@ -1,8 +1,0 @@
-use Rattle.tui_viewer.proofs.BodyPlaces.{rest_drawn, rest_is}
-use Rattle.tui_viewer.proofs.drawing.draw_body.Goals as goal
-
-pub returns-then-at-places : goal.returns-then-at-places
-returns-then-at-places c =
-    rest_drawn c.draw_lines.result c.args.width c.args.height c.args.line c.args.body.now c.range_from.result.now c.args.buf.now c.draw_lines.new.buf
-    (rest_is c.args.width _ c.args.line c.args.body.now c.range_from.result.now c.args.places.now c.requires.places c.if-at-places.true c.from-at.ensures
-    c.range_from.ensures.value) c.draw_lines.ensures

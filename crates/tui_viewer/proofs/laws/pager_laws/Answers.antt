@@ -1,6 +1,0 @@
-use Rattle.tui_viewer.proofs.OneScreen.{one_screen}
-use Rattle.tui_viewer.proofs.Sound.{stays_sound, selected_is_seen}
-use Rattle.tui_viewer.proofs.laws.pager_laws.Goals as goal
-
-pub returns : goal.returns
-returns c = record { sound = stays_sound; seen = selected_is_seen; screen = one_screen }

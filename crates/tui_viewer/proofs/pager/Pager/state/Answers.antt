@@ -1,8 +1,0 @@
-use Rattle.std.proofs.Common.{subst}
-use Rattle.tui_viewer.specs.Laws.{IsSoundPager}
-use Rattle.tui_viewer.specs.Pager.{PagerData}
-use Rattle.tui_viewer.proofs.Sound.{sees_selected}
-use Rattle.tui_viewer.proofs.pager.Pager.state.Goals as goal
-
-pub returns-clause-seen : goal.returns-clause-seen
-returns-clause-seen c = sees_selected c.args.self.now (subst (λ (p : PagerData). IsSoundPager p) c.self.view_is c.self.invariant.sound)
