@@ -64,17 +64,20 @@ use Rattle.tui_para.specs.Strokes.{glyph_layers, glyph_line_layers, glyph_lines_
 use Rattle.tui_para.specs.Truncated.{fitting_prefix}
 use Rattle.tui_para.specs.Wrapped.{not_wider}
 use Rattle.tui_para.specs.WrappedText.{truncate_text}
-use Rattle.tui_text.specs.Grapheme.{Glyph, glyph_width, width_of}
-use Rattle.tui_text.specs.Graphemes.{clusters, glyph_in}
+use Rattle.tui_clusters.specs.Width.{width_of}
+use Rattle.tui_text.specs.Grapheme.{Glyph, glyph_width}
+use Rattle.tui_clusters.specs.Shown.{clusters}
+use Rattle.tui_text.specs.Graphemes.{glyph_in}
 use Rattle.tui_text.specs.Painting.{cells_at}
-use Rattle.tui_text.specs.Part.{IsSeam, is_printable}
+use Rattle.tui_clusters.specs.Plain.{IsSeam}
+use Rattle.tui_clusters.specs.Printable.{is_printable}
 use Rattle.tui_text.specs.Setting.{set_cluster, set_clusters, set_layers, spans_layers, styled_text}
 use Rattle.tui_text.specs.Text.{raw_text, text_lines}
 use Rattle.tui_text.specs.Line.{raw_line}
 use Rattle.tui_text.specs.declared.alignment.Alignment.TheVariants.{Right}
-use Rattle.tui_text.proofs.EmptyText.{clusters-nil}
+use Rattle.tui_clusters.proofs.EmptyText.{clusters-nil}
 use Rattle.tui_text.proofs.LightTexts.{both_printable, decimal_printable}
-use Rattle.tui_text.proofs.OneByte.{printable_width}
+use Rattle.tui_clusters.proofs.OneByte.{printable_width}
 use Rattle.tui_text.proofs.PartClusters.{graphemes-part, shown-one}
 use Rattle.tui_pages_lib.specs.Strokes.{drawn_in, number_of, right_paragraph}
 

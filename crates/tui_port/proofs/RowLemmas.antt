@@ -11,11 +11,11 @@ use Rattle.std.proofs.lemmas.Str.{chars-IsAscii}
 use Rattle.std.proofs.lemmas.Bool.Decides.{nat_tests}
 use Rattle.unicode_width.proofs.Rules.{str_width-printable}
 use Rattle.tui_cells.specs.Cell.{Look}
-use Rattle.tui_text.specs.Grapheme.{width_of, columns_of}
+use Rattle.tui_clusters.specs.Width.{width_of, columns_of}
 use Rattle.tui_port.specs.Print.{symbols_from, symbols_of}
-use Rattle.tui_text.specs.Plain.{IsLetter}
+use Rattle.tui_clusters.specs.Plain.{IsLetter}
 use Rattle.tui_text.specs.Visible.{step_of}
-use Rattle.tui_text.proofs.Letters.{letter_width}
+use Rattle.tui_clusters.proofs.Widths.{letter_width}
 use Rattle.tui_text.proofs.ShownCells.{none_visible, visible_next}
 
 -- a cell that shows, and what comes behind its columns
