@@ -9,7 +9,7 @@ mod places;
 mod rest;
 
 pub use lines::Lines;
-pub use part::first_part;
+pub use part::{first_part, is_behind_newline};
 pub use places::{from_line, line_places};
 pub use rest::after_line;
 pub use tui_clusters::clusters_go_on;

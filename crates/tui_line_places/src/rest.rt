@@ -5,8 +5,8 @@ ghost use Rattle.std.specs.Str.{IsUtf8};
 ghost use Rattle.tui_line_places.specs.AfterLine.{IsAfterLine, IsOneLine};
 
 use crate::graphemes::{Next, next_grapheme};
-use crate::lines::Lines;
 use crate::line::{line_end, line_start, past_blanks};
+use crate::lines::Lines;
 
 /// The text from where its second line begins, where it is wrapped; None where it has only one line. The work is that of the line and
 /// of what is read ahead for its end. It takes no memory.
