@@ -11,7 +11,7 @@ use crate::entry::Entry;
 use std::alloc::Global;
 use tui_cells::Mem;
 use tui_frames::Block;
-use tui_line_places::line_places;
+use tui_line_places::{Lines, line_places};
 use tui_para::{Paragraph, Wrap};
 use tui_text::Text;
 
@@ -52,7 +52,13 @@ pub(crate) fn selected_places(
     let body = selected_body(entries, selected);
     match selected {
         None => Ok(Vec::new(alloc)),
-        Some(_) => line_places(alloc, body, width - width / 3 - 2, true),
+        Some(_) => {
+            let lines = Lines {
+                width: width - width / 3 - 2,
+                trim: true,
+            };
+            line_places(alloc, body, lines)
+        }
     }
 }
 

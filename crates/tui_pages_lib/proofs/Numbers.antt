@@ -45,8 +45,6 @@ use Rattle.std.proofs.lemmas.List.{length-take, take_min}
 use Rattle.std.proofs.lemmas.List.Elements.{All-cons}
 use Rattle.std.proofs.lemmas.List.Splits.{slice_split_none}
 use Rattle.std.proofs.lemmas.List.Sums.{sum_by-cons}
-use Rattle.std.proofs.lemmas.Str.{IsUtf8-from_ascii}
-use Rattle.std.specs.Str.{IsAscii}
 use Rattle.tui_cells.specs.Buffer.{Screen}
 use Rattle.tui_cells.specs.Cell.{Look, blank, dress, dressed, put, wipe}
 use Rattle.tui_cells.specs.Layers.{KeptOutside, Painted, at_place, layers_at, stroke}
@@ -64,52 +62,33 @@ use Rattle.tui_para.specs.Strokes.{glyph_layers, glyph_line_layers, glyph_lines_
 use Rattle.tui_para.specs.Truncated.{fitting_prefix}
 use Rattle.tui_para.specs.Wrapped.{not_wider}
 use Rattle.tui_para.specs.WrappedText.{truncate_text}
-use Rattle.tui_text.specs.Grapheme.{Glyph, glyph_width, width_of}
-use Rattle.tui_text.specs.Graphemes.{clusters, glyph_in}
+use Rattle.tui_clusters.specs.Width.{width_of}
+use Rattle.tui_text.specs.Grapheme.{Glyph, glyph_width}
+use Rattle.tui_clusters.specs.Shown.{clusters}
+use Rattle.tui_text.specs.Graphemes.{glyph_in}
 use Rattle.tui_text.specs.Painting.{cells_at}
-use Rattle.tui_text.specs.Part.{IsSeam, is_printable}
+use Rattle.tui_clusters.specs.Printable.{is_printable}
 use Rattle.tui_text.specs.Setting.{set_cluster, set_clusters, set_layers, spans_layers, styled_text}
 use Rattle.tui_text.specs.Text.{raw_text, text_lines}
 use Rattle.tui_text.specs.Line.{raw_line}
 use Rattle.tui_text.specs.declared.alignment.Alignment.TheVariants.{Right}
-use Rattle.tui_text.proofs.EmptyText.{clusters-nil}
+use Rattle.tui_clusters.proofs.Runs.{printable_clusters}
 use Rattle.tui_text.proofs.LightTexts.{both_printable, decimal_printable}
-use Rattle.tui_text.proofs.OneByte.{printable_width}
-use Rattle.tui_text.proofs.PartClusters.{graphemes-part, shown-one}
+use Rattle.tui_clusters.proofs.OneByte.{byte_width, printable_range}
 use Rattle.tui_pages_lib.specs.Strokes.{drawn_in, number_of, right_paragraph}
 
 abbrev IsPrintable : List ℕ → Type 0
 IsPrintable text = list_all is_printable text ≡ true
 
-printable_range : (b : ℕ) → is_printable b ≡ true → (32 ≤ b) × (b ≤ 126)
-printable_range b e = (grind (arith, nat_tests), grind (arith, nat_tests))
-
 first_printable : (b : ℕ) (text : List ℕ) → IsPrintable (b ∷ text) → (is_printable b ≡ true) × IsPrintable text
 first_printable b text e = and_parts (is_printable b) (list_all is_printable text) e
-
-is_ascii : (text : List ℕ) → IsPrintable text → IsAscii text
-is_ascii [] e i = omega arith
-is_ascii (b ∷ text) e zero = let r = printable_range b (first_printable b text e).0 in omega arith
-is_ascii (b ∷ text) e (suc i) = is_ascii text (first_printable b text e).1 i
 
 -- each byte by itself
 abbrev ones : List ℕ → List (List ℕ)
 ones text = map (λ b. b ∷ []) text
 
-first_seam : (b : ℕ) (text : List ℕ) → IsPrintable (b ∷ text) → 1 < length (b ∷ text) → IsSeam (b ∷ text) 1
-first_seam b [] e more = absurd (omega arith)
-first_seam b (c ∷ text) e more =
-    let both = first_printable b (c ∷ text) e in
-    record { before = both.0; after = (first_printable c text both.1).0 }
-
 clusters_are : (text : List ℕ) → IsPrintable text → clusters text ≡ ones text
-clusters_are [] e = clusters-nil
-clusters_are (b ∷ text) e =
-    let both = first_printable b text e in
-    let range = printable_range b both.0 in
-    shown-one [] [] (b ∷ text) (b ∷ []) text b refl refl
-    (graphemes-part (b ∷ text) 1 (IsUtf8-from_ascii (b ∷ text) (is_ascii (b ∷ text) e)) (omega arith) (omega arith) (first_seam b text e)) refl range.0 range.1
-    ∙ ap (λ cs. (b ∷ []) ∷ cs) (clusters_are text both.1)
+clusters_are text e = printable_clusters text e
 
 -- the text is one line
 no_newline : (text : List ℕ) → IsPrintable text → All (λ b. (b == 10) ≡ false) text
@@ -126,8 +105,7 @@ one_line (b ∷ text) e some =
     ap lines_of_parts (slice_split_none (λ c. c == 10) (b ∷ text) (no_newline (b ∷ text) e)) ∙ ap (λ t. if t then [] else (b ∷ text) ∷ []) size
 
 one_column : (b : ℕ) → is_printable b ≡ true → width_of (b ∷ []) ≡ 1
-unfolding width_of
-one_column b e = let range = printable_range b e in printable_width false (b ∷ []) b refl range.0 range.1
+one_column b e = byte_width b e
 
 abbrev glyphs : List ℕ → List Glyph
 glyphs text = map (glyph_in no_style) (ones text)

@@ -20,7 +20,7 @@ ghost use Rattle.tui_pages_lib.specs.Strokes.{
   plain,
   right_paragraph,
 };
-ghost use Rattle.tui_text.specs.Part.{is_printable};
+ghost use Rattle.tui_clusters.specs.Printable.{is_printable};
 
 use crate::column::Column;
 use crate::measuring::cell_paragraph;

@@ -13,7 +13,7 @@ use Rattle.tui_para.specs.declared.counting.counter.Counter.{Counter}
 use Rattle.tui_para.specs.declared.wrap.Wrap.{Wrap}
 use Rattle.tui_para.specs.declared.wrapping.hyphenation.Hyphenation.{Hyphenation}
 use Rattle.tui_para.specs.declared.wrapping.mark.Mark.{Mark}
-use Rattle.tui_text.specs.Width.{saturated}
+use Rattle.tui_clusters.specs.Width.{saturated}
 use Rattle.tui_para.proofs.WithCuts.{marked_is}
 
 -- a step doesn't look at the number of lines

@@ -4,18 +4,13 @@ use Rattle.std.proofs.lemmas.List.{append-nil, length-set, take_more_set}
 use Rattle.std.proofs.lemmas.Grind.{flat_map-append}
 use Rattle.std.proofs.lemmas.List.Concat.{flat_map-cons}
 use Rattle.std.proofs.Math.Seq.{take-suc}
-use Rattle.std.specs.List.{list_all}
-use Rattle.std.specs.Int.{is_in_range}
-use Rattle.std.specs.Str.{chars}
-use Rattle.std.proofs.lemmas.Str.{chars-IsAscii}
-use Rattle.std.proofs.lemmas.Bool.Decides.{nat_tests}
-use Rattle.unicode_width.proofs.Rules.{str_width-printable}
 use Rattle.tui_cells.specs.Cell.{Look}
-use Rattle.tui_text.specs.Grapheme.{width_of, columns_of}
+use Rattle.tui_clusters.specs.Width.{width_of}
 use Rattle.tui_port.specs.Print.{symbols_from, symbols_of}
-use Rattle.tui_text.specs.Plain.{IsLetter}
+use Rattle.tui_clusters.specs.Plain.{IsLetter}
 use Rattle.tui_text.specs.Visible.{step_of}
-use Rattle.tui_text.proofs.Letters.{letter_width}
+use Rattle.tui_clusters.proofs.OneByte.{printable_width}
+use Rattle.tui_clusters.proofs.Widths.{letter_width}
 use Rattle.tui_text.proofs.ShownCells.{none_visible, visible_next}
 
 -- a cell that shows, and what comes behind its columns
@@ -64,15 +59,10 @@ three_more row piece text (a ∷ b ∷ c ∷ []) rest at next len room is before
 pub row_end : (row : List Look) (i : ℕ) → length row ≤ i → symbols_from row i ≡ []
 row_end row i le = ap symbols_of (none_visible row i i le)
 
-range : (b : ℕ) → 32 ≤ b → b ≤ 126 → list_all (is_in_range 0x20 0x7E) (b ∷ []) ≡ true
-range b low high = grind (arith, nat_tests)
-
 -- a printable byte takes one column
 pub one_byte : (b : ℕ) → 32 ≤ b → b ≤ 126 → step_of (b ∷ []) ≡ 1
-unfolding step_of width_of columns_of
-one_byte b low high =
-    let as_is : chars (b ∷ []) ≡ b ∷ [] = chars-IsAscii (b ∷ []) (search (rules, arith)) in
-    rw (as_is, str_width-printable false (b ∷ []) (range b low high)) refl
+unfolding step_of width_of
+one_byte b low high = rw (printable_width false (b ∷ []) b refl low high) refl
 
 -- a letter of two bytes takes one column
 pub letter_step : (s : List ℕ) → IsLetter s → step_of s ≡ 1

@@ -8,8 +8,9 @@ use Rattle.tui_cells.specs.Layers.{StayIn}
 use Rattle.tui_cells.specs.Rect.{bottom_of, covers, right_of}
 use Rattle.tui_cells.specs.Stays.{StayIn-append, StayIn-none}
 use Rattle.tui_cells.proofs.Regions.{StayIn-wider}
-use Rattle.tui_text.specs.Grapheme.{width_of}
-use Rattle.tui_text.specs.Graphemes.{clusters, glyph_in}
+use Rattle.tui_clusters.specs.Width.{width_of}
+use Rattle.tui_clusters.specs.Shown.{clusters}
+use Rattle.tui_text.specs.Graphemes.{glyph_in}
 use Rattle.tui_text.specs.Painting.{cells_at, glyph_at}
 use Rattle.tui_text.specs.Setting.{room_in, set_cluster, set_clusters, set_end, set_layers, spans_layers}
 use Rattle.tui_text.specs.Span.{SpanData}

@@ -9,9 +9,9 @@ use Rattle.tui_cells.specs.Buffer.{Screen}
 use Rattle.tui_cells.specs.Layers.{KeptOutside, Layer, Painted}
 use Rattle.tui_cells.specs.Rect.{covers, right_of}
 use Rattle.tui_cells.proofs.Painting.{KeptOutside-weaker, Painted-none, Painted-then}
-use Rattle.tui_text.specs.Grapheme.{width_of}
+use Rattle.tui_clusters.specs.Width.{width_of}
 use Rattle.tui_text.specs.Painting.{cells_at}
-use Rattle.tui_text.specs.Graphemes.{clusters}
+use Rattle.tui_clusters.specs.Shown.{clusters}
 use Rattle.tui_text.specs.Setting.{room_in, set_cluster, set_clusters, set_column, set_end, set_layers, set_part, spans_end, spans_layers}
 use Rattle.tui_text.specs.Span.{SpanData}
 

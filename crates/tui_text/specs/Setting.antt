@@ -7,8 +7,9 @@ use Rattle.tui_cells.specs.Cell.{IsLight}
 use Rattle.tui_cells.specs.Layers.{Layer}
 use Rattle.tui_cells.specs.Rect.{covers, right_of}
 use Rattle.tui_cells.specs.Style.{patched}
-use Rattle.tui_text.specs.Grapheme.{width_of}
-use Rattle.tui_text.specs.Graphemes.{clusters, glyph_in}
+use Rattle.tui_clusters.specs.Width.{width_of}
+use Rattle.tui_clusters.specs.Shown.{clusters}
+use Rattle.tui_text.specs.Graphemes.{glyph_in}
 use Rattle.tui_text.specs.Line.{LineData}
 use Rattle.tui_text.specs.Painting.{cells_at, glyph_at}
 use Rattle.tui_text.specs.Span.{SpanData}

@@ -5,11 +5,12 @@ ghost use Rattle.tui_cells.specs.Buffer.{Screen};
 ghost use Rattle.tui_cells.specs.Cell.{IsLight};
 ghost use Rattle.tui_cells.specs.Layers.{KeptOutside, Painted, ascii_layers};
 ghost use Rattle.tui_cells.specs.Rect.{covers, intersection_of, right_of, farthest_edge};
-ghost use Rattle.tui_text.specs.Grapheme.{width_of};
-ghost use Rattle.tui_text.specs.Graphemes.{clusters, clusters_left};
+ghost use Rattle.tui_clusters.specs.Width.{width_of};
+ghost use Rattle.tui_clusters.specs.Clusters.{clusters_left};
+ghost use Rattle.tui_clusters.specs.Shown.{clusters};
 ghost use Rattle.tui_text.specs.Line.{line_data};
 ghost use Rattle.tui_text.specs.Painting.{cells_at};
-ghost use Rattle.tui_text.specs.Plain.{IsPlainChar};
+ghost use Rattle.tui_clusters.specs.Plain.{IsPlainChar};
 ghost use Rattle.tui_text.specs.Span.{span_data};
 ghost use Rattle.tui_text.specs.Setting.{
   AreLight,
@@ -27,14 +28,12 @@ ghost use Rattle.tui_text.specs.Setting.{
   styled_text,
 };
 
-use crate::clusters::{Clusters, split_run};
 use crate::grapheme::StyledGrapheme;
 use crate::line::Line;
-use crate::plain::is_plain_char;
 use crate::row::put_glyph;
 use crate::span::Span;
-use crate::width::cell_width;
 use tui_cells::{Buffer, Mem, Position, Rect, Style};
+use tui_clusters::{Clusters, cell_width, is_plain_char, split_run};
 
 /// Puts a grapheme of a width in its columns, if it has any. Always inlined, as it is a step of the loop over graphemes.
 #[inline(always)]

@@ -1,6 +1,6 @@
 use Rattle.std.proofs.Common.{◌≡◌, ◌<◌, ◌++◌, true, length, ap, sym, ◌∙◌, subst, arith}
 use Rattle.std.specs.List.{list_all}
-use Rattle.tui_text.specs.Part.{is_printable}
+use Rattle.tui_clusters.specs.Printable.{is_printable}
 use Rattle.tui_pages_lib.specs.Strokes.{number_of}
 use Rattle.tui_pages_lib.proofs.Numbers.{number_printable, number_some}
 use Rattle.tui_pages_lib.proofs.drawing.draw_number.Goals as goal

@@ -1,8 +1,9 @@
 use Rattle.std.proofs.Common.{◌≡◌, ◌∙◌, arith, length, refl, rules, sym}
 use Rattle.tui_cells.proofs.Painting.{KeptOutside-then}
 use Rattle.tui_text.proofs.Elements.{if_ok, on_ok}
-use Rattle.tui_text.proofs.LightTexts.{printable_ascii}
-use Rattle.tui_text.proofs.Runs.{clusters-none, end_spelt, kept_spelt, light_behind, set_spelt}
+use Rattle.tui_clusters.proofs.OneByte.{printable_ascii}
+use Rattle.tui_clusters.proofs.EmptyText.{clusters-none}
+use Rattle.tui_text.proofs.Runs.{end_spelt, kept_spelt, light_behind, set_spelt}
 use Rattle.tui_text.proofs.Settings.{end_none, kept_in, set_none}
 use Rattle.tui_text.proofs.setting.set_clusters.Goals as goal
 

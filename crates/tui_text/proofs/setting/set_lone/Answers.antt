@@ -1,7 +1,7 @@
 use Rattle.std.proofs.Common.{[], All, arith, refl, subst, sym, ◌+◌, ◌∙◌}
 use Rattle.std.proofs.lemmas.List.Elements.{All-head}
 use Rattle.tui_cells.specs.Cell.{IsLight}
-use Rattle.tui_text.proofs.PlainParts.{lone_cluster}
+use Rattle.tui_clusters.proofs.Seams.{lone_cluster}
 use Rattle.tui_text.proofs.Settings.{end_more, end_none, end_stop, set_more, set_none, set_stop}
 use Rattle.tui_text.proofs.setting.set_lone.Goals as goal
 

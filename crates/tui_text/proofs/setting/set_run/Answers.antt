@@ -1,6 +1,7 @@
 use Rattle.std.proofs.Common.{rules}
-use Rattle.tui_text.proofs.LightTexts.{printable_ascii}
-use Rattle.tui_text.proofs.Runs.{end_spelt, fewer_behind, kept_spelt, light_behind, set_spelt}
+use Rattle.tui_clusters.proofs.OneByte.{printable_ascii}
+use Rattle.tui_clusters.proofs.Runs.{fewer_behind}
+use Rattle.tui_text.proofs.Runs.{end_spelt, kept_spelt, light_behind, set_spelt}
 use Rattle.tui_text.proofs.setting.set_run.Goals as goal
 
 pub set_bytes-requires : goal.set_bytes-requires

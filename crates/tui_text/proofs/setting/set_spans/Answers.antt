@@ -1,7 +1,7 @@
 use Rattle.std.proofs.Common.{All, ap, arith, map, refl, sym, ◌∙◌}
 use Rattle.tui_cells.specs.Cell.{IsLight}
 use Rattle.tui_cells.proofs.Painting.{KeptOutside-then}
-use Rattle.tui_text.specs.Graphemes.{clusters}
+use Rattle.tui_clusters.specs.Shown.{clusters}
 use Rattle.tui_text.specs.Setting.{in_line}
 use Rattle.tui_text.specs.Span.{span_data}
 use Rattle.tui_text.proofs.Elements.{none_from, seen_at, seen_twice_from}

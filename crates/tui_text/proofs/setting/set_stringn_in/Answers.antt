@@ -1,7 +1,7 @@
 use Rattle.std.proofs.Common.{All, [], rules, sym, ◌∙◌}
 use Rattle.std.proofs.lemmas.List.Elements.{All-head}
 use Rattle.tui_cells.specs.Cell.{IsLight}
-use Rattle.tui_text.specs.Graphemes.{clusters}
+use Rattle.tui_clusters.specs.Shown.{clusters}
 use Rattle.tui_text.proofs.Elements.{if_ok, on_ok}
 use Rattle.tui_text.proofs.Settings.{column_in, kept_in_clip, kept_part, one_end, one_span, set_in}
 use Rattle.tui_text.proofs.setting.set_stringn_in.Goals as goal
