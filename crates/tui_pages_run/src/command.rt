@@ -11,7 +11,7 @@ use crate::refusal::{PagesRefusal, put_refusal};
 use serde_json::Value;
 use std::alloc::Global;
 use tui_json::InputError;
-use tui_port::{Sink, WriteFault};
+use tui_outside::{Sink, WriteFault};
 use tui_program::{Job, Leftovers, Reader, Stop, are_none, is_word};
 
 /// A command of the program. Each reads a report.
@@ -40,11 +40,11 @@ impl Reader for PagesCommand {
 }
 
 impl Job for PagesCommand {
-    ghost use Rattle.tui_pages_run.specs.Rules.{pages_reading};
+    ghost use Rattle.tui_pages_run.specs.Rules.{pages_job};
 
     type Refusal = PagesRefusal;
 
-    ghost reading = { pages_reading };
+    ghost job_rules = { pages_job };
 
     fn answer<K: Sink>(
         &self,

@@ -4,7 +4,7 @@ use Rattle.tui_cells.specs.declared.rect.Rect.{Rect}
 use Rattle.tui_cells.specs.Buffer.{IsFilled, IsScreen, Screen}
 use Rattle.tui_cells.specs.Cell.{blank}
 use Rattle.tui_cells.specs.Rect.{area_of}
-use Rattle.tui_port.specs.Print.{IsPrint}
+use Rattle.tui_print.specs.Print.{IsPrint}
 use Rattle.tui_scene.specs.Item.{PlacedData, placed_after}
 use Rattle.tui_scene.specs.Laws.{Draws}
 use Rattle.tui_scene.specs.Scene.{Run, placed_at}

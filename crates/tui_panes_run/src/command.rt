@@ -17,7 +17,8 @@ use serde_json::Value;
 use std::alloc::Global;
 use tui_cells::Position;
 use tui_json::InputError;
-use tui_port::{Sink, WriteFault, write_screen};
+use tui_outside::{Sink, WriteFault};
+use tui_print::write_screen;
 use tui_program::{Job, Leftovers, Numerals, Reader, Stop, are_none, is_word, numbers_after};
 
 /// A command of the program. Each reads a tree of panes and changes.
@@ -58,11 +59,11 @@ impl Reader for PanesCommand {
 }
 
 impl Job for PanesCommand {
-    ghost use Rattle.tui_panes_run.specs.Rules.{panes_reading};
+    ghost use Rattle.tui_panes_run.specs.Rules.{panes_job};
 
     type Refusal = PanesRefusal;
 
-    ghost reading = { panes_reading };
+    ghost job_rules = { panes_job };
 
     fn answer<K: Sink>(
         &self,

@@ -1,10 +1,10 @@
 //! What is refused.
 
-ghost use Rattle.tui_port.specs.Causes.{Writes};
+ghost use Rattle.tui_outside.specs.Causes.{Writes};
 ghost use Rattle.tui_panes_run.specs.Refusals.{refusal_line};
 
 use crate::field::PaneField;
-use tui_port::{Sink, WriteFault};
+use tui_outside::{Sink, WriteFault};
 use tui_program::put_refused_in_scene;
 use tui_schema::Field;
 

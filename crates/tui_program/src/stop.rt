@@ -8,7 +8,7 @@ use crate::ending::Ending;
 use crate::written::Written;
 use std::alloc::{AllocError, AllocFailed};
 use tui_cells::NoMemory;
-use tui_port::WriteFault;
+use tui_outside::WriteFault;
 
 /// Why a command did not write its output whole, once its input was read.
 #[derive(Clone, Copy, Debug, PartialEq, Eq)]

@@ -8,7 +8,8 @@ use crate::bad_field::BadField;
 use crate::demo::show_demo;
 use serde_json::Value;
 use std::alloc::Global;
-use tui_port::{Sink, Source, WriteFault, write_screen};
+use tui_outside::{Sink, Source, WriteFault};
+use tui_print::write_screen;
 use tui_program::{
     Command, Ending, Job, Leftovers, Numerals, Stop, is_word, number_after, put_refused_in_scene,
     run_json, told,
@@ -62,11 +63,11 @@ impl Command for ShowCommand {
 }
 
 impl Job for ShowCommand {
-    ghost use Rattle.tui_show_run.specs.Endings.{scene_reading};
+    ghost use Rattle.tui_show_run.specs.Endings.{scene_job};
 
     type Refusal = BadField;
 
-    ghost reading = { λ _. scene_reading };
+    ghost job_rules = { λ _. scene_job };
 
     fn answer<K: Sink>(
         &self,

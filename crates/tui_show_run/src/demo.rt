@@ -1,7 +1,7 @@
 //! The command `demo`: a list of items beside a paragraph of words, as many of both as a number says.
 
 ghost use Rattle.std.specs.Prelude.{◌≡◌, ◌≤◌, ◌++◌, IfOk, flat_map, string_bytes};
-ghost use Rattle.tui_port.specs.Print.{row_line};
+ghost use Rattle.tui_rows.specs.RowLine.{row_line};
 ghost use Rattle.tui_program.specs.Endings.{AnswersWith, no_refusal, nothing};
 ghost use Rattle.tui_scene.specs.Item.{item_data};
 ghost use Rattle.tui_show_run.specs.Demo.{IsDemo, first_offset, offset_in};
@@ -18,7 +18,8 @@ use crate::demo::scene::demo_scene;
 use crate::demo::text::demo_text;
 use std::alloc::Global;
 use tui_cells::{Buffer, Mem};
-use tui_port::{Sink, write_rows};
+use tui_outside::Sink;
+use tui_rows::write_rows;
 use tui_program::Stop;
 use tui_scene::{Item, Scene, draw_new};
 
