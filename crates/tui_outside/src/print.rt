@@ -10,7 +10,7 @@ use crate::sink::{Sink, WriteFault};
 use itoa::Buffer as Digits;
 use std::marker::Model;
 
-/// How many bytes are gathered at most. Every piece that is put has so many bytes or more, but for
+/// How many bytes are gathered at most. Every piece that is put has `ROOM` bytes or more, but for
 /// the last one before an `end`.
 const ROOM: usize = 8192;
 

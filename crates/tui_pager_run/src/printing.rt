@@ -10,8 +10,8 @@ ghost use Rattle.tui_cells.specs.Buffer.{Screen};
 
 use crate::run::Run;
 use tui_cells::Buffer;
-use tui_pager_lib::PagerState;
 use tui_outside::{Print, Sink, WriteFault};
+use tui_pager_lib::PagerState;
 use tui_print::put_runs;
 use tui_rows::put_rows;
 

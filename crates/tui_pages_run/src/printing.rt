@@ -11,8 +11,8 @@ ghost use Rattle.tui_pages_run.specs.Printed.{AreAllPages, AreFewerPages, ShowsH
 use crate::refusal::PagesRefusal;
 use std::alloc::Global;
 use tui_cells::{Buffer, Mem, NoMemory, Rect};
-use tui_pages_lib::Report;
 use tui_outside::{Print, Sink, WriteFault};
+use tui_pages_lib::Report;
 use tui_program::Stop;
 use tui_rows::put_rows;
 

@@ -16,7 +16,7 @@ at_rest = attributes_of blank
 abbrev pub attributes_at : List Look → ℕ → Option Attributes
 attributes_at row column = option_map attributes_of (slice_get row column)
 
--- so many cells from a column on, and the attributes of each
+-- `len` cells from a column on, and the attributes of each
 pub record StyleRun : Type 0 where
   pub start : ℕ
   pub len : ℕ

@@ -5,7 +5,7 @@ ghost use Rattle.tui_program.specs.Words.{HaveNumber, HaveNumbers, IsOnly, Write
 
 use crate::words::begin;
 
-/// Which numbers a word may write: in decimal digits of ASCII alone, so many at most, and within two bounds.
+/// Which numbers a word may write: in decimal digits of ASCII alone, at most `digits` of them, and within two bounds.
 #[derive(Clone, Copy, Debug, PartialEq, Eq)]
 pub struct Numerals {
     /// The most digits that the word may have, zeros before the number included.

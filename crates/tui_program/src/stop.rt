@@ -66,7 +66,7 @@ impl<R, T: Drop> From<AllocFailed<T>> for Stop<R> {
 }
 
 /// How a run ends after this answer of a command that read nothing.
-pub fn told<R: Copy>(answer: Result<(), Stop<R>>) -> Ending<R>
+pub fn ending_after<R: Copy>(answer: Result<(), Stop<R>>) -> Ending<R>
     ensures { result ≡ ending_after answer }
 {
     match answer {

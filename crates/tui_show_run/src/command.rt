@@ -11,8 +11,8 @@ use std::alloc::Global;
 use tui_outside::{Sink, Source, WriteFault};
 use tui_print::write_screen;
 use tui_program::{
-    Command, Ending, Job, Leftovers, Numerals, Stop, is_word, number_after, put_refused_in_scene,
-    run_json, told,
+    Command, Ending, Job, Leftovers, Numerals, Stop, ending_after, is_word, number_after,
+    put_refused_in_scene, run_json,
 };
 use tui_scene::draw_new;
 use tui_schema::{Reading, SceneError, scene_of};
@@ -57,7 +57,7 @@ impl Command for ShowCommand {
     ) -> Ending<BadField> {
         match self {
             ShowCommand::Scene => run_json(self, alloc, source, sink, leftovers),
-            ShowCommand::Demo(n) => told(show_demo(alloc, *n, sink)),
+            ShowCommand::Demo(n) => ending_after(show_demo(alloc, *n, sink)),
         }
     }
 }

@@ -19,8 +19,8 @@ use crate::demo::text::demo_text;
 use std::alloc::Global;
 use tui_cells::{Buffer, Mem};
 use tui_outside::Sink;
-use tui_rows::write_rows;
 use tui_program::Stop;
+use tui_rows::write_rows;
 use tui_scene::{Item, Scene, draw_new};
 
 /// Draws the demonstration of n items and n words, and writes a line on it and the rows of its screen.
