@@ -1,7 +1,6 @@
 //! The states of widgets.
 
 ghost use Rattle.tui_outside.specs.Gathers.{Gathers};
-ghost use Rattle.tui_outside.specs.Texts.{place_or_dash};
 ghost use Rattle.tui_print.specs.Print.{state_line, state_lines, state_text};
 ghost use Rattle.tui_scene.specs.Item.{item_data};
 
