@@ -9,7 +9,7 @@ use Rattle.tui_program.specs.declared.numerals.Numerals.{Numerals}
 use Rattle.tui_panes_run.specs.Found.{IsFound}
 use Rattle.tui_panes_run.specs.Input.{InputData, input_of}
 use Rattle.tui_panes_run.specs.Refusals.{refusal_line}
-use Rattle.tui_panes_run.specs.Shown.{IsShown}
+use Rattle.tui_panes_run.specs.Shown.{ArePanesShown}
 use Rattle.tui_panes_run.specs.declared.command.PanesCommand.{PanesCommand}
 use Rattle.tui_panes_run.specs.declared.command.PanesCommand.TheVariants as command
 use Rattle.tui_panes_run.specs.declared.order.Order.TheVariants as order
@@ -27,7 +27,7 @@ Names (command.At x y) words = HaveNumbers (codes "at") places x y words
 
 -- what a command writes
 abbrev pub IsWritten : PanesCommand → InputData → List ℕ → Type 0
-IsWritten (command.Draw order) input text = IsShown order input text
+IsWritten (command.Draw order) input text = ArePanesShown order input text
 IsWritten (command.At x y) input text = IsFound x y input text
 
 -- what a command does with a value: nothing is written before all is drawn

@@ -5,14 +5,12 @@ use Rattle.tui_program.specs.Transcript.{Transcript, Unread}
 use Rattle.tui_program.specs.Endings as frame
 use Rattle.tui_program.specs.declared.written.Written.{Written}
 use Rattle.tui_program.specs.declared.written.Written.TheVariants as written
-use Rattle.tui_schema.specs.Refusals.{Refusal}
-use Rattle.tui_schema.specs.Scene.{SceneData, scene_of}
 use Rattle.tui_show_run.specs.ByEnding.{EndsFor, IsDue, SaysTheSame}
 use Rattle.tui_show_run.specs.Commands.{AreDemo, AreScene, AreWrong, Names}
 use Rattle.tui_show_run.specs.Demo.{IsDemo}
 use Rattle.tui_show_run.specs.Ended.{ending_of}
-use Rattle.tui_show_run.specs.Endings.{Ends, or_bad_field, scene_job, show_task}
-use Rattle.tui_show_run.specs.declared.bad_field.BadField.{BadField}
+use Rattle.tui_show_run.specs.Endings.{Ends, scene_job, show_task}
+use Rattle.tui_schema.specs.declared.bad_field.BadField.{BadField}
 use Rattle.tui_show_run.specs.declared.command.ShowCommand.{ShowCommand}
 use Rattle.tui_show_run.specs.declared.command.ShowCommand.TheVariants as command
 use Rattle.tui_show_run.specs.declared.ended.Ended.{Ended}
@@ -27,23 +25,10 @@ ended_of written.TooLong = ended.TooLong
 ended_of written.NotJson = ended.NotJson
 ended_of (written.Refused x) = ended.BadField x.item x.field
 
-same_field : (x y : BadField) (a b : Result SceneData BadField) → a ≡ Err x → b ≡ Err y → a ≡ b → x ≡ y
-same_field x y a b p q e = cc
-
-ok_of : (r : Result SceneData Refusal) (s : SceneData) → or_bad_field r ≡ Ok s → r ≡ Ok s
-ok_of (Ok t) s is = cc
-ok_of (Err y) s is = cc
-
-bad_of : (r : Result SceneData Refusal) (x : BadField) → or_bad_field r ≡ Err x → r ≡ Err (record { item = x.item; field = x.field })
-bad_of (Ok t) x is = cc
-bad_of (Err y) x is =
-    let here : BadField = record { item = y.item; field = y.field } in
-    ap (λ (b : BadField). Err (record { item = b.item; field = b.field })) (same_field here x (Err here) (Err x) refl refl is)
-
 due_scene : (words : List (String Global)) (t : Transcript) (text : List ℕ) (w : Written BadField) → AreScene words → frame.IsDue scene_job t text w →
     IsDue words t text (ended_of w)
-due_scene words t text written.Output are d = inl (are, (d.0, d.1, d.3.0, d.2, ok_of (scene_of d.1) d.3.0 d.3.1, d.3.2))
-due_scene words t text (written.Refused x) are d = (are, (d.0, d.1, d.2, bad_of (scene_of d.1) x d.3.0), d.3.1)
+due_scene words t text written.Output are d = inl (are, (d.0, d.1, d.3.0, d.2, d.3.1, d.3.2))
+due_scene words t text (written.Refused x) are d = (are, (d.0, d.1, d.2, d.3.0), d.3.1)
 due_scene words t text written.TooLong are d = (are, d.0, d.1)
 due_scene words t text written.NotJson are d = (are, d.0, d.1)
 due_scene words t text written.Usage are d = absurd d.3
@@ -102,11 +87,11 @@ forth words t e h = elim h [
 fault : (words : List (String Global)) (t : Transcript) (text : List ℕ) (e : Ended) → IsDue words t text e → PutsPart t.sink t.sink_then text →
     Ends words t ended.WriteFault
 fault words t text ended.Ok w puts = elim w [
-  | inl s ↦ inl (command.Scene, s.0, (text, written.Output, (s.1.0, s.1.1, s.1.3, (s.1.2, ap or_bad_field s.1.4, s.1.5)), puts))
+  | inl s ↦ inl (command.Scene, s.0, (text, written.Output, (s.1.0, s.1.1, s.1.3, (s.1.2, s.1.4, s.1.5)), puts))
   | inr d ↦ inl (command.Demo d.0, d.1, (d.2, (text, written.Output, d.3, puts)))
 ]
 fault words t text (ended.BadField i f) w puts =
-    inl (command.Scene, w.0, (text, written.Refused (record { item = i; field = f }), (w.1.0, w.1.1, w.1.2, (ap or_bad_field w.1.3, w.2)), puts))
+    inl (command.Scene, w.0, (text, written.Refused (record { item = i; field = f }), (w.1.0, w.1.1, w.1.2, (w.1.3, w.2)), puts))
 fault words t text ended.TooLong w puts = inl (command.Scene, w.0, (text, written.TooLong, (w.1, w.2), puts))
 fault words t text ended.NotJson w puts = inl (command.Scene, w.0, (text, written.NotJson, (w.1, w.2), puts))
 fault words t text ended.Usage w puts = inr (name_none words w.0, (w.1, subst (λ (s : List ℕ). PutsPart t.sink t.sink_then s) w.2 puts))
@@ -116,12 +101,12 @@ fault words t text ended.NoMemory w puts = absurd w
 
 back : (words : List (String Global)) (t : Transcript) (e : Ended) → EndsFor words t e → Ends words t e
 back words t ended.Ok h = elim h.1 [
-  | inl s ↦ inl (command.Scene, s.0, (h.0, (s.1.0, s.1.1, s.1.3, (s.1.2, ap or_bad_field s.1.4, s.1.5)), h.2))
+  | inl s ↦ inl (command.Scene, s.0, (h.0, (s.1.0, s.1.1, s.1.3, (s.1.2, s.1.4, s.1.5)), h.2))
   | inr d ↦ inl (command.Demo d.0, d.1, (d.2, (h.0, d.3, h.2)))
 ]
 back words t (ended.BadField i f) h =
     let w = h.1 in
-    inl (command.Scene, w.0, (h.0, (w.1.0, w.1.1, w.1.2, (ap or_bad_field w.1.3, w.2)), h.2))
+    inl (command.Scene, w.0, (h.0, (w.1.0, w.1.1, w.1.2, (w.1.3, w.2)), h.2))
 back words t ended.TooLong h = inl (command.Scene, h.1.0, (h.0, (h.1.1, h.1.2), h.2))
 back words t ended.NotJson h = inl (command.Scene, h.1.0, (h.0, (h.1.1, h.1.2), h.2))
 back words t ended.Usage h = inr (name_none words h.1.0, (h.1.1, subst (λ (s : List ℕ). PutsAll t.sink t.sink_then s) h.1.2 h.2))

@@ -1,32 +1,26 @@
 -- How a run ends, and why: the rules of the program, and what they make of every program's run.
-use Rattle.std.specs.Prelude.{ℕ, List, Result, Ok, Err, String}
+use Rattle.std.specs.Prelude.{ℕ, List, String}
 use Rattle.std.specs.declared.alloc.Global.{Global}
 use Rattle.tui_program.specs.Transcript.{Transcript}
 use Rattle.tui_program.specs.Complete.{IsCompleteReading, IsCompleteTelling}
 use Rattle.tui_program.specs.Endings as frame
 use Rattle.tui_program.specs.Rules.{JobRules, Rules, Task, reads, tells}
-use Rattle.tui_schema.specs.Refusals.{Refusal}
 use Rattle.tui_schema.specs.Scene.{SceneData, scene_of}
 use Rattle.tui_show_run.specs.Commands.{AreDemo, AreScene, Names}
 use Rattle.tui_show_run.specs.Demo.{IsDemo}
 use Rattle.tui_show_run.specs.Shown.{IsShown}
 use Rattle.tui_show_run.specs.Ended.{ending_of}
 use Rattle.tui_show_run.specs.Refusal.{field_line}
-use Rattle.tui_show_run.specs.declared.bad_field.BadField.{BadField}
+use Rattle.tui_schema.specs.declared.bad_field.BadField.{BadField}
 use Rattle.tui_show_run.specs.declared.command.ShowCommand.{ShowCommand}
 use Rattle.tui_show_run.specs.declared.command.ShowCommand.TheVariants as command
 use Rattle.tui_show_run.specs.declared.ended.Ended.{Ended}
-
--- the scene that a value says, or the field that is refused
-abbrev pub or_bad_field : Result SceneData Refusal → Result SceneData BadField
-or_bad_field (Ok s) = Ok s
-or_bad_field (Err r) = Err (record { item = r.item; field = r.field })
 
 -- what the command `scene` does with a value
 abbrev pub scene_job : JobRules BadField
 scene_job = record {
   Input = SceneData;
-  input_of = λ d. or_bad_field (scene_of d);
+  input_of = scene_of;
   line = λ refused. field_line refused.item refused.field;
   due = IsShown;
   part = λ s. frame.nothing;

@@ -4,7 +4,6 @@ ghost use Rattle.tui_program.specs.Endings.{AnswersWith, no_refusal, nothing};
 ghost use Rattle.tui_schema.specs.Scene.{reading_data};
 ghost use Rattle.tui_show_run.specs.Shown.{IsShown};
 
-use crate::bad_field::BadField;
 use crate::demo::show_demo;
 use serde_json::Value;
 use std::alloc::Global;
@@ -15,7 +14,7 @@ use tui_program::{
     put_refused_in_scene, run_json,
 };
 use tui_scene::draw_new;
-use tui_schema::{Reading, SceneError, scene_of};
+use tui_schema::{BadField, Reading, read_scene};
 
 /// A command of the program.
 #[derive(Clone, Copy, Debug, PartialEq, Eq)]
@@ -76,18 +75,10 @@ impl Job for ShowCommand {
         sink: &mut K,
         leftovers: Leftovers,
     ) -> Result<(), Stop<BadField>> {
-        match scene_of(alloc, value) {
-            Ok(mut reading) => {
-                let answer = show_scene(alloc, &mut reading, sink, leftovers);
-                leftovers.done_with(reading);
-                answer
-            }
-            Err(SceneError::BadField { item, field }) => Err(Stop::Refused(BadField {
-                item,
-                field,
-            })),
-            Err(SceneError::NoMemory) => Err(Stop::NoMemory),
-        }
+        let mut reading = read_scene(alloc, value)?;
+        let answer = show_scene(alloc, &mut reading, sink, leftovers);
+        leftovers.done_with(reading);
+        answer
     }
 
     fn refuse<K: Sink>(&self, refusal: BadField, sink: &mut K) -> Result<(), WriteFault> {

@@ -12,7 +12,6 @@ mod line;
 mod scene;
 mod text;
 
-use crate::bad_field::BadField;
 use crate::demo::line::demo_line;
 use crate::demo::scene::demo_scene;
 use crate::demo::text::demo_text;
@@ -22,6 +21,7 @@ use tui_outside::Sink;
 use tui_program::Stop;
 use tui_rows::write_rows;
 use tui_scene::{Item, Scene, draw_new};
+use tui_schema::BadField;
 
 /// Draws the demonstration of n items and n words, and writes a line on it and the rows of its screen.
 pub(crate) fn show_demo<K: Sink>(alloc: Global, n: u32, sink: &mut K) -> Result<(), Stop<BadField>>

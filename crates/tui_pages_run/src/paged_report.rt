@@ -2,7 +2,7 @@
 
 ghost use Rattle.std.specs.Prelude.{◌≡◌, IfOk};
 ghost use Rattle.serde_json.specs.View.{view};
-ghost use Rattle.tui_json.specs.Refusals.{Gives, refused};
+ghost use Rattle.tui_json.specs.Refusals.{Gives};
 ghost use Rattle.tui_pages_lib.specs.Strokes.{page_area};
 ghost use Rattle.tui_pages_run.specs.Input.{report_in};
 
@@ -16,7 +16,7 @@ use tui_pages_lib::{Report, ReportError};
 
 /// A report, and the area of its pages.
 #[derive(Drop)]
-pub(crate) struct Reading<'v> {
+pub(crate) struct PagedReport<'v> {
     pub(crate) area: Rect,
     pub(crate) report: Report<'v>,
 }
@@ -27,9 +27,9 @@ pub(crate) struct Reading<'v> {
 pub(crate) fn read_report<'v>(
     alloc: Global,
     value: &'v Value,
-) -> Result<Reading<'v>, InputError<PagesRefusal>>
-    ensures gives { Gives (λ reading. reading.report) refused result (report_in (view value.now)) }
-    ensures area { IfOk result (λ reading. reading.area ≡ page_area reading.report) }
+) -> Result<PagedReport<'v>, InputError<PagesRefusal>>
+    ensures gives { Gives (λ paged. paged.report) result (report_in (view value.now)) }
+    ensures area { IfOk result (λ paged. paged.area ≡ page_area paged.report) }
 {
     let input = read_input(alloc, value)?;
     let (width, height) = (input.sheet.width, input.sheet.height);
@@ -42,7 +42,7 @@ pub(crate) fn read_report<'v>(
         input.records,
     );
     match made {
-        Ok(report) => Ok(Reading {
+        Ok(report) => Ok(PagedReport {
             area: Rect::new(0, 0, width, height),
             report,
         }),

@@ -6,7 +6,7 @@ use Rattle.tui_pages_lib.specs.Report.{ReportData, places_of, report_heights}
 use Rattle.tui_pages_run.specs.Input.{input_data, report_in}
 use Rattle.tui_pages_run.proofs.Bounds.{input_least}
 use Rattle.tui_pages_run.proofs.TooTall.{first_is, none_is}
-use Rattle.tui_pages_run.proofs.reading.read_report.Goals as goal
+use Rattle.tui_pages_run.proofs.paged_report.read_report.Goals as goal
 
 pub unreachable-requires : goal.unreachable-requires
 unreachable-requires c =
