@@ -1,5 +1,0 @@
-use Rattle.tui_port.proofs.RowLemmas.{letter_step}
-use Rattle.tui_port.proofs.print.steps.is_letter.Goals as goal
-
-pub returns : goal.returns
-returns c = λ h. letter_step c.args.symbol.now (c.is_letter.ensures h)
