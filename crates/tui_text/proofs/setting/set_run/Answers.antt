@@ -16,7 +16,7 @@ returns-clause-end c = end_spelt c.args.at.x c.args.room _ c.next_run-run.result
     c.next_run-run.ensures.clusters c.next_run-run.ensures.printable (search rules) (search rules)
 
 pub returns-clause-kept : goal.returns-clause-kept
-returns-clause-kept c = kept_spelt c.args.at.x c.args.at.y c.args.room c.args.style c.next_run-run.result.now _ _ (search rules) c.set_bytes.ensures
+returns-clause-kept c = kept_spelt c.args.at.x c.args.at.y _ c.args.style c.next_run-run.result.now _ _ (search rules) c.set_bytes.ensures
 
 pub returns-clause-light : goal.returns-clause-light
 returns-clause-light c = light_behind c.next_run-run.result.now _ _ c.next_run-run.ensures.clusters
