@@ -5,6 +5,7 @@ pub mod EmptyText
 pub mod FirstCluster
 pub mod FirstPlain
 pub mod Leads
+pub mod LineEnds
 pub mod LoneChars
 pub mod OneByte
 pub mod PlainChars

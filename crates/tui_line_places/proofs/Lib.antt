@@ -1,5 +1,4 @@
 mod NewLines
-mod LineEnds
 mod LineClusters
 mod Rests
 mod ShownClusters

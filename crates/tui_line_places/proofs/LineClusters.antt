@@ -12,21 +12,11 @@ use Rattle.unicode_segmentation.specs.Grapheme.{graphemes}
 use Rattle.tui_text.specs.Text.{text_lines}
 use Rattle.tui_line_places.specs.Places.{is_newline, line_part, behind_part}
 use Rattle.tui_clusters.proofs.Boundaries.{concat-graphemes}
-use Rattle.tui_line_places.proofs.LineEnds.{graphemes-feed, graphemes-return}
-use Rattle.tui_line_places.proofs.NewLines.{Newline, OneLine, none, feed, both, first_line, is_newline_byte}
+use Rattle.tui_clusters.proofs.LineEnds.{graphemes-feed, graphemes-return}
+use Rattle.tui_line_places.proofs.NewLines.{Newline, OneLine, none, feed, both, first_line, is_newline_byte, one_parts}
 
 abbrev pub NoNewline : List (List ℕ) → Type 0
 NoNewline clusters = AllByRecursion (λ c. is_newline c ≡ false) clusters
-
-one_parts : (front back : List ℕ) → OneLine (front ++ back) → OneLine front × OneLine back
-one_parts [] back h = (refl, h)
-one_parts (b ∷ front) back h =
-    ⊎_elim
-    (λ t. absurd (false≢true (sym h ∙ ap (λ x. x || list_any is_newline_byte (front ++ back)) t)))
-    (λ t.
-    let rest = one_parts front back (sym (ap (λ x. x || list_any is_newline_byte (front ++ back)) t) ∙ h) in
-    (ap (λ x. x || list_any is_newline_byte front) t ∙ rest.0, rest.1))
-    (cases_Bool (b == 10))
 
 one_cluster : (c : List ℕ) → OneLine c → is_newline c ≡ false
 one_cluster [] h = refl

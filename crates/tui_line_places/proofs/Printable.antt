@@ -7,7 +7,7 @@ use Rattle.std.proofs.lemmas.List.{length-drop, take-append-drop, take_more}
 use Rattle.tui_clusters.specs.Width.{width_of}
 use Rattle.tui_clusters.specs.Plain.{IsPlainFirst}
 use Rattle.tui_clusters.specs.Printable.{is_printable}
-use Rattle.tui_clusters.proofs.OneByte.{printable_blank, printable_shown, printable_width, printable_range}
+use Rattle.tui_clusters.proofs.OneByte.{byte_width, printable_blank, printable_range, printable_shown}
 use Rattle.unicode_segmentation.specs.Grapheme.{graphemes}
 use Rattle.tui_line_places.specs.Next.{IsHiddenUpTo, IsNextShown}
 use Rattle.tui_line_places.specs.Places.{is_newline}
@@ -18,10 +18,6 @@ no_newline b low = grind (arith, nat_tests)
 
 fits : (w : ℕ) → 0 < w → nat_le 1 w ≡ true
 fits w some = grind (arith, nat_tests)
-
-width_one : (s : List ℕ) (b : ℕ) → s ≡ b ∷ [] → 32 ≤ b → b ≤ 126 → 1 ≡ width_of s
-unfolding width_of
-width_one s b e low high = sym (printable_width false s b e low high)
 
 pub printable_next : (w : ℕ) (text rest : List ℕ) (blank : Bool) → IsUtf8 text → IsUtf8 rest → 0 < w → 0 < length text → IsPlainFirst text 1 → is_printable (slice_index text 0) ≡ true → rest ≡ drop 1 text
     → blank ≡ (slice_index text 0 == 32) → IsNextShown w text 1 blank rest
@@ -36,6 +32,6 @@ printable_next w text rest blank u v some long first printable e blank_is =
     let here : IsHiddenUpTo w text text = record { goes_on = goes_on-refl text u; shown = refl; no_longer = omega arith } in
     next_shown w text text rest c v here clusters whole (omega arith) 1 blank
     (ap is_newline one ∙ no_newline b range.0)
-    (width_one c b one range.0 range.1)
+    (sym (ap width_of one ∙ byte_width b printable))
     (blank_is ∙ sym (printable_blank c b one range.0 range.1))
     (ap (λ n. nat_le 1 w && not n) (printable_shown c b one range.0 range.1) ∙ ap (λ n. n && true) (fits w some))

@@ -1,5 +1,5 @@
 -- The clusters of a text's first line, and of what stands behind it, are those of the text.
-use Rattle.std.proofs.Common.{◌≡◌, ℕ, Bool, true, false, not, ◌||◌, List, [], ◌∷◌, ◌++◌, map, unwrap_or, refl, sym, ap, ap₂, ◌∙◌, ⊎_elim, arith, rules, append-nil}
+use Rattle.std.proofs.Common.{◌≡◌, ℕ, Bool, true, false, not, ◌||◌, List, [], ◌∷◌, ◌++◌, map, unwrap_or, refl, sym, ap, ◌∙◌, ⊎_elim, arith, rules}
 use Rattle.std.specs.Prelude.{if◌then◌else◌, encode_utf8_all}
 use Rattle.std.specs.Str.{IsAscii, IsUtf8, chars}
 use Rattle.std.proofs.lemmas.Bool.{cases_Bool}
@@ -17,7 +17,9 @@ use Rattle.unicode_segmentation.specs.Grapheme.{break_by_pair, is_grapheme_break
 use Rattle.unicode_segmentation.specs.Segments.{prepend, cut, segments}
 use Rattle.tui_clusters.proofs.Boundaries.{graphemes-apart}
 use Rattle.tui_clusters.proofs.EmptyText.{graphemes-nil}
-use Rattle.tui_line_places.proofs.NewLines.{EndsInReturn}
+
+abbrev pub EndsInReturn : List ℕ → Type 0
+EndsInReturn line = (front : List ℕ) × (line ≡ front ++ 13 ∷ [])
 
 -- the controls of line ends
 abbrev is_return : GraphemeClusterBreak → Bool
