@@ -3,7 +3,7 @@ use Rattle.std.specs.Prelude.{◌≡◌, ◌↔◌, ℕ, ◌⊎◌, List, None, 
 use Rattle.std.specs.declared.alloc.Global.{Global}
 use Rattle.serde_json.specs.Data.{Data}
 use Rattle.serde_json.specs.Read.{read}
-use Rattle.tui_outside.specs.Causes.{PutsAll, PutsPart, Rose}
+use Rattle.tui_outside.specs.Causes.{HasFailed, PutsAll, PutsPart}
 use Rattle.tui_program.specs.Transcript.{ReadJson, ReadPast, ReadWhole, ReadWithin, Transcript, Unput, Unread}
 use Rattle.tui_schema.specs.Scene.{SceneData, scene_of}
 use Rattle.tui_show_run.specs.Commands.{AreDemo, AreScene, AreWrong}
@@ -29,7 +29,7 @@ IsDue words t text e = ⊥
 
 -- the sink has what was due, or a fault and a first part of it, or nothing for a fault of the source or want of memory
 abbrev pub EndsFor : List (String Global) → Transcript → Ended → Type 0
-EndsFor words t ended.ReadFault = AreScene words × ReadWithin t × Unput t.sink t.sink_then × Rose t.source.faults t.source_then.faults
+EndsFor words t ended.ReadFault = AreScene words × ReadWithin t × Unput t.sink t.sink_then × HasFailed t.source t.source_then
 EndsFor words t ended.NoMemory = (AreScene words × ReadWithin t × Unput t.sink t.sink_then × (t.source_then.faults ≡ t.source.faults))
     ⊎ ((n : ℕ) × AreDemo n words × Unread t × Unput t.sink t.sink_then)
 EndsFor words t ended.WriteFault = (text : List ℕ) × (e : Ended) × IsDue words t text e × PutsPart t.sink t.sink_then text
