@@ -12,7 +12,7 @@ use Rattle.std.proofs.lemmas.Bool.Decides.{nat_tests}
 use Rattle.unicode_width.proofs.Rules.{str_width-printable}
 use Rattle.tui_cells.specs.Cell.{Look}
 use Rattle.tui_text.specs.Grapheme.{width_of, columns_of}
-use Rattle.tui_rows.specs.RowLine.{symbols_from, symbols_of}
+use Rattle.tui_rows.specs.RowLine.{symbols_from, joined_symbols}
 use Rattle.tui_text.specs.Plain.{IsLetter}
 use Rattle.tui_text.specs.Visible.{step_of}
 use Rattle.tui_text.proofs.Letters.{letter_width}
@@ -23,7 +23,7 @@ pub row_step : (row : List Look) (i step : ℕ) (c : Look) → i < length row �
     symbols_from row i ≡ c.symbol ++ symbols_from row (i + step)
 row_step row i step c lt e is =
     let next = visible_next row i step c lt (is ∙ ap (λ (k : Look). min (step_of k.symbol) (length row - i)) e) in
-    ap symbols_of next ∙ ap (λ (k : Look). k.symbol ++ symbols_from row (i + step)) (sym e)
+    ap joined_symbols next ∙ ap (λ (k : Look). k.symbol ++ symbols_from row (i + step)) (sym e)
 
 -- a printable byte
 pub row_plain : (row : List Look) (i b : ℕ) (c : Look) → i < length row → c ≡ get_or row i c → c.symbol ≡ b ∷ [] → step_of c.symbol ≡ 1 →
@@ -62,7 +62,7 @@ three_more row piece text (a ∷ b ∷ c ∷ []) rest at next len room is before
     rw end at (plain_more (c ∷ rest) (slice_set (slice_set piece at a) (at + 1) b) text (at + 2) c rest third (rw there at two) refl)
 
 pub row_end : (row : List Look) (i : ℕ) → length row ≤ i → symbols_from row i ≡ []
-row_end row i le = ap symbols_of (none_visible row i i le)
+row_end row i le = ap joined_symbols (none_visible row i i le)
 
 range : (b : ℕ) → 32 ≤ b → b ≤ 126 → list_all (is_in_range 0x20 0x7E) (b ∷ []) ≡ true
 range b low high = grind (arith, nat_tests)
