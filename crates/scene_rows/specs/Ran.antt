@@ -14,7 +14,7 @@ use Rattle.tui_pages_run.specs.Ended as pages
 use Rattle.tui_pages_run.specs.Rules.{pages_rules}
 use Rattle.tui_pages_run.specs.declared.ended.PagesEnded.{PagesEnded}
 use Rattle.tui_show_run.specs.Ended as show
-use Rattle.tui_show_run.specs.Endings.{Ends}
+use Rattle.tui_show_run.specs.Endings.{ShowEnds}
 use Rattle.tui_show_run.specs.declared.ended.Ended.{Ended}
 use Rattle.tui_panes_run.specs.Ended as panes
 use Rattle.tui_panes_run.specs.Rules.{panes_rules}
@@ -22,7 +22,7 @@ use Rattle.tui_panes_run.specs.declared.ended.PanesEnded.{PanesEnded}
 
 -- a run of a program by these words ends with a status
 abbrev pub HasStatus : Program → List (String Global) → Transcript → ℕ → Type 0
-HasStatus program.Show words t status = (e : Ended) × Ends words t e × (status ≡ show.status_of e)
+HasStatus program.Show words t status = (e : Ended) × ShowEnds words t e × (status ≡ show.status_of e)
 HasStatus program.Pages words t status = (e : PagesEnded) × IsRun pages_rules words t (pages.ending_of e) × (status ≡ pages.status_of e)
 HasStatus program.Pager words t status = (e : PagerEnded) × IsRun pager_rules words t (pager.ending_of e) × (status ≡ pager.status_of e)
 HasStatus program.Panes words t status = (e : PanesEnded) × IsRun panes_rules words t (panes.ending_of e) × (status ≡ panes.status_of e)

@@ -20,6 +20,10 @@ pub record Rose (before now : ℕ) : Type 0 where
   pub later : before ≤ now
   pub once : now ≡ counted before
 
+-- A call failed: the count of faults rose.
+abbrev pub HasFailed : Told → Told → Type 0
+HasFailed old new = Rose old.faults new.faults
+
 -- The count of faults before and after a call: Ok leaves it, and Err comes only where it rose or stands at its last value.
 pub record HasCause {T E : Type 0} (before now : ℕ) (result : Result T E) : Type 0 where
   pub ok : OnOk result (now ≡ before)
@@ -68,4 +72,4 @@ PutsPart old new bytes = Puts old new true false bytes
 -- The bytes were put: Ok exactly where the sink took them all.
 pub record Writes {T E : Type 0} (old new : Told) (result : Result T E) (bytes : List ℕ) : Type 0 where
   pub ok : OnOk result (Appends old.bytes new.bytes bytes × (new.faults ≡ old.faults))
-  pub failed : OnErr result (TakesPart old.bytes new.bytes bytes × Rose old.faults new.faults)
+  pub failed : OnErr result (TakesPart old.bytes new.bytes bytes × HasFailed old new)

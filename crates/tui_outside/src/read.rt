@@ -2,7 +2,7 @@
 
 ghost use Rattle.std.specs.Prelude.{◌≡◌, ◌≢◌, ◌≤◌, ◌+◌, Err, length, IfOk, IsErrOf};
 ghost use Rattle.std.specs.Io.KnownBytes.{Consumes, IsAtEnd};
-ghost use Rattle.tui_outside.specs.Causes.{Gave, Rose};
+ghost use Rattle.tui_outside.specs.Causes.{Gave, HasFailed};
 ghost use Rattle.tui_outside.specs.Limits.{chunk, limit};
 ghost use Rattle.tui_outside.specs.declared.read.ReadEnd.TheVariants.{NoMemory};
 
@@ -50,7 +50,7 @@ pub fn read_all<S: Source>(alloc: Global, source: &mut S) -> Result<Vec<u8>, Rea
         Gave (S.told source.old).bytes (S.told source.new).bytes 0 limit }
 
     // The count of faults: `ReadFault` has its cause, and every other ending leaves the count.
-    ensures cause { IsErrOf result ReadEnd.ReadFault → Rose (S.told source.old).faults (S.told source.new).faults }
+    ensures cause { IsErrOf result ReadEnd.ReadFault → HasFailed (S.told source.old) (S.told source.new) }
     ensures quiet { result ≢ Err ReadEnd.ReadFault → (S.told source.new).faults ≡ (S.told source.old).faults }
 {
     let mut bytes = Vec::new(alloc);

@@ -4,7 +4,7 @@ use Rattle.std.specs.Prelude.{IsUtf8}
 use Rattle.std.proofs.lemmas.List.{append-nil, length-append}
 use Rattle.std.specs.Io.KnownBytes.{Consumes, IsAtEnd}
 use Rattle.serde_json.specs.Data.{Data}
-use Rattle.tui_outside.specs.Causes.{Rose}
+use Rattle.tui_outside.specs.Causes.{HasFailed}
 use Rattle.tui_outside.specs.Limits.{limit}
 use Rattle.tui_program.specs.Transcript.{ReadJson, ReadWhole, Transcript}
 use Rattle.tui_program.specs.Complete.{AreJson, CallFor, IsCompleteBy, IsCompleteReading, IsCompleteTelling}
@@ -34,7 +34,7 @@ json_of t bytes xs d e json =
 
 -- a run without faults that had its memory ends as the bytes call for
 called : {R : Type 0} (r : JobRules R) (t : Transcript) (e : Ending R) → EndsReading r t e →
-    (Rose t.source.faults t.source_then.faults → ⊥) → (Rose t.sink.faults t.sink_then.faults → ⊥) → e ≢ ending.Broken broken.NoMemory
+    (HasFailed t.source t.source_then → ⊥) → (HasFailed t.sink t.sink_then → ⊥) → e ≢ ending.Broken broken.NoMemory
     → (bytes : List ℕ) → t.source.bytes ≡ Some bytes → CallFor r bytes e
 called r t (ending.Written written.Output) h quiet writes some bytes left =
     let w = h.1 in

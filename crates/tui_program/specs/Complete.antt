@@ -3,7 +3,7 @@ use Rattle.std.specs.Prelude.{◌≡◌, ◌≢◌, ◌↔◌, ◌⊎◌, ℕ, �
 use Rattle.std.specs.declared.alloc.Global.{Global}
 use Rattle.serde_json.specs.Data.{Data}
 use Rattle.serde_json.specs.Read.{read}
-use Rattle.tui_outside.specs.Causes.{Rose}
+use Rattle.tui_outside.specs.Causes.{HasFailed}
 use Rattle.tui_outside.specs.Limits.{limit}
 use Rattle.tui_program.specs.Transcript.{Transcript}
 use Rattle.tui_program.specs.Endings.{NameNone}
@@ -31,13 +31,13 @@ CallFor r bytes e = ⊥
 -- are told
 abbrev pub IsCompleteReading : {R : Type 0} → JobRules R → Transcript → Ending R → Type 0
 IsCompleteReading {R} r t e =
-    (Rose t.source.faults t.source_then.faults → ⊥) → (Rose t.sink.faults t.sink_then.faults → ⊥) → e ≢ ending.Broken broken.NoMemory
+    (HasFailed t.source t.source_then → ⊥) → (HasFailed t.sink t.sink_then → ⊥) → e ≢ ending.Broken broken.NoMemory
     → (bytes : List ℕ) → t.source.bytes ≡ Some bytes → (due : Ending R) → (e ≡ due) ↔ CallFor r bytes due
 
 -- without a fault of the sink, and with the memory that it wants, one that reads nothing has its output, whatever its source is
 abbrev pub IsCompleteTelling : {R : Type 0} → Transcript → Ending R → Type 0
 IsCompleteTelling t e =
-    (Rose t.sink.faults t.sink_then.faults → ⊥) → e ≢ ending.Broken broken.NoMemory → e ≡ ending.Written written.Output
+    (HasFailed t.sink t.sink_then → ⊥) → e ≢ ending.Broken broken.NoMemory → e ≡ ending.Written written.Output
 
 -- likewise for each task: one that reads, and one that only tells
 abbrev pub IsCompleteBy : {R : Type 0} → Task R → Transcript → Ending R → Type 0

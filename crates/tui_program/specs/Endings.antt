@@ -3,7 +3,7 @@ use Rattle.std.specs.Prelude.{◌≡◌, ℕ, ◌⊎◌, List, Result, None, Ok,
 use Rattle.std.specs.declared.alloc.Global.{Global}
 use Rattle.serde_json.specs.Data.{Data}
 use Rattle.serde_json.specs.Read.{read}
-use Rattle.tui_outside.specs.Causes.{PutsAll, PutsPart, Rose, Told}
+use Rattle.tui_outside.specs.Causes.{HasFailed, PutsAll, PutsPart, Told}
 use Rattle.tui_program.specs.Transcript.{ReadJson, ReadPast, ReadWhole, ReadWithin, Transcript, Unput, Unread}
 use Rattle.tui_program.specs.Rules.{JobRules, Rules, Task, reads, tells}
 use Rattle.tui_program.specs.declared.broken.Broken.TheVariants as broken
@@ -56,7 +56,7 @@ EndsWith due part old new (ending.Broken broken.ReadFault) = ⊥
 
 -- a run that reads a JSON value ends so
 abbrev pub EndsReading : {R : Type 0} → JobRules R → Transcript → Ending R → Type 0
-EndsReading r t (ending.Broken broken.ReadFault) = ReadWithin t × Unput t.sink t.sink_then × Rose t.source.faults t.source_then.faults
+EndsReading r t (ending.Broken broken.ReadFault) = ReadWithin t × Unput t.sink t.sink_then × HasFailed t.source t.source_then
 EndsReading r t (ending.Broken broken.NoMemory) = ReadWithin t × (t.source_then.faults ≡ t.source.faults)
     × EndsWith (IsDue r t) (IsPartDue r t) t.sink t.sink_then (ending.Broken broken.NoMemory)
 EndsReading r t e = EndsWith (IsDue r t) (IsPartDue r t) t.sink t.sink_then e

@@ -7,7 +7,7 @@ use Rattle.std.proofs.Math.Seq.{take-suc}
 use Rattle.tui_cells.specs.Cell.{Look}
 use Rattle.tui_clusters.specs.Plain.{IsLetter}
 use Rattle.tui_clusters.specs.Width.{width_of}
-use Rattle.tui_rows.specs.RowLine.{symbols_from, symbols_of}
+use Rattle.tui_rows.specs.RowLine.{symbols_from, joined_symbols}
 use Rattle.tui_text.specs.Visible.{step_of}
 use Rattle.tui_clusters.proofs.OneByte.{printable_width}
 use Rattle.tui_clusters.proofs.Widths.{letter_width}
@@ -18,7 +18,7 @@ pub row_step : (row : List Look) (i step : ℕ) (c : Look) → i < length row �
     symbols_from row i ≡ c.symbol ++ symbols_from row (i + step)
 row_step row i step c lt e is =
     let next = visible_next row i step c lt (is ∙ ap (λ (k : Look). min (step_of k.symbol) (length row - i)) e) in
-    ap symbols_of next ∙ ap (λ (k : Look). k.symbol ++ symbols_from row (i + step)) (sym e)
+    ap joined_symbols next ∙ ap (λ (k : Look). k.symbol ++ symbols_from row (i + step)) (sym e)
 
 -- a printable byte
 pub row_plain : (row : List Look) (i b : ℕ) (c : Look) → i < length row → c ≡ get_or row i c → c.symbol ≡ b ∷ [] → step_of c.symbol ≡ 1 →
@@ -57,7 +57,7 @@ three_more row piece text (a ∷ b ∷ c ∷ []) rest at next len room is before
     rw end at (plain_more (c ∷ rest) (slice_set (slice_set piece at a) (at + 1) b) text (at + 2) c rest third (rw there at two) refl)
 
 pub row_end : (row : List Look) (i : ℕ) → length row ≤ i → symbols_from row i ≡ []
-row_end row i le = ap symbols_of (none_visible row i i le)
+row_end row i le = ap joined_symbols (none_visible row i i le)
 
 -- a printable byte takes one column
 pub one_byte : (b : ℕ) → 32 ≤ b → b ≤ 126 → step_of (b ∷ []) ≡ 1

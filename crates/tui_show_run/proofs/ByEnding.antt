@@ -5,11 +5,11 @@ use Rattle.tui_program.specs.Transcript.{Transcript, Unread}
 use Rattle.tui_program.specs.Endings as frame
 use Rattle.tui_program.specs.declared.written.Written.{Written}
 use Rattle.tui_program.specs.declared.written.Written.TheVariants as written
-use Rattle.tui_show_run.specs.ByEnding.{EndsFor, IsDue, SaysTheSame}
+use Rattle.tui_show_run.specs.ByEnding.{EndsFor, IsDueBy, SaysTheSame}
 use Rattle.tui_show_run.specs.Commands.{AreDemo, AreScene, AreWrong, Names}
 use Rattle.tui_show_run.specs.Demo.{IsDemo}
 use Rattle.tui_show_run.specs.Ended.{ending_of}
-use Rattle.tui_show_run.specs.Endings.{Ends, scene_job, show_task}
+use Rattle.tui_show_run.specs.Endings.{ShowEnds, scene_job, show_task}
 use Rattle.tui_schema.specs.declared.bad_field.BadField.{BadField}
 use Rattle.tui_show_run.specs.declared.command.ShowCommand.{ShowCommand}
 use Rattle.tui_show_run.specs.declared.command.ShowCommand.TheVariants as command
@@ -26,7 +26,7 @@ ended_of written.NotJson = ended.NotJson
 ended_of (written.Refused x) = ended.BadField x.item x.field
 
 due_scene : (words : List (String Global)) (t : Transcript) (text : List ℕ) (w : Written BadField) → AreScene words → frame.IsDue scene_job t text w →
-    IsDue words t text (ended_of w)
+    IsDueBy words t text (ended_of w)
 due_scene words t text written.Output are d = inl (are, (d.0, d.1, d.3.0, d.2, d.3.1, d.3.2))
 due_scene words t text (written.Refused x) are d = (are, (d.0, d.1, d.2, d.3.0), d.3.1)
 due_scene words t text written.TooLong are d = (are, d.0, d.1)
@@ -44,7 +44,7 @@ scene words t ended.WriteFault are h = (h.0, ended_of h.1, due_scene words t h.0
 scene words t ended.NoMemory are h = elim h.2 [ inl none ↦ inl (are, h.0, none, h.1) | inr some ↦ absurd some.1.3.2 ]
 
 due_demo : (words : List (String Global)) (t : Transcript) (n : ℕ) (text : List ℕ) (w : Written BadField) → AreDemo n words → Unread t →
-    frame.IsToldBy (IsDemo n) text w → IsDue words t text (ended_of w)
+    frame.IsToldBy (IsDemo n) text w → IsDueBy words t text (ended_of w)
 due_demo words t n text written.Output are unread d = inr (n, are, unread, d)
 due_demo words t n text (written.Refused x) are unread d = absurd d
 due_demo words t n text written.TooLong are unread d = absurd d
@@ -77,15 +77,15 @@ by_command : (words : List (String Global)) (t : Transcript) (e : Ended) (c : Sh
 by_command words t e command.Scene are h = scene words t e are h
 by_command words t e (command.Demo n) are h = demo words t n e are h
 
-forth : (words : List (String Global)) (t : Transcript) (e : Ended) → Ends words t e → EndsFor words t e
+forth : (words : List (String Global)) (t : Transcript) (e : Ended) → ShowEnds words t e → EndsFor words t e
 forth words t e h = elim h [
   | inl some ↦ by_command words t e some.0 some.1 some.2
   | inr none ↦ wrong words t e (λ are. none.0 command.Scene are, λ n are. none.0 (command.Demo n) are) none.1
 ]
 
 -- what is due, with a fault before its end
-fault : (words : List (String Global)) (t : Transcript) (text : List ℕ) (e : Ended) → IsDue words t text e → PutsPart t.sink t.sink_then text →
-    Ends words t ended.WriteFault
+fault : (words : List (String Global)) (t : Transcript) (text : List ℕ) (e : Ended) → IsDueBy words t text e → PutsPart t.sink t.sink_then text →
+    ShowEnds words t ended.WriteFault
 fault words t text ended.Ok w puts = elim w [
   | inl s ↦ inl (command.Scene, s.0, (text, written.Output, (s.1.0, s.1.1, s.1.3, (s.1.2, s.1.4, s.1.5)), puts))
   | inr d ↦ inl (command.Demo d.0, d.1, (d.2, (text, written.Output, d.3, puts)))
@@ -99,7 +99,7 @@ fault words t text ended.ReadFault w puts = absurd w
 fault words t text ended.WriteFault w puts = absurd w
 fault words t text ended.NoMemory w puts = absurd w
 
-back : (words : List (String Global)) (t : Transcript) (e : Ended) → EndsFor words t e → Ends words t e
+back : (words : List (String Global)) (t : Transcript) (e : Ended) → EndsFor words t e → ShowEnds words t e
 back words t ended.Ok h = elim h.1 [
   | inl s ↦ inl (command.Scene, s.0, (h.0, (s.1.0, s.1.1, s.1.3, (s.1.2, s.1.4, s.1.5)), h.2))
   | inr d ↦ inl (command.Demo d.0, d.1, (d.2, (h.0, d.3, h.2)))

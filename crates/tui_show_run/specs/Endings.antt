@@ -36,13 +36,13 @@ abbrev pub show_rules : Rules ShowCommand BadField
 show_rules = record { named = Names; task = show_task }
 
 -- a run ends so
-abbrev pub Ends : List (String Global) → Transcript → Ended → Type 0
-Ends words t e = frame.Ends show_rules words t (ending_of e)
+abbrev pub ShowEnds : List (String Global) → Transcript → Ended → Type 0
+ShowEnds words t e = frame.Ends show_rules words t (ending_of e)
 
 -- with the right word, without a fault, and with the memory that it wants, a run ends exactly as the bytes of its source call for,
 -- where they are told
-abbrev pub IsComplete : List (String Global) → Transcript → Ended → Type 0
-IsComplete words t e = AreScene words → IsCompleteReading scene_job t (ending_of e)
+abbrev pub IsCompleteScene : List (String Global) → Transcript → Ended → Type 0
+IsCompleteScene words t e = AreScene words → IsCompleteReading scene_job t (ending_of e)
 
 -- with the words `demo` and a number it ends Ok, whatever its source is
 abbrev pub IsCompleteDemo : List (String Global) → Transcript → Ended → Type 0

@@ -5,7 +5,7 @@ ghost use Rattle.tui_program.specs.Transcript.{transcript_of};
 ghost use Rattle.tui_program.specs.Runs.{IsRunFrom};
 ghost use Rattle.tui_show_run.specs.Commands.{AreWrong};
 ghost use Rattle.tui_show_run.specs.Ended.{ending_of};
-ghost use Rattle.tui_show_run.specs.Endings.{Ends, IsComplete, IsCompleteDemo, show_rules};
+ghost use Rattle.tui_show_run.specs.Endings.{ShowEnds, IsCompleteScene, IsCompleteDemo, show_rules};
 
 use crate::command::ShowCommand;
 use crate::ended::Ended;
@@ -29,8 +29,8 @@ pub fn show<S: Source, K: Sink>(
     source: &mut S,
     sink: &mut K,
 ) -> Ended
-    ensures ends { Ends words.now (transcript_of (S.told source.old) (S.told source.new) (K.told sink.old) (K.told sink.new)) result }
-    ensures complete { IsComplete words.now (transcript_of (S.told source.old) (S.told source.new) (K.told sink.old) (K.told sink.new)) result }
+    ensures ends { ShowEnds words.now (transcript_of (S.told source.old) (S.told source.new) (K.told sink.old) (K.told sink.new)) result }
+    ensures complete { IsCompleteScene words.now (transcript_of (S.told source.old) (S.told source.new) (K.told sink.old) (K.told sink.new)) result }
     ensures demo { IsCompleteDemo words.now (transcript_of (S.told source.old) (S.told source.new) (K.told sink.old) (K.told sink.new)) result }
     ensures usage { AreWrong words.now → (result ≡ Ended.Usage) ⊎ (result ≡ Ended.WriteFault) }
 {
