@@ -17,12 +17,10 @@ struct Stretch {
     written: Vec<u8>,
 }
 
-/// Runs a row again and again, and writes a heading with its name, and for each stretch of runs that ended alike how many they
-/// are, their status, and what each of them has written.
+/// Runs a row again and again, and writes for each stretch of runs that ended alike how many they are, their status, and what each
+/// of them has written.
 pub(crate) fn run_each<W: Write>(alloc: Global, row: &Row, each: Each, out: &mut W) -> Result<()> {
     let (_status, sink) = run(alloc, row.program, &row.words, row.given(alloc)?)?;
-    let name = &row.name;
-    writeln!(out, "== {name} (each)")?;
     let (first, last) = numbers(alloc, row, each, sink.bytes())?;
     let mut stretch: Option<Stretch> = None;
     for number in first..last {

@@ -4,7 +4,6 @@ use Rattle.std.specs.Prelude.{if◌then◌else◌, encode_utf8_all}
 use Rattle.std.specs.Str.{IsAscii, IsUtf8, chars}
 use Rattle.std.proofs.lemmas.Bool.{cases_Bool}
 use Rattle.std.proofs.lemmas.Bool.Decides.{nat_tests}
-use Rattle.std.proofs.lemmas.List.{map-append}
 use Rattle.std.proofs.lemmas.Str.{chars-append, chars-IsAscii, encodes-IsAscii, encodes-append, encodes-chars, IsUtf8-from_ascii}
 use Rattle.ucd_table.proofs.Facts.{Stepped-everywhere}
 use Rattle.ucd_table.proofs.Stepped.{of_ranges, zip_stepped}
@@ -16,34 +15,9 @@ use Rattle.ucd_breaks.proofs.Computing.{ucd_breaks}
 use Rattle.ucd_breaks.proofs.GraphemeClusterBreakLemmas.{grapheme_cluster_break_stepped}
 use Rattle.unicode_segmentation.specs.Grapheme.{break_by_pair, is_grapheme_break, graphemes}
 use Rattle.unicode_segmentation.specs.Segments.{prepend, cut, segments}
-use Rattle.tui_text.proofs.Seams.{cut_some, picked-append}
-use Rattle.tui_line_places.proofs.Boundaries.{cut-fresh}
+use Rattle.tui_clusters.proofs.Boundaries.{graphemes-apart}
+use Rattle.tui_clusters.proofs.EmptyText.{graphemes-nil}
 use Rattle.tui_line_places.proofs.NewLines.{EndsInReturn}
-
--- the characters in front of others, the last one first
-abbrev onto : List ℕ → List ℕ → List ℕ
-onto [] before = before
-onto (c ∷ cs) before = onto cs (c ∷ before)
-
-last_one : (x : ℕ) (before : List ℕ) → (x ∷ []) ∷ [] ≡ (if is_grapheme_break true (x ∷ before) [] then (x ∷ []) ∷ [] else prepend (x ∷ []) [])
-unfolding is_grapheme_break
-last_one x before = refl
-
-ahead : (x : ℕ) (before : List ℕ) (y : ℕ) (ys zs : List ℕ) → is_grapheme_break true (x ∷ before) (y ∷ ys) ≡ is_grapheme_break true (x ∷ before) (y ∷ zs)
-unfolding is_grapheme_break
-ahead x before y ys zs = refl
-
--- at a boundary the pieces are those on both sides
-cut-apart : (before : List ℕ) (x : ℕ) (xs ys : List ℕ) → is_grapheme_break true (onto (x ∷ xs) before) ys ≡ true
-    → cut (is_grapheme_break true) before (x ∷ xs ++ ys) [] ≡ cut (is_grapheme_break true) before (x ∷ xs) [] ++ cut (is_grapheme_break true) [] ys []
-unfolding cut
-cut-apart before x [] ys e =
-    ap₂ (λ b rest. if b then (x ∷ []) ∷ rest else prepend (x ∷ []) rest) (ap (is_grapheme_break true (x ∷ before)) (append-nil ys) ∙ e) (cut-fresh (x ∷ before) ys e)
-    ∙ ap (λ p. p ++ cut (is_grapheme_break true) [] ys []) (last_one x before)
-cut-apart before x (y ∷ xs) ys e =
-    let rule = is_grapheme_break true in
-    ap₂ (λ b rest. if b then (x ∷ []) ∷ rest else prepend (x ∷ []) rest) (ahead x before y ((xs ++ ys) ++ []) (xs ++ [])) (cut-apart (x ∷ before) y xs ys e)
-    ∙ picked-append (rule (x ∷ before) (y ∷ xs ++ [])) (x ∷ []) (cut rule (x ∷ before) (y ∷ xs) []) (cut rule [] ys []) (cut_some (x ∷ before) y xs)
 
 -- the controls of line ends
 abbrev is_return : GraphemeClusterBreak → Bool
@@ -98,52 +72,51 @@ return_feed : (before ys : List ℕ) → is_grapheme_break true (13 ∷ before) 
 unfolding is_grapheme_break
 return_feed before ys = joined_pair (grapheme_cluster_break 13) (grapheme_cluster_break 10) _ return_is feed_is
 
--- a newline is a piece, with the return before it
-cut_feed : (before ys : List ℕ) → cut (is_grapheme_break true) before (10 ∷ ys) [] ≡ (10 ∷ []) ∷ cut (is_grapheme_break true) [] ys []
-unfolding cut
-cut_feed before ys =
-    ap₂ (λ b rest. if b then (10 ∷ []) ∷ rest else prepend (10 ∷ []) rest) (behind_feed before (ys ++ [])) (cut-fresh (10 ∷ before) ys (behind_feed before ys))
+-- a newline is a cluster, with the return before it
+one_feed : graphemes true (10 ∷ []) ≡ (10 ∷ []) ∷ []
+unfolding segments cut is_grapheme_break
+one_feed =
+    let ascii : IsAscii (10 ∷ []) = search (rules, arith) in
+    ap (λ cs. map encode_utf8_all (cut (is_grapheme_break true) [] cs [])) (chars-IsAscii (10 ∷ []) ascii) ∙ ap (λ t. t ∷ []) (encodes-IsAscii (10 ∷ []) ascii)
 
-cut_return : (before ys : List ℕ) → cut (is_grapheme_break true) before (13 ∷ 10 ∷ ys) [] ≡ (13 ∷ 10 ∷ []) ∷ cut (is_grapheme_break true) [] ys []
-unfolding cut
-cut_return before ys =
-    ap₂ (λ b rest. if b then (13 ∷ []) ∷ rest else prepend (13 ∷ []) rest) (return_feed before (ys ++ [])) (cut_feed (13 ∷ before) ys)
+one_return : graphemes true (13 ∷ 10 ∷ []) ≡ (13 ∷ 10 ∷ []) ∷ []
+unfolding segments cut
+one_return =
+    let ascii : IsAscii (13 ∷ 10 ∷ []) = search (rules, arith) in
+    let last = cut (is_grapheme_break true) (13 ∷ []) (10 ∷ []) [] in
+    ap (λ cs. map encode_utf8_all (cut (is_grapheme_break true) [] cs [])) (chars-IsAscii (13 ∷ 10 ∷ []) ascii)
+    ∙ (ap (λ b. map encode_utf8_all (if b then (13 ∷ []) ∷ last else prepend (13 ∷ []) last)) (return_feed [] [])
+    ∙ (ap (λ b. map encode_utf8_all (prepend (13 ∷ []) (if b then (10 ∷ []) ∷ [] else prepend (10 ∷ []) []))) (behind_feed (13 ∷ []) [])
+    ∙ ap (λ t. t ∷ []) (encodes-IsAscii (13 ∷ 10 ∷ []) ascii)))
 
--- the character that stands last
-record Last (x : ℕ) (xs before : List ℕ) : Type 0 where
-  last : ℕ
-  others : List ℕ
-  front : List ℕ
-  turned : onto (x ∷ xs) before ≡ last ∷ others
-  whole : x ∷ xs ≡ front ++ last ∷ []
+-- an end of a line, and the text behind it
+ended : (front behind : List ℕ) → IsAscii (front ++ 10 ∷ []) → graphemes true (front ++ 10 ∷ []) ≡ (front ++ 10 ∷ []) ∷ []
+    → graphemes true ((front ++ 10 ∷ []) ++ behind) ≡ (front ++ 10 ∷ []) ∷ graphemes true behind
+ended front behind ascii one =
+    graphemes-apart (front ++ 10 ∷ []) behind (IsUtf8-from_ascii (front ++ 10 ∷ []) ascii)
+    (record { front = front; last = 10; is = chars-IsAscii (front ++ 10 ∷ []) ascii; boundary = λ before. behind_feed before (chars behind) })
+    ∙ ap (λ t. t ++ graphemes true behind) one
 
-last_of : (x : ℕ) (xs before : List ℕ) → Last x xs before
-last_of x [] before = record { last = x; others = before; front = []; turned = refl; whole = refl }
-last_of x (y ∷ xs) before =
-    let l = last_of y xs (x ∷ before) in
-    record { last = l.last; others = l.others; front = x ∷ l.front; turned = l.turned; whole = ap (λ t. x ∷ t) l.whole }
+-- a line, and an end that no rule joins to its last character
+last_of : (x : ℕ) (xs : List ℕ) → (front : List ℕ) × (last : ℕ) × (x ∷ xs ≡ front ++ last ∷ [])
+last_of x [] = ([], x, refl)
+last_of x (y ∷ xs) = let (front, last, e) = last_of y xs in (x ∷ front, last, ap (λ t. x ∷ t) e)
 
-line_feed : (cs ys : List ℕ) → (EndsInReturn cs → ⊥) → cut (is_grapheme_break true) [] (cs ++ 10 ∷ ys) [] ≡ cut (is_grapheme_break true) [] cs [] ++ (10 ∷ []) ∷ cut (is_grapheme_break true) [] ys []
-unfolding cut
-line_feed [] ys h = cut_feed [] ys
-line_feed (x ∷ xs) ys h =
-    let l = last_of x xs [] in
-    let other = λ (e : l.last ≡ 13). h (l.front, l.whole ∙ ap (λ c. l.front ++ c ∷ []) e) in
-    let apart = ap (λ t. is_grapheme_break true t (10 ∷ ys)) l.turned ∙ before_feed l.last l.others ys other in
-    cut-apart [] x xs (10 ∷ ys) apart ∙ ap (λ t. cut (is_grapheme_break true) [] (x ∷ xs) [] ++ t) (cut_feed [] ys)
+before_end : (line end : List ℕ) → IsUtf8 line
+    → ((front : List ℕ) (last : ℕ) → chars line ≡ front ++ last ∷ [] → (before : List ℕ) → is_grapheme_break true (last ∷ before) (chars end) ≡ true)
+    → graphemes true (line ++ end) ≡ graphemes true line ++ graphemes true end
+before_end line end u h = from (chars line) refl
+  where
+    from : (cs : List ℕ) → chars line ≡ cs → graphemes true (line ++ end) ≡ graphemes true line ++ graphemes true end
+    from [] e =
+        let none : line ≡ [] = sym (encodes-chars line u) ∙ ap encode_utf8_all e in
+        ap (λ t. graphemes true (t ++ end)) none ∙ sym (ap (λ t. graphemes true t ++ graphemes true end) none ∙ ap (λ t. t ++ graphemes true end) graphemes-nil)
+    from (x ∷ xs) e =
+        let (front, last, is) = last_of x xs in
+        graphemes-apart line end u (record { front = front; last = last; is = e ∙ is; boundary = h front last (e ∙ is) })
 
-line_return : (cs ys : List ℕ) → cut (is_grapheme_break true) [] (cs ++ 13 ∷ 10 ∷ ys) [] ≡ cut (is_grapheme_break true) [] cs [] ++ (13 ∷ 10 ∷ []) ∷ cut (is_grapheme_break true) [] ys []
-unfolding cut
-line_return [] ys = cut_return [] ys
-line_return (x ∷ xs) ys =
-    let l = last_of x xs [] in
-    let apart = ap (λ t. is_grapheme_break true t (13 ∷ 10 ∷ ys)) l.turned ∙ before_return l.last l.others (10 ∷ ys) in
-    cut-apart [] x xs (13 ∷ 10 ∷ ys) apart ∙ ap (λ t. cut (is_grapheme_break true) [] (x ∷ xs) [] ++ t) (cut_return [] ys)
-
--- the same in bytes
-encoded-ends : (pieces rest : List (List ℕ)) (end : List ℕ) → IsAscii end → map encode_utf8_all (pieces ++ end ∷ rest) ≡ map encode_utf8_all pieces ++ end ∷ map encode_utf8_all rest
-encoded-ends pieces rest end ascii =
-    map-append encode_utf8_all pieces (end ∷ rest) ∙ ap (λ t. map encode_utf8_all pieces ++ t ∷ map encode_utf8_all rest) (encodes-IsAscii end ascii)
+ascii_chars : (c : ℕ) (end behind : List ℕ) → IsAscii (c ∷ end) → chars ((c ∷ end) ++ behind) ≡ c ∷ (end ++ chars behind)
+ascii_chars c end behind ascii = chars-append (c ∷ end) behind (IsUtf8-from_ascii (c ∷ end) ascii) ∙ ap (λ t. t ++ chars behind) (chars-IsAscii (c ∷ end) ascii)
 
 char_return : (line : List ℕ) → IsUtf8 line → EndsInReturn (chars line) → EndsInReturn line
 char_return line u (front, e) =
@@ -151,20 +124,17 @@ char_return line u (front, e) =
     (encode_utf8_all front, sym (encodes-chars line u) ∙ ap encode_utf8_all e ∙ encodes-append front (13 ∷ []) ∙ ap (λ t. encode_utf8_all front ++ t) (encodes-IsAscii (13 ∷ []) ascii))
 
 pub graphemes-feed : (line behind : List ℕ) → IsUtf8 line → (EndsInReturn line → ⊥) → graphemes true (line ++ 10 ∷ behind) ≡ graphemes true line ++ (10 ∷ []) ∷ graphemes true behind
-unfolding segments
 graphemes-feed line behind u h =
     let ascii : IsAscii (10 ∷ []) = search (rules, arith) in
-    let feed_chars : chars (10 ∷ behind) ≡ 10 ∷ chars behind = chars-append (10 ∷ []) behind (IsUtf8-from_ascii (10 ∷ []) ascii) ∙ ap (λ t. t ++ chars behind) (chars-IsAscii (10 ∷ []) ascii) in
-    ap (λ cs. map encode_utf8_all (cut (is_grapheme_break true) [] cs [])) (chars-append line (10 ∷ behind) u ∙ ap (λ t. chars line ++ t) feed_chars)
-    ∙ ap (map encode_utf8_all) (line_feed (chars line) (chars behind) (λ r. h (char_return line u r)))
-    ∙ encoded-ends (cut (is_grapheme_break true) [] (chars line) []) (cut (is_grapheme_break true) [] (chars behind) []) (10 ∷ []) ascii
+    before_end line (10 ∷ behind) u
+    (λ front last is before.
+    ap (is_grapheme_break true (last ∷ before)) (ascii_chars 10 [] behind ascii)
+    ∙ before_feed last before (chars behind) (λ e. h (char_return line u (front, is ∙ ap (λ c. front ++ c ∷ []) e))))
+    ∙ ap (λ t. graphemes true line ++ t) (ended [] behind ascii one_feed)
 
 pub graphemes-return : (line behind : List ℕ) → IsUtf8 line → graphemes true (line ++ 13 ∷ 10 ∷ behind) ≡ graphemes true line ++ (13 ∷ 10 ∷ []) ∷ graphemes true behind
-unfolding segments
 graphemes-return line behind u =
     let ascii : IsAscii (13 ∷ 10 ∷ []) = search (rules, arith) in
-    let end_chars : chars (13 ∷ 10 ∷ behind) ≡ 13 ∷ 10 ∷ chars behind =
-    chars-append (13 ∷ 10 ∷ []) behind (IsUtf8-from_ascii (13 ∷ 10 ∷ []) ascii) ∙ ap (λ t. t ++ chars behind) (chars-IsAscii (13 ∷ 10 ∷ []) ascii) in
-    ap (λ cs. map encode_utf8_all (cut (is_grapheme_break true) [] cs [])) (chars-append line (13 ∷ 10 ∷ behind) u ∙ ap (λ t. chars line ++ t) end_chars)
-    ∙ ap (map encode_utf8_all) (line_return (chars line) (chars behind))
-    ∙ encoded-ends (cut (is_grapheme_break true) [] (chars line) []) (cut (is_grapheme_break true) [] (chars behind) []) (13 ∷ 10 ∷ []) ascii
+    before_end line (13 ∷ 10 ∷ behind) u
+    (λ front last is before. ap (is_grapheme_break true (last ∷ before)) (ascii_chars 13 (10 ∷ []) behind ascii) ∙ before_return last before (10 ∷ chars behind))
+    ∙ ap (λ t. graphemes true line ++ t) (ended (13 ∷ []) behind ascii one_return)

@@ -6,8 +6,10 @@ use Rattle.std.specs.Str.{IsUtf8}
 use Rattle.std.specs.Str.Lines.{lines}
 use Rattle.tui_cells.specs.Style.{no_style, patched}
 use Rattle.tui_cells.specs.declared.style.Style.{Style}
-use Rattle.tui_text.specs.Grapheme.{Glyph, glyph_width, width_of}
-use Rattle.tui_text.specs.Graphemes.{clusters, glyph_in, is_shown, line_graphemes}
+use Rattle.tui_clusters.specs.Width.{width_of}
+use Rattle.tui_text.specs.Grapheme.{Glyph, glyph_width}
+use Rattle.tui_clusters.specs.Shown.{clusters, is_shown}
+use Rattle.tui_text.specs.Graphemes.{glyph_in, line_graphemes}
 use Rattle.tui_text.specs.Line.{raw_line}
 use Rattle.tui_text.specs.declared.alignment.Alignment.{Alignment}
 use Rattle.unicode_segmentation.specs.Grapheme.{graphemes}

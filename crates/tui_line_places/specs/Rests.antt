@@ -2,7 +2,8 @@
 use Rattle.std.specs.Prelude.{ℕ, ◌-◌, Bool, false, not, ◌&&◌, if◌then◌else◌, nat_le, List, [], ◌∷◌, Option, None, Some, unwrap_or}
 use Rattle.tui_para.specs.Rule.{Rule, ends_piece}
 use Rattle.tui_para.specs.Wrapped.{after_break, line_start}
-use Rattle.tui_text.specs.Grapheme.{is_blank_text, width_of}
+use Rattle.tui_clusters.specs.Blank.{is_blank_text}
+use Rattle.tui_clusters.specs.Width.{width_of}
 
 -- the rule for clusters, where lines break at blanks alone
 abbrev pub cluster_rule : ℕ → Bool → Rule (List ℕ)

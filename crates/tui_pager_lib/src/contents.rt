@@ -20,7 +20,7 @@ use std::alloc::Global;
 use std::marker::Model;
 use tui_cells::{Buffer, Mem};
 use tui_layout::Sums;
-use tui_line_places::line_places;
+use tui_line_places::{Lines, line_places};
 use tui_lists::List;
 
 /// Entries, with the list of their titles and the sums of the titles' heights, which are made once.
@@ -98,7 +98,13 @@ impl<'a> Contents<'a> {
         let body = self.body(selected);
         match selected {
             None => Ok(Vec::new(alloc)),
-            Some(_) => line_places(alloc, body, size.width - size.width / 3 - 2, true),
+            Some(_) => {
+                let lines = Lines {
+                    width: size.width - size.width / 3 - 2,
+                    trim: true,
+                };
+                line_places(alloc, body, lines)
+            }
         }
     }
 

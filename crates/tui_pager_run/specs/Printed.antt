@@ -1,7 +1,8 @@
 -- What is written of an input.
 use Rattle.std.specs.Prelude.{◌≡◌, ℕ, ◌+◌, List, [], ◌∷◌, ◌++◌, codes, decimal}
 use Rattle.tui_cells.specs.Buffer.{Screen}
-use Rattle.tui_port.specs.Print.{IsPrint, newline, place_text}
+use Rattle.tui_outside.specs.Texts.{newline, place_or_dash}
+use Rattle.tui_print.specs.Print.{IsPrint}
 use Rattle.tui_pager_lib.specs.Screen.{IsBlankUnder, page_area, pager_layers}
 use Rattle.tui_pager_lib.specs.declared.state.PagerState.{PagerState}
 use Rattle.tui_pager_run.specs.Input.{InputData}
@@ -10,7 +11,7 @@ use Rattle.tui_pager_run.specs.States.{first_of, last_of, states_of}
 -- the line of a state: `k`, how many keys came before, the selected place, the offset and the line
 unfoldable pub key_line : ℕ → PagerState → List ℕ
 key_line number s = codes "k " ++ (decimal number
-    ++ (codes " " ++ (place_text s.selected
+    ++ (codes " " ++ (place_or_dash s.selected
     ++ (codes " " ++ (decimal s.offset
     ++ (codes " " ++ (decimal s.line ++ newline)))))))
 

@@ -6,7 +6,7 @@ use crate::bad_input::BadInput;
 use crate::field::PagerField;
 use serde_json::Value;
 use std::alloc::Global;
-use tui_json::{Fields, InputError, Kind, KindError, Named, Numbered, Within, by_name};
+use tui_json::{InputError, Kind, KindError, Named, Numbered, Within, by_name, error_at};
 use tui_pager_lib::{Key, PagerSize};
 
 /// One of the keys of an input: a key by its name, or another size of the screen.
@@ -63,33 +63,27 @@ impl<'v> Kind<'v, PagerField> for Step {
     }
 }
 
-impl<'v> Numbered<'v> for Step {
+impl<'v> Numbered<'v, PagerField> for Step {
     ghost use Rattle.tui_pager_run.specs.Input.{called, key_of};
-    ghost use Rattle.tui_json.specs.Refusals.{refused};
-    ghost use Rattle.tui_pager_run.specs.declared.bad_input.BadInput.{BadInput};
     ghost use Rattle.tui_pager_lib.specs.Laws.{Call};
 
-    type Error = InputError<BadInput>;
-
-    ghost Refusal = { BadInput };
-
-    ghost refused = { refused };
+    type Known = ();
 
     ghost Seen = { Call };
 
     ghost seen = { called };
 
-    ghost tests = { key_of };
+    ghost tests = { λ known. key_of };
 
-    fn read(alloc: Global, number: usize, value: &'v Value) -> Result<Step, InputError<BadInput>> {
+    fn read(
+        alloc: Global,
+        _known: (),
+        number: usize,
+        value: &'v Value,
+    ) -> Result<Step, InputError<BadInput>> {
         match <Step as Kind<'v, PagerField>>::read(alloc, value) {
             Ok(step) => Ok(step),
-            Err(KindError::WrongKind) => Err(PagerField::Keys.error(Some(number))),
-            Err(KindError::NoMemory) => Err(InputError::NoMemory),
+            Err(why) => Err(error_at(PagerField::Keys, Some(number), why)),
         }
-    }
-
-    fn no_memory() -> InputError<BadInput> {
-        InputError::NoMemory
     }
 }

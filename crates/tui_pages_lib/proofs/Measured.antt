@@ -17,7 +17,7 @@ use Rattle.tui_para.specs.WrappedText.{WrappedText, wrap_text}
 use Rattle.tui_pages_lib.specs.Heights.{IsFirstTooTall, heights_of, cell_height, most_lines, record_height}
 use Rattle.tui_pages_lib.specs.Strokes.{cell_from}
 use Rattle.tui_text.specs.Text.{raw_text}
-use Rattle.tui_text.specs.Width.{saturated}
+use Rattle.tui_clusters.specs.Width.{saturated}
 use Rattle.tui_text.specs.declared.alignment.Alignment.TheVariants.{Left}
 
 zero_test : (w : ℕ) → w ≡ 0 → (w == 0) ≡ true

@@ -5,7 +5,7 @@ use Rattle.tui_pages_lib.specs.Pages.{ArePages, KeepWhole}
 use Rattle.tui_pages_lib.specs.Filling.{pages_of}
 use Rattle.tui_pages_lib.specs.Strokes.{number_of}
 use Rattle.tui_pages_lib.specs.declared.piece.Piece.{Piece}
-use Rattle.tui_text.specs.Part.{is_printable}
+use Rattle.tui_clusters.specs.Printable.{is_printable}
 
 -- exactly one list of pages is theirs
 abbrev pub PagesAreOne : Type 0

@@ -5,7 +5,7 @@ ghost use Rattle.tui_para.specs.Paragraph.{paragraph_data};
 ghost use Rattle.tui_pages_lib.specs.Heights.{IsFirstTooTall, heights_of, cell_height, most_lines, record_height};
 ghost use Rattle.tui_pages_lib.specs.Report.{cells_of};
 ghost use Rattle.tui_pages_lib.specs.Strokes.{cell_from};
-ghost use Rattle.tui_text.specs.Width.{saturated};
+ghost use Rattle.tui_clusters.specs.Width.{saturated};
 
 use crate::records::Record;
 use std::alloc::Global;

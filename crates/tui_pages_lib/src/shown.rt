@@ -1,10 +1,10 @@
 //! What a page is handed of a cell.
 
-ghost use Rattle.std.specs.Prelude.{◌≡◌, ◌<◌, ◌≤◌, [], ◌∷◌, length, take, true};
-ghost use Rattle.tui_line_places.specs.Parts.{EndsInNewline, HaveSameLines};
+ghost use Rattle.std.specs.Prelude.{◌≡◌, ◌<◌, [], ◌∷◌, length, take, true};
+ghost use Rattle.tui_line_places.specs.Parts.{HaveSameLines};
 ghost use Rattle.tui_pages_lib.specs.Shown.{AreTextLines, newlines};
 
-use tui_line_places::first_part;
+use tui_line_places::{Lines, first_part, is_behind_newline};
 use tui_para::wraps_exactly_once;
 
 /// The byte of a newline.
@@ -22,7 +22,7 @@ pub(crate) fn shown_part(text: &str, width: u16, lines: usize, near: usize) -> &
             return part;
         }
     }
-    first_part(text, width, true, lines, near)
+    first_part(text, Lines { width, trim: true }, lines, near)
 }
 
 /// Whether at least `lines` text lines stand before a place, and nothing else.
@@ -30,12 +30,6 @@ fn are_text_lines(bytes: &[u8], place: usize, lines: usize) -> bool
     ensures { result ≡ true → AreTextLines lines (take place bytes.now) }
 {
     is_behind_newline(bytes, place) && lines <= newlines(&bytes[..place])
-}
-
-fn is_behind_newline(bytes: &[u8], place: usize) -> bool
-    ensures { result ≡ true → (place ≤ length bytes.now) × EndsInNewline (take place bytes.now) }
-{
-    0 < place && place <= bytes.len() && bytes[place - 1] == NEWLINE
 }
 
 fn newlines(bytes: &[u8]) -> usize

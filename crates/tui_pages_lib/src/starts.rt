@@ -41,7 +41,7 @@ use crate::records::Record;
 use std::alloc::Global;
 use tui_cells::Mem;
 use tui_layout::Segment;
-use tui_line_places::from_line;
+use tui_line_places::{Lines, from_line};
 
 /// No byte of a cell: one without further lines goes on here.
 const NOWHERE: usize = usize::MAX;
@@ -62,7 +62,7 @@ fn moved_on(cell: &str, start: usize, width: u16, lines: usize) -> usize
 {
     match cell.split_at_checked(start) {
         None => NOWHERE,
-        Some((_, rest)) => match from_line(rest, width, true, lines) {
+        Some((_, rest)) => match from_line(rest, Lines { width, trim: true }, lines) {
             None => NOWHERE,
             Some(left) => place_in(cell, left),
         },

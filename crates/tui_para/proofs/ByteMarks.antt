@@ -1,8 +1,8 @@
 -- The mark of one printable byte.
 use Rattle.std.proofs.Common.{◌≡◌, ℕ, ◌≤◌, ◌==◌, List, [], ◌∷◌, false, ap₂, sym}
 use Rattle.tui_cells.specs.declared.style.Style.{Style}
-use Rattle.tui_text.specs.Grapheme.{width_of}
-use Rattle.tui_text.proofs.OneByte.{printable_blank, printable_width}
+use Rattle.tui_clusters.specs.Width.{width_of}
+use Rattle.tui_clusters.proofs.OneByte.{printable_blank, printable_width}
 use Rattle.tui_para.specs.Mark.{mark_of}
 
 byte_columns : (text : List ℕ) (b : ℕ) → text ≡ b ∷ [] → 32 ≤ b → b ≤ 126 → width_of text ≡ 1

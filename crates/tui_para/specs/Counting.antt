@@ -7,7 +7,7 @@ use Rattle.tui_para.specs.declared.wrap.Wrap.{Wrap}
 use Rattle.tui_text.specs.Graphemes.{line_graphemes}
 use Rattle.tui_text.specs.Line.{LineData}
 use Rattle.tui_text.specs.Text.{TextData}
-use Rattle.tui_text.specs.Width.{saturated}
+use Rattle.tui_clusters.specs.Width.{saturated}
 use Rattle.tui_para.specs.declared.counting.counter.Counter.{Counter}
 
 -- nothing is read

@@ -4,7 +4,7 @@ ghost use Rattle.std.specs.Prelude.{◌≡◌, ◌<◌, ◌^◌};
 ghost use Rattle.tui_para.specs.Counting.{wrapped_len, wrapped_text_len};
 ghost use Rattle.tui_text.specs.Line.{line_data};
 ghost use Rattle.tui_text.specs.Text.{text_data};
-ghost use Rattle.tui_text.specs.Width.{saturated};
+ghost use Rattle.tui_clusters.specs.Width.{saturated};
 
 mod counter;
 

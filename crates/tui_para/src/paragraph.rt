@@ -11,7 +11,8 @@ ghost use Rattle.tui_text.specs.Grapheme.{Glyph, glyph_width};
 ghost use Rattle.tui_text.specs.Line.{LineData};
 ghost use Rattle.tui_text.specs.Text.{text_data};
 ghost use Rattle.tui_text.specs.declared.alignment.Alignment.TheVariants.{Left, Center, Right};
-ghost use Rattle.tui_text.specs.Width.{text_width, saturated};
+ghost use Rattle.tui_clusters.specs.Width.{saturated};
+ghost use Rattle.tui_text.specs.Width.{text_width};
 
 mod rendering;
 

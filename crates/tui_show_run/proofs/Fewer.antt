@@ -16,7 +16,8 @@ use Rattle.tui_para.specs.WrappedText.{wrap_text}
 use Rattle.tui_cells.specs.Style.{no_style, patched}
 use Rattle.tui_para.specs.Lines.{glyph_line}
 use Rattle.tui_text.specs.Grapheme.{Glyph, glyph_width}
-use Rattle.tui_text.specs.Graphemes.{clusters, glyph_in, is_shown, line_graphemes}
+use Rattle.tui_clusters.specs.Shown.{clusters, is_shown}
+use Rattle.tui_text.specs.Graphemes.{glyph_in, line_graphemes}
 use Rattle.tui_text.specs.Line.{raw_line}
 use Rattle.tui_text.specs.declared.alignment.Alignment.{Alignment}
 use Rattle.tui_show_run.specs.Demo.Scene.{one_line}

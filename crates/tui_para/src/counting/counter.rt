@@ -1,7 +1,7 @@
 //! Counting the lines of one text line from numbers alone.
 
 ghost use Rattle.std.specs.Prelude.{◌≡◌, if◌then◌else◌, ◌+◌, ◌≤◌, ◌<◌, ◌^◌};
-ghost use Rattle.tui_text.specs.Width.{saturated};
+ghost use Rattle.tui_clusters.specs.Width.{saturated};
 ghost use Rattle.tui_para.specs.Mark.{ends_before};
 ghost use Rattle.tui_para.specs.Counting.{
   add_letter,
