@@ -10,6 +10,6 @@ unfolding width_of
 byte_columns text b e low high = printable_width false text b e low high
 
 pub byte_mark : (text : List ℕ) (style : Style) (b : ℕ) → text ≡ b ∷ [] → 32 ≤ b → b ≤ 126 →
-    record { width = 1; blank = b == 32; cut = false } ≡ mark_of (record { text = text; style = style }, false)
+    record { width = 1; blank = b == 32; split = false } ≡ mark_of (record { text = text; style = style }, false)
 byte_mark text style b e low high =
-    sym (ap₂ (λ w k. record { width = w; blank = k; cut = false }) (byte_columns text b e low high) (printable_blank text b e low high))
+    sym (ap₂ (λ w k. record { width = w; blank = k; split = false }) (byte_columns text b e low high) (printable_blank text b e low high))

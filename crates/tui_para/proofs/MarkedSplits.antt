@@ -1,4 +1,4 @@
--- Marks that tell where words are cut.
+-- Marks that tell where words are split.
 use Rattle.std.proofs.Common.{◌≡◌, ℕ, zero, suc, ◌+◌, ◌<◌, ◌≤◌, List, [], ◌∷◌, ◌++◌, length, map, get_or, set, take, drop, ◌-◌, Bool, true, false, cond, refl, sym, ap, ◌∙◌, subst, arith}
 use Rattle.std.specs.Prelude.{◌&&◌}
 use Rattle.std.proofs.lemmas.Grind.{drop-set_at, drop_more_same, take-set_at}
@@ -8,17 +8,17 @@ use Rattle.tui_text.specs.declared.grapheme.StyledGrapheme.{StyledGrapheme}
 use Rattle.tui_para.specs.Hyphenation.{after_hyphen, after_letter, behind, behind_all, behind_other, marked_from}
 use Rattle.tui_para.specs.Hyphens.{is_hyphen, is_letter}
 use Rattle.tui_para.specs.Mark.{AreMarks, mark_of}
-use Rattle.tui_para.specs.Marked.{HasPut, cuts_of}
+use Rattle.tui_para.specs.Marked.{HasPut, splits_of}
 use Rattle.tui_para.specs.Wrapped.{not_wider}
 use Rattle.tui_para.specs.declared.wrapping.hyphenation.Hyphenation.{Hyphenation}
 use Rattle.tui_para.specs.declared.wrapping.hyphenation.Hyphenation.TheVariants.{Off, Apart, Letter, Hyphen}
 use Rattle.tui_para.specs.declared.wrapping.mark.Mark.{Mark}
 use Rattle.tui_para.specs.declared.wrapping.marked.Marked.{Marked}
 use Rattle.tui_para.proofs.PartsRead.{marked_then}
-use Rattle.tui_para.proofs.WithCuts.{glyph_part, glyphs-marked, letter_is}
+use Rattle.tui_para.proofs.WithSplits.{glyph_part, glyphs-marked, letter_is}
 use Rattle.tui_para.proofs.Zipped.{glyphs_zipped, zipped, zipped_drop}
 
--- where no word is cut, none is behind
+-- where no word is split, none is behind
 stays_off : (g : Glyph) → behind Off g ≡ Off
 stays_off g = by (is_hyphen g)
   where
@@ -30,12 +30,12 @@ pub behind_off : (gs : List Glyph) → behind_all Off gs ≡ Off
 behind_off [] = refl
 behind_off (g ∷ gs) = ap (λ b. behind_all b gs) (stays_off g) ∙ behind_off gs
 
--- a word is cut before a letter behind a hyphen
-pub cut_told : (h : Hyphenation) (g : Glyph) → (after_hyphen h && after_letter (behind h g)) ≡ (after_hyphen h && is_letter g)
-cut_told Off g = refl
-cut_told Apart g = refl
-cut_told Letter g = refl
-cut_told Hyphen g = letter_is Hyphen g
+-- a word is split before a letter behind a hyphen
+pub split_told : (h : Hyphenation) (g : Glyph) → (after_hyphen h && after_letter (behind h g)) ≡ (after_hyphen h && is_letter g)
+split_told Off g = refl
+split_told Apart g = refl
+split_told Letter g = refl
+split_told Hyphen g = letter_is Hyphen g
 
 -- graphemes were put behind others, and then more
 pub HasPut-then : (w : ℕ) (xs ys : List StyledGrapheme) (old middle new : Marked) → HasPut w xs old middle → HasPut w ys middle new → HasPut w (xs ++ ys) old new
@@ -43,8 +43,8 @@ HasPut-then w xs ys old middle new a b =
     let both = sym (map-append glyph_of xs ys) in
     let off = sym (behind_off (not_wider glyph_width w (map glyph_of xs))) in
     record {
-      behind = subst (λ k. cuts_of new ≡ cuts_of old ++ marked_from Off (not_wider glyph_width w k)) both
-          (marked_then w w Off Off (map glyph_of xs) (map glyph_of ys) refl off (cuts_of old) (cuts_of middle) (cuts_of new) a.behind b.behind);
+      behind = subst (λ k. splits_of new ≡ splits_of old ++ marked_from Off (not_wider glyph_width w k)) both
+          (marked_then w w Off Off (map glyph_of xs) (map glyph_of ys) refl off (splits_of old) (splits_of middle) (splits_of new) a.behind b.behind);
       same = b.same ∙ a.same;
     }
 
@@ -69,7 +69,7 @@ pub zipped_told : (h : Hyphenation) (n : ℕ) (gs : List StyledGrapheme) (ms : L
 zipped_told h zero gs ms e l = zipped_marks h gs
 zipped_told h (suc n) [] ms e l = absurd (omega arith)
 zipped_told h (suc n) (g ∷ gs) [] e l = absurd (omega arith)
-zipped_told h (suc n) (g ∷ gs) (m ∷ ms) e l = ap (λ k. (glyph_of g, m.cut) ∷ k) (zipped_told h n gs ms (omega arith) (omega arith))
+zipped_told h (suc n) (g ∷ gs) (m ∷ ms) e l = ap (λ k. (glyph_of g, m.split) ∷ k) (zipped_told h n gs ms (omega arith) (omega arith))
 
 pub are_told : (h : Hyphenation) (n : ℕ) (gs : List StyledGrapheme) (ms : List Mark) → n ≤ length gs → AreMarks gs ms → AreMarks gs (take n ms ++ marks_of h (drop n gs))
 are_told h zero gs ms l are = record { together = long_marks h gs; marked = sym (ap (map mark_of) (zipped_marks h gs)) }
@@ -77,13 +77,13 @@ are_told h (suc n) [] ms l are = absurd (omega arith)
 are_told h (suc n) (g ∷ gs) [] l are = absurd (let e = are.together in omega arith)
 are_told h (suc n) (g ∷ gs) (m ∷ ms) l are =
     let rest = are_told h n gs ms (omega arith) (tail_marks g gs m ms are) in
-    let first : m ≡ mark_of (glyph_of g, m.cut) = ap (λ k. get_or k 0 m) are.marked in
+    let first : m ≡ mark_of (glyph_of g, m.split) = ap (λ k. get_or k 0 m) are.marked in
     record {
       together = ap suc rest.together;
       marked = ap (λ k. m ∷ k) rest.marked ∙ ap (λ k. k ∷ map mark_of (zipped gs (take n ms ++ marks_of h (drop n gs)))) first;
     }
 
--- so the graphemes behind others have their words cut
+-- so the graphemes behind others have their words split
 pub told : (h b : Hyphenation) (n : ℕ) (gs : List StyledGrapheme) (ms new : List Mark) → length gs ≡ length ms → n ≤ length gs → new ≡ take n ms ++ marks_of h (drop n gs) → b ≡ behind_all h (map glyph_of (drop n gs)) →
     (front : List (Glyph × Bool)) (glyphs : List Glyph) → length front ≡ n → zipped gs ms ≡ front ++ marked_from Off glyphs →
     (zipped gs new ≡ front ++ marked_from h glyphs) × (b ≡ behind_all h glyphs)
@@ -97,13 +97,13 @@ told h b n gs ms new same l marks goes front glyphs many old =
       goes ∙ ap (behind_all h) are,
     )
 
--- where no word is cut, nothing is to be told
-pub nothing_told : (h : Hyphenation) (cuts front : List (Glyph × Bool)) (glyphs : List Glyph) → h ≡ Off → cuts ≡ front ++ marked_from Off glyphs →
-    (cuts ≡ front ++ marked_from h glyphs) × (h ≡ behind_all h glyphs)
-nothing_told h cuts front glyphs off e =
-    (subst (λ k. cuts ≡ front ++ marked_from k glyphs) (sym off) e, off ∙ (sym (behind_off glyphs) ∙ ap (λ k. behind_all k glyphs) (sym off)))
+-- where no word is split, nothing is to be told
+pub nothing_told : (h : Hyphenation) (splits front : List (Glyph × Bool)) (glyphs : List Glyph) → h ≡ Off → splits ≡ front ++ marked_from Off glyphs →
+    (splits ≡ front ++ marked_from h glyphs) × (h ≡ behind_all h glyphs)
+nothing_told h splits front glyphs off e =
+    (subst (λ k. splits ≡ front ++ marked_from k glyphs) (sym off) e, off ∙ (sym (behind_off glyphs) ∙ ap (λ k. behind_all k glyphs) (sym off)))
 
-pub mark_at : (gs : List StyledGrapheme) (ms : List Mark) (i : ℕ) (d : Mark) (e : StyledGrapheme) → AreMarks gs ms → i < length ms → get_or ms i d ≡ mark_of (glyph_of (get_or gs i e), (get_or ms i d).cut)
+pub mark_at : (gs : List StyledGrapheme) (ms : List Mark) (i : ℕ) (d : Mark) (e : StyledGrapheme) → AreMarks gs ms → i < length ms → get_or ms i d ≡ mark_of (glyph_of (get_or gs i e), (get_or ms i d).split)
 mark_at gs [] i d e are l = absurd (omega arith)
 mark_at [] (m ∷ ms) i d e are l = absurd (let long = are.together in omega arith)
 mark_at (g ∷ gs) (m ∷ ms) zero d e are l = ap (λ k. get_or k 0 d) are.marked
@@ -119,18 +119,18 @@ module _ (gs : List StyledGrapheme) (old ms : List Mark) (i : ℕ) (d : Mark) (e
       let first = λ (k : List Mark). get_or k 0 d in
       sym (ap first (drop_more ms i d (omega arith))) ∙ (ap first left ∙ ap first (drop_more old i d (let t = are.together in omega arith)))
 
-  mark_is : get_or ms i d ≡ mark_of (x, (get_or old i d).cut)
+  mark_is : get_or ms i d ≡ mark_of (x, (get_or old i d).split)
   mark_is = same ∙ mark_at gs old i d e are (let t = are.together in omega arith)
 
   pub blank_is : (get_or ms i d).blank ≡ glyph_blank x
   blank_is = ap (λ (k : Mark). k.blank) mark_is
 
-  module _ (h b : Hyphenation) (c : Bool) (new : List Mark) (cut : c ≡ (after_hyphen h && after_letter b)) (goes : b ≡ behind h x) (change : new ≡ set ms i (record (get_or ms i d) { cut = c })) where
+  module _ (h b : Hyphenation) (c : Bool) (new : List Mark) (split : c ≡ (after_hyphen h && after_letter b)) (goes : b ≡ behind h x) (change : new ≡ set ms i (record (get_or ms i d) { split = c })) where
     abbrev y : Mark
-    y = record (get_or ms i d) { cut = c }
+    y = record (get_or ms i d) { split = c }
 
     mark_told : y ≡ mark_of (x, after_hyphen h && is_letter x)
-    mark_told = ap (λ (k : Mark). record k { cut = c }) mark_is ∙ ap (λ k. mark_of (x, k)) (cut ∙ (ap (λ k. after_hyphen h && after_letter k) goes ∙ cut_told h x))
+    mark_told = ap (λ (k : Mark). record k { split = c }) mark_is ∙ ap (λ k. mark_of (x, k)) (split ∙ (ap (λ k. after_hyphen h && after_letter k) goes ∙ split_told h x))
 
     pub marks_on : take (i + 1) new ++ marks_of b (drop (i + 1) gs) ≡ take i ms ++ marks_of h (drop i gs)
     marks_on =

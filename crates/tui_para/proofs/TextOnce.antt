@@ -1,4 +1,4 @@
--- A text is cut into one list of lines.
+-- A text has one list of lines.
 use Rattle.std.proofs.Common.{◌≡◌, ℕ, List, [], ◌∷◌, ◌++◌, map, drop, Some, None, Option, refl, sym, ap, ◌∙◌}
 use Rattle.std.proofs.lemmas.List.{drop-map}
 use Rattle.std.specs.Iterator.{YieldsFirstBy}
@@ -10,7 +10,7 @@ use Rattle.tui_text.specs.Text.{TextData}
 use Rattle.tui_text.specs.declared.alignment.Alignment.{Alignment}
 use Rattle.tui_text.specs.declared.graphemes.Graphemes.{Graphemes}
 use Rattle.tui_para.specs.Given.{WillGive, WillBe, IsGlyph}
-use Rattle.tui_para.specs.Lines.{GlyphLine, glyph_line, is_left, CutAll, cut_all, WrapsLine, TruncatesLine}
+use Rattle.tui_para.specs.Lines.{GlyphLine, glyph_line, is_left, LinesOfEach, lines_of_each, WrapsLine, TruncatesLine}
 use Rattle.tui_para.specs.Paragraph.{ParagraphData}
 use Rattle.tui_para.specs.Hyphens.{wrap}
 use Rattle.tui_para.specs.Rendering.{ParagraphLines, paragraph_lines}
@@ -20,19 +20,19 @@ use Rattle.tui_para.specs.Wrapped.{IsTheOne}
 use Rattle.tui_para.specs.WrappedText.{WrappedText, TruncatedText, wrap_text, truncate_text, text_glyph_lines}
 use Rattle.tui_para.specs.declared.text_lines.TextLines.{TextLines}
 use Rattle.tui_para.specs.declared.wrap.Wrap.{Wrap}
-use Rattle.tui_para.proofs.WithCuts.{wrap_is, wraps_only}
+use Rattle.tui_para.proofs.WithSplits.{wrap_is, wraps_only}
 use Rattle.tui_para.proofs.Filled.{no_cons}
 use Rattle.tui_para.proofs.TruncatedOnce.{truncate_is, truncates_once}
 
 module _ (R : GlyphLine → List (List Glyph) → Type 0) (f : GlyphLine → List (List Glyph)) where
-  pub cut_is : ((t : GlyphLine) → R t (f t)) → (ts : List GlyphLine) → CutAll R ts (cut_all f ts)
-  cut_is is [] = refl
-  cut_is is (t ∷ ts) = (f t, is t, (cut_all f ts, cut_is is ts, refl))
+  pub each_is : ((t : GlyphLine) → R t (f t)) → (ts : List GlyphLine) → LinesOfEach R ts (lines_of_each f ts)
+  each_is is [] = refl
+  each_is is (t ∷ ts) = (f t, is t, (lines_of_each f ts, each_is is ts, refl))
 
-  pub cut_once : ((t : GlyphLine) (parts : List (List Glyph)) → R t parts → parts ≡ f t) → (ts lines : List GlyphLine) → CutAll R ts lines → lines ≡ cut_all f ts
-  cut_once one [] lines h = h
-  cut_once one (t ∷ ts) lines (parts, r, (rest, cut, e)) =
-      e ∙ (ap (λ ps. map (glyph_line t.alignment) ps ++ rest) (one t parts r) ∙ ap (λ ls. map (glyph_line t.alignment) (f t) ++ ls) (cut_once one ts rest cut))
+  pub each_once : ((t : GlyphLine) (parts : List (List Glyph)) → R t parts → parts ≡ f t) → (ts lines : List GlyphLine) → LinesOfEach R ts lines → lines ≡ lines_of_each f ts
+  each_once one [] lines h = h
+  each_once one (t ∷ ts) lines (parts, r, (rest, each, e)) =
+      e ∙ (ap (λ ps. map (glyph_line t.alignment) ps ++ rest) (one t parts r) ∙ ap (λ ls. map (glyph_line t.alignment) (f t) ++ ls) (each_once one ts rest each))
 
 pub wraps_to : (w : ℕ) (way : Wrap) (t : GlyphLine) → WrapsLine w way t (wrap w way t.glyphs)
 wraps_to w way t = wrap_is w way t.glyphs
@@ -47,24 +47,24 @@ pub truncates_only_to : (w offset : ℕ) (t : GlyphLine) (parts : List (List Gly
 truncates_only_to w offset t parts (line, h, e) = e ∙ ap (λ k. k ∷ []) ((truncates_once glyph_width w (is_left t.alignment) offset t.glyphs).alone line h)
 
 -- text lines of one line each, without the first ones
-one_each : (f : GlyphLine → List Glyph) (ts : List GlyphLine) → cut_all (λ t. f t ∷ []) ts ≡ map (λ t. glyph_line t.alignment (f t)) ts
+one_each : (f : GlyphLine → List Glyph) (ts : List GlyphLine) → lines_of_each (λ t. f t ∷ []) ts ≡ map (λ t. glyph_line t.alignment (f t)) ts
 one_each f [] = refl
 one_each f (t ∷ ts) = ap (λ ls. glyph_line t.alignment (f t) ∷ ls) (one_each f ts)
 
-pub one_each-drop : (f : GlyphLine → List Glyph) (n : ℕ) (ts : List GlyphLine) → cut_all (λ t. f t ∷ []) (drop n ts) ≡ drop n (cut_all (λ t. f t ∷ []) ts)
+pub one_each-drop : (f : GlyphLine → List Glyph) (n : ℕ) (ts : List GlyphLine) → lines_of_each (λ t. f t ∷ []) (drop n ts) ≡ drop n (lines_of_each (λ t. f t ∷ []) ts)
 one_each-drop f n ts = one_each f (drop n ts) ∙ (sym (drop-map (λ t. glyph_line t.alignment (f t)) n ts) ∙ sym (ap (drop n) (one_each f ts)))
 
 -- exactly one list of lines
 pub text_wraps_once : (w : ℕ) (way : Wrap) (a : Alignment) (text : TextData) → IsTheOne (WrappedText w way a text) (wrap_text w way a text)
 text_wraps_once w way a text = record {
-  meets = cut_is (WrapsLine w way) (λ t. wrap w way t.glyphs) (wraps_to w way) (text_glyph_lines text a);
-  alone = λ lines h. cut_once (WrapsLine w way) (λ t. wrap w way t.glyphs) (wraps_only_to w way) (text_glyph_lines text a) lines h;
+  meets = each_is (WrapsLine w way) (λ t. wrap w way t.glyphs) (wraps_to w way) (text_glyph_lines text a);
+  alone = λ lines h. each_once (WrapsLine w way) (λ t. wrap w way t.glyphs) (wraps_only_to w way) (text_glyph_lines text a) lines h;
 }
 
 pub text_truncates_once : (w offset : ℕ) (a : Alignment) (text : TextData) → IsTheOne (TruncatedText w offset a text) (truncate_text w offset a text)
 text_truncates_once w offset a text = record {
-  meets = cut_is (TruncatesLine w offset) (λ t. truncate glyph_width w (is_left t.alignment) offset t.glyphs ∷ []) (truncates_to w offset) (text_glyph_lines text a);
-  alone = λ lines h. cut_once (TruncatesLine w offset) (λ t. truncate glyph_width w (is_left t.alignment) offset t.glyphs ∷ []) (truncates_only_to w offset) (text_glyph_lines text a) lines h;
+  meets = each_is (TruncatesLine w offset) (λ t. truncate glyph_width w (is_left t.alignment) offset t.glyphs ∷ []) (truncates_to w offset) (text_glyph_lines text a);
+  alone = λ lines h. each_once (TruncatesLine w offset) (λ t. truncate glyph_width w (is_left t.alignment) offset t.glyphs ∷ []) (truncates_only_to w offset) (text_glyph_lines text a) lines h;
 }
 
 -- an iterator of which the items left are known gives them

@@ -4,7 +4,7 @@ use Rattle.std.specs.Prelude.{sum_by}
 use Rattle.std.proofs.lemmas.List.{drop-map, take-map, length-map}
 use Rattle.tui_text.specs.Grapheme.{Glyph, glyph_blank, glyph_width}
 use Rattle.tui_para.specs.Division.{IsFewest, SpacedWithin}
-use Rattle.tui_para.specs.Hyphens.{glyph_rule, with_cuts, wrap}
+use Rattle.tui_para.specs.Hyphens.{glyph_rule, with_splits, wrap}
 use Rattle.tui_para.specs.Places.{dropped_len, line_len, lines_of, start_len, wrap_kept}
 use Rattle.tui_para.specs.Rule.{Rule, ends_piece}
 use Rattle.tui_para.specs.Wrapped.{after_break, not_wider, line_start}
@@ -53,13 +53,13 @@ module _ {A B : Type 0} (f : A → B) (rule : Rule B) where
   wrap_map [] = refl
   wrap_map (x ∷ xs) = ap (λ n. lines_of rule n (map f (x ∷ xs))) (length-map (x ∷ xs) f) ∙ lines_map (length (x ∷ xs)) (x ∷ xs)
 
--- a grapheme before which no word is cut
+-- a grapheme before which no word is split
 abbrev pub plain : Glyph → Glyph × Bool
 plain g = (g, false)
 
-pub no_cuts : (before gs : List Glyph) → with_cuts false before gs ≡ map plain gs
-no_cuts before [] = refl
-no_cuts before (g ∷ gs) = ap (λ k. plain g ∷ k) (no_cuts (g ∷ before) gs)
+pub no_splits : (before gs : List Glyph) → with_splits false before gs ≡ map plain gs
+no_splits before [] = refl
+no_splits before (g ∷ gs) = ap (λ k. plain g ∷ k) (no_splits (g ∷ before) gs)
 
 -- of spaced words it has the fewest lines
 pub fewest_lines : (w : ℕ) (way : Wrap) (words : List (List Glyph)) (glyphs : List Glyph) → way.hyphens ≡ false → 0 < w → SpacedWithin glyph_blank glyph_width w words glyphs →
@@ -68,8 +68,8 @@ fewest_lines w way words glyphs off some h =
     let xs = not_wider glyph_width w glyphs in
     let rule = seen_by plain (glyph_rule w way) in
     let lines = wrap_kept rule xs in
-    let marked : with_cuts way.hyphens [] xs ≡ map plain xs = ap (λ b. with_cuts b [] xs) off ∙ no_cuts [] xs in
-    let wraps : wrap_kept (glyph_rule w way) (with_cuts way.hyphens [] xs) ≡ map (map plain) lines = ap (wrap_kept (glyph_rule w way)) marked ∙ wrap_map plain (glyph_rule w way) xs in
+    let marked : with_splits way.hyphens [] xs ≡ map plain xs = ap (λ b. with_splits b [] xs) off ∙ no_splits [] xs in
+    let wraps : wrap_kept (glyph_rule w way) (with_splits way.hyphens [] xs) ≡ map (map plain) lines = ap (wrap_kept (glyph_rule w way)) marked ∙ wrap_map plain (glyph_rule w way) xs in
     let many : length (wrap w way glyphs) ≡ length lines =
-    length-map (wrap_kept (glyph_rule w way) (with_cuts way.hyphens [] xs)) (map (λ (p : Glyph × Bool). p.0)) ∙ (ap length wraps ∙ length-map lines (map plain)) in
+    length-map (wrap_kept (glyph_rule w way) (with_splits way.hyphens [] xs)) (map (λ (p : Glyph × Bool). p.0)) ∙ (ap length wraps ∙ length-map lines (map plain)) in
     subst (IsFewest glyph_width words w) (sym many) (fewest rule (λ g. refl) words glyphs lines some h (wrap_kept_is rule xs (all_fit-kept glyph_width w glyphs)))

@@ -73,9 +73,9 @@ steps rule c (x ∷ xs) = steps rule (step rule.width rule.trim c (rule.size x) 
 abbrev pub counted : Counter → ℕ
 counted c = c.lines + (if c.some then 1 else 0)
 
--- the same numbers, with the lines cut at the greatest number of 64 bits
-abbrev pub cut_count : Counter → Counter
-cut_count c = record c { lines = saturated c.lines }
+-- the same numbers, with the lines saturated at the greatest number of 64 bits
+abbrev pub saturated_count : Counter → Counter
+saturated_count c = record c { lines = saturated c.lines }
 
 -- the lines into which a text line is wrapped
 abbrev pub wrapped_len : ℕ → Wrap → Style → LineData → ℕ

@@ -1,4 +1,4 @@
-//! What the cutting of a text line is made of.
+//! What the truncating of a text line is made of.
 
-pub(crate) mod cut;
-pub(crate) mod truncating;
+pub(crate) mod refilling;
+pub(crate) mod truncation;

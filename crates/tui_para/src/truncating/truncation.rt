@@ -1,16 +1,16 @@
-//! What is shown of a text line that is cut, while it is read.
+//! What is shown of a text line that is truncated, while it is read.
 
 ghost use Rattle.std.specs.Prelude.{◌≡◌, ◌+◌, ◌++◌, ◌∷◌, [], List, if◌then◌else◌};
 ghost use Rattle.tui_text.specs.Grapheme.{Glyph, glyph_of, glyph_width};
-ghost use Rattle.tui_para.specs.Cut.{shown_of};
+ghost use Rattle.tui_para.specs.Truncation.{shown_of};
 ghost use Rattle.tui_para.specs.Lines.{is_left};
 ghost use Rattle.tui_para.specs.Truncated.{truncate};
 
 use tui_text::{Alignment, StyledGrapheme, cell_width};
 
-/// How far the cutting of a text line has come.
+/// How far the truncating of a text line has come.
 #[derive(Clone, Copy, Debug)]
-pub(crate) struct Cut {
+pub(crate) struct Truncation {
     /// The columns of a whole line.
     pub width: u16,
     /// The columns that are still to be passed at the left.
@@ -21,16 +21,16 @@ pub(crate) struct Cut {
     pub full: bool,
 }
 
-impl Cut {
+impl Truncation {
     /// Nothing is read yet. The offset is left out of Left lines alone.
-    pub(crate) fn new(width: u16, alignment: Alignment, offset: u16) -> Cut
+    pub(crate) fn new(width: u16, alignment: Alignment, offset: u16) -> Truncation
         ensures { (glyphs : List Glyph) → shown_of result glyphs ≡ truncate glyph_width width (is_left alignment) offset glyphs }
     {
         let offset = match alignment {
             Alignment::Left => offset,
             Alignment::Center | Alignment::Right => 0,
         };
-        Cut {
+        Truncation {
             width,
             offset,
             room: width,

@@ -4,27 +4,27 @@ use Rattle.std.proofs.lemmas.List.Sums.{sum_by_push}
 use Rattle.std.specs.Prelude.{sum_by}
 use Rattle.tui_text.specs.Grapheme.{Glyph, glyph_of, glyph_width}
 use Rattle.tui_text.specs.declared.grapheme.StyledGrapheme.{StyledGrapheme}
-use Rattle.tui_para.specs.Cut.{shown_of}
-use Rattle.tui_para.specs.declared.cutting.cut.Cut.{Cut}
+use Rattle.tui_para.specs.Truncation.{shown_of}
+use Rattle.tui_para.specs.declared.truncating.truncation.Truncation.{Truncation}
 use Rattle.tui_para.proofs.Sources.{Yields-append}
-use Rattle.tui_para.proofs.cutting.truncating.refill.Goals as goal
+use Rattle.tui_para.proofs.truncating.refilling.refill.Goals as goal
 
 same_if : (b : Bool) → cond {A = List Glyph} b [] [] ≡ []
 same_if true = refl
 same_if false = refl
 
 -- at the end of the text line
-read_all : (start cut : Cut) (read shown : List Glyph) → ((rest : List Glyph) → shown_of start (read ++ rest) ≡ shown ++ shown_of cut rest) → shown ≡ shown_of start read
-read_all start cut read shown h =
-    sym (ap (shown_of start) (sym (append-nil read)) ∙ (h [] ∙ (ap (λ k. shown ++ k) (same_if cut.full) ∙ append-nil shown)))
+read_all : (start truncation : Truncation) (read shown : List Glyph) → ((rest : List Glyph) → shown_of start (read ++ rest) ≡ shown ++ shown_of truncation rest) → shown ≡ shown_of start read
+read_all start truncation read shown h =
+    sym (ap (shown_of start) (sym (append-nil read)) ∙ (h [] ∙ (ap (λ k. shown ++ k) (same_if truncation.full) ∙ append-nil shown)))
 
--- where the cut is full, whatever is left
-read_rest : (start cut : Cut) (read shown rest : List Glyph) → cut.full ≡ true → shown_of start (read ++ rest) ≡ shown ++ shown_of cut rest →
+-- where it is full, whatever is left
+read_rest : (start truncation : Truncation) (read shown rest : List Glyph) → truncation.full ≡ true → shown_of start (read ++ rest) ≡ shown ++ shown_of truncation rest →
     shown ≡ shown_of start (read ++ rest)
-read_rest start cut read shown rest full h = sym (h ∙ rw full (append-nil shown))
+read_rest start truncation read shown rest full h = sym (h ∙ rw full (append-nil shown))
 
 -- one grapheme more, of which this is shown
-read_more : (start before after : Cut) (taken : List StyledGrapheme) (x : StyledGrapheme) (shown more rest : List Glyph)
+read_more : (start before after : Truncation) (taken : List StyledGrapheme) (x : StyledGrapheme) (shown more rest : List Glyph)
     → ((rest : List Glyph) → shown_of start (map glyph_of taken ++ rest) ≡ shown ++ shown_of before rest)
     → shown_of before (glyph_of x ∷ rest) ≡ more ++ shown_of after rest
     → shown_of start (map glyph_of (taken ++ x ∷ []) ++ rest) ≡ (shown ++ more) ++ shown_of after rest
@@ -39,7 +39,7 @@ sum_more items x = rw (map-append glyph_of items (x ∷ [])) (sum_by_push glyph_
 pub returns-in_default-clause-line : goal.returns-in_default-clause-line
 returns-in_default-clause-line g c =
     let (taken, yields, shows) = c.graphemes.invariant.read in
-    (taken, (c.next.new.self, (c.graphemes.rest, yields, c.in_default.ensures.steps)), read_all c.args.start c.graphemes.cut _ _ shows)
+    (taken, (c.next.new.self, (c.graphemes.rest, yields, c.in_default.ensures.steps)), read_all c.args.start c.graphemes.truncation _ _ shows)
 
 pub graphemes-preserved-in-Continue-1 : goal.graphemes-preserved-in-Continue-1
 graphemes-preserved-in-Continue-1 g c =
@@ -54,7 +54,7 @@ graphemes-preserved-in-Continue-1 g c =
         taken ++ x ∷ [],
         Yields-append g.I.Iterator.next_gives c.args.line c.graphemes.rest c.next.new.self taken (x ∷ []) yields (c.next.new.self, c.in-Some.ensures.steps, refl),
         λ rest. rw (c.in_ok-push.ensures.items, map-append glyph_of c.graphemes.shown.items (x ∷ []))
-            (read_more c.args.start c.graphemes.cut c.shows.new.self taken x (map glyph_of c.graphemes.shown.items) (glyph_of x ∷ []) rest shown (c.if-shows.ensures.line rest)),
+            (read_more c.args.start c.graphemes.truncation c.shows.new.self taken x (map glyph_of c.graphemes.shown.items) (glyph_of x ∷ []) rest shown (c.if-shows.ensures.line rest)),
       );
       columns = rw c.in_ok-push.ensures.items (omega (arith, more, room, before));
       ready = record { can_next = on.0; ends = on.1 };
@@ -71,7 +71,7 @@ graphemes-preserved g c =
       read = (
         taken ++ x ∷ [],
         Yields-append g.I.Iterator.next_gives c.args.line c.graphemes.rest c.next.new.self taken (x ∷ []) yields (c.next.new.self, c.in-Some.ensures.steps, refl),
-        λ rest. read_more c.args.start c.graphemes.cut c.shows.new.self taken x (map glyph_of c.graphemes.shown.items) [] rest shown (c.if-shows.ensures.line rest)
+        λ rest. read_more c.args.start c.graphemes.truncation c.shows.new.self taken x (map glyph_of c.graphemes.shown.items) [] rest shown (c.if-shows.ensures.line rest)
             ∙ ap (λ k. k ++ shown_of c.shows.new.self rest) (append-nil (map glyph_of c.graphemes.shown.items)),
       );
       columns = omega (arith, room, before);
@@ -82,9 +82,9 @@ pub returns-clause-line : goal.returns-clause-line
 returns-clause-line g c =
     let (taken, yields, shown) = c.graphemes.invariant.read in
     let (more, (last, (end, ended, stop))) = c.read_line.ensures in
-    let full : c.graphemes.cut.full ≡ true = search rules in (
+    let full : c.graphemes.truncation.full ≡ true = search rules in (
       taken ++ more,
       (last, (end, Yields-append g.I.Iterator.next_gives c.args.line c.graphemes.rest end taken more yields ended, stop)),
       rw (map-append glyph_of taken more)
-          (read_rest c.args.start c.graphemes.cut (map glyph_of taken) (map glyph_of c.graphemes.shown.items) (map glyph_of more) full (shown (map glyph_of more))),
+          (read_rest c.args.start c.graphemes.truncation (map glyph_of taken) (map glyph_of c.graphemes.shown.items) (map glyph_of more) full (shown (map glyph_of more))),
     )

@@ -1,7 +1,7 @@
 use Rattle.std.proofs.Common.{refl, sym, ◌∙◌, ap, set}
 use Rattle.tui_para.specs.declared.wrapping.mark.Mark.{Mark}
-use Rattle.tui_para.proofs.MarkedCuts.{all_behind, all_marks, behind_on, blank_is, left_on, long_on, marks_on}
-use Rattle.tui_para.proofs.wrapping.marked.cut_marks.Goals as goal
+use Rattle.tui_para.proofs.MarkedSplits.{all_behind, all_marks, behind_on, blank_is, left_on, long_on, marks_on}
+use Rattle.tui_para.proofs.wrapping.marked.mark_splits.Goals as goal
 
 pub loop-i-init : goal.loop-i-init
 loop-i-init c = record { marks = refl; behind = refl; left = refl; long = sym c.requires.marked.together }
@@ -20,17 +20,17 @@ loop-i-preserved c =
     let i = c.loop-i.i in
     let h = c.loop-i.last in
     let b = c.behind-behind.result in
-    let cut = c.cuts_before.result in
+    let split = c.splits_before.result in
     let m = c.index_mut.result.now in
-    let new = set ms i (record m { cut = cut }) in
+    let new = set ms i (record m { split = split }) in
     let k = c.loop-i.invariant in
     let near = c.loop-i-test.true in
-    let change = ap (λ (n : Mark). set ms i (record n { cut = cut })) c.index_mut.ensures.value in
+    let change = ap (λ (n : Mark). set ms i (record n { split = split })) c.index_mut.ensures.value in
     record {
-      marks = marks_on gs old ms i m _ c.requires.marked k.long k.left near h b cut new c.cuts_before.ensures c.behind-behind.ensures change ∙ k.marks;
-      behind = behind_on gs old ms i m _ c.requires.marked k.long k.left near h b cut new c.cuts_before.ensures c.behind-behind.ensures change ∙ k.behind;
-      left = left_on gs old ms i m _ c.requires.marked k.long k.left near h b cut new c.cuts_before.ensures c.behind-behind.ensures change;
-      long = long_on gs old ms i m _ c.requires.marked k.long k.left near h b cut new c.cuts_before.ensures c.behind-behind.ensures change;
+      marks = marks_on gs old ms i m _ c.requires.marked k.long k.left near h b split new c.splits_before.ensures c.behind-behind.ensures change ∙ k.marks;
+      behind = behind_on gs old ms i m _ c.requires.marked k.long k.left near h b split new c.splits_before.ensures c.behind-behind.ensures change ∙ k.behind;
+      left = left_on gs old ms i m _ c.requires.marked k.long k.left near h b split new c.splits_before.ensures c.behind-behind.ensures change;
+      long = long_on gs old ms i m _ c.requires.marked k.long k.left near h b split new c.splits_before.ensures c.behind-behind.ensures change;
     }
 
 pub returns-clause-behind : goal.returns-clause-behind

@@ -1,8 +1,8 @@
 use Rattle.std.proofs.Common.{◌≡◌, ◌++◌, length, map, take, drop}
 use Rattle.tui_text.specs.Grapheme.{glyph_of}
 use Rattle.tui_para.specs.Hyphenation.{behind_all}
-use Rattle.tui_para.proofs.MarkedCuts.{marks_of}
-use Rattle.tui_para.proofs.wrapping.marked.cut_marks.Given as goal
+use Rattle.tui_para.proofs.MarkedSplits.{marks_of}
+use Rattle.tui_para.proofs.wrapping.marked.mark_splits.Given as goal
 
 abbrev pub invariant-loop-i : goal.invariant-loop-i
 invariant-loop-i l = record {

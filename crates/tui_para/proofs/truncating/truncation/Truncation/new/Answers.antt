@@ -4,7 +4,7 @@ use Rattle.tui_para.specs.Lines.{is_left}
 use Rattle.tui_para.specs.Truncated.{fitting_prefix}
 use Rattle.tui_para.specs.Wrapped.{not_wider}
 use Rattle.tui_para.proofs.TruncatedOnce.{left_by_none}
-use Rattle.tui_para.proofs.cutting.cut.Cut.new.Goals as goal
+use Rattle.tui_para.proofs.truncating.truncation.Truncation.new.Goals as goal
 
 pub returns-in-Center : goal.returns-in-Center
 returns-in-Center c = λ glyphs.
