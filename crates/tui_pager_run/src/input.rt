@@ -7,17 +7,16 @@ ghost use Rattle.tui_pager_lib.specs.Entry.{entry_data};
 
 use crate::bad_input::BadInput;
 use crate::field::PagerField;
-use crate::size::Size;
 use crate::step::Step;
 use serde_json::Value;
 use std::alloc::Global;
 use tui_json::{Counted, InputError, Numbered, Short, Within, each_numbered, required};
-use tui_pager_lib::Entry;
+use tui_pager_lib::{Entry, PagerSize};
 
 /// All fields of an input. Its texts are borrowed from the value that was read.
 #[derive(Drop)]
 pub(crate) struct Input<'v> {
-    pub(crate) size: Size,
+    pub(crate) size: PagerSize,
     pub(crate) entries: Vec<Entry<'v>>,
     pub(crate) steps: Vec<Step>,
 }
@@ -44,12 +43,12 @@ pub(crate) fn read_input<'v>(
 }
 
 #[tactic(auto, unfolding(crate::specs::Input::screen_size_of))]
-fn read_size<'v>(alloc: Global, value: &'v Value) -> Result<Size, InputError<BadInput>>
+fn read_size<'v>(alloc: Global, value: &'v Value) -> Result<PagerSize, InputError<BadInput>>
     ensures { Gives size_data result (screen_size_of (view value.now)) }
 {
     let Within(width): Within<12, 200> = required(alloc, None, PagerField::Width, value)?;
     let Within(height): Within<5, 100> = required(alloc, None, PagerField::Height, value)?;
-    Ok(Size { width, height })
+    Ok(PagerSize { width, height })
 }
 
 impl<'v> Numbered<'v, PagerField> for Entry<'v> {

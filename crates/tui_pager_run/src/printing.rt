@@ -5,7 +5,7 @@ ghost use Rattle.tui_pager_run.specs.Printed.{key_line, key_lines};
 ghost use Rattle.tui_outside.specs.Causes.{Writes};
 ghost use Rattle.tui_outside.specs.Gathers.{Gathers};
 ghost use Rattle.tui_print.specs.Print.{IsPrint};
-ghost use Rattle.tui_pager_lib.specs.Screen.{IsDrawn, page_area, pager_layers};
+ghost use Rattle.tui_pager_lib.specs.Screen.{IsBlankUnder, page_area, pager_layers};
 ghost use Rattle.tui_cells.specs.Buffer.{Screen};
 
 use crate::run::Run;
@@ -19,7 +19,7 @@ use tui_rows::put_rows;
 /// of them. Takes no memory.
 pub(crate) fn put_run<K: Sink>(run: &Run<'_>, sink: &mut K) -> Result<(), WriteFault>
     ensures { (screen : Screen) × (text : List ℕ)
-        × IsDrawn (pager_layers run.now.pager) (page_area run.now.pager.width run.now.pager.height) screen
+        × IsBlankUnder (pager_layers run.now.pager) (page_area run.now.pager.width run.now.pager.height) screen
         × IsPrint screen [] text
         × Writes (K.told sink.old) (K.told sink.new) result (key_lines 0 run.now.states.items ++ text) }
 {

@@ -10,8 +10,8 @@ use tui_para::wraps_exactly_once;
 /// The byte of a newline.
 const NEWLINE: u8 = 10;
 
-/// A first part of a text that has the same first `lines` lines at a width: what stands before byte `near`, where that is so many text
-/// lines, and else one that ends little behind it.
+/// A first part of a text that has the same first `lines` lines at a width: what stands before byte `near`, where that is
+/// `lines` text lines, and else one that ends little behind it.
 pub(crate) fn shown_part(text: &str, width: u16, lines: usize, near: usize) -> &str
     requires { 0 < width }
     ensures { HaveSameLines width true lines text.now result.now }
@@ -25,7 +25,7 @@ pub(crate) fn shown_part(text: &str, width: u16, lines: usize, near: usize) -> &
     first_part(text, Lines { width, trim: true }, lines, near)
 }
 
-/// Whether at least so many text lines stand before a place, and nothing else.
+/// Whether at least `lines` text lines stand before a place, and nothing else.
 fn are_text_lines(bytes: &[u8], place: usize, lines: usize) -> bool
     ensures { result ≡ true → AreTextLines lines (take place bytes.now) }
 {

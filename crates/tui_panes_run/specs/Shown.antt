@@ -10,7 +10,7 @@ use Rattle.tui_scene.specs.Laws.{Draws}
 use Rattle.tui_scene.specs.Scene.{Run, placed_at}
 use Rattle.tui_panes_lib.specs.Draw.{in_order}
 use Rattle.tui_panes_lib.specs.Replace.{IsRedrawn, put_in}
-use Rattle.tui_panes_lib.specs.Place.{placed_of}
+use Rattle.tui_panes_lib.specs.Place.{leaves_in}
 use Rattle.tui_panes_run.specs.Changes.{ChangeData}
 use Rattle.tui_panes_run.specs.Input.{InputData}
 use Rattle.tui_panes_run.specs.Order.{numbers_of}
@@ -22,7 +22,7 @@ screen_area input = area_of 0 0 input.size.width input.size.height
 
 -- the leaves of the tree in their rectangles
 abbrev pub leaves_of : InputData → List PlacedData
-leaves_of input = placed_of (screen_area input) input.root
+leaves_of input = leaves_in (screen_area input) input.root
 
 -- the leaves after a change, whose widget has the state that its drawing leaves
 abbrev pub changed : Rect → List PlacedData → ChangeData → List PlacedData

@@ -3,7 +3,7 @@ use Rattle.tui_text.specs.Text.{raw_text}
 use Rattle.tui_text.specs.declared.alignment.Alignment.TheVariants.{Left}
 use Rattle.tui_para.specs.Hyphens.{at_blanks}
 use Rattle.tui_pages_lib.proofs.Measured.{counted}
-use Rattle.tui_pages_lib.proofs.measuring.line_count.Goals as goal
+use Rattle.tui_pages_lib.proofs.measuring.cell_height.Goals as goal
 
 pub returns : goal.returns
 returns c =

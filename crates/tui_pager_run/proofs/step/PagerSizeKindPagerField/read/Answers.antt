@@ -1,6 +1,6 @@
 use Rattle.serde_json.specs.View.{view}
 use Rattle.tui_pager_run.proofs.Bounds.{size_least}
-use Rattle.tui_pager_run.proofs.step.SizeKindPagerField.read.Goals as goal
+use Rattle.tui_pager_run.proofs.step.PagerSizeKindPagerField.read.Goals as goal
 
 pub invariant_of-result : goal.invariant_of-result
 invariant_of-result c =

@@ -1,4 +1,4 @@
--- The areas of leaves lie in the area of their pane, and apart.
+-- The rectangles of the leaves of a tree lie in its area, and apart.
 use Rattle.std.proofs.Common.{◌≡◌, ℕ, zero, suc, ◌+◌, ◌<◌, ◌≤◌, true, false, ◌&&◌, List, [], ◌∷◌, ◌++◌, length, get_or, map, arith, inl, inr}
 use Rattle.std.specs.Prelude.{◌⊎◌, ⊤, AllPairs}
 use Rattle.std.specs.List.{AllByRecursion}
@@ -14,7 +14,7 @@ use Rattle.tui_layout.specs.declared.flex.Flex.{Flex}
 use Rattle.tui_layout.specs.declared.segment.Segment.{Segment}
 use Rattle.tui_layout.proofs.Splitting.{columns_in_order}
 use Rattle.tui_scene.specs.Item.{PlacedData}
-use Rattle.tui_panes_lib.specs.Place.{PaneData, PartsData, leaf, split, no_parts, part, sizes_of, side_of, part_of, place_in, place_parts, placed_of}
+use Rattle.tui_panes_lib.specs.Place.{PaneData, PartsData, leaf, split, no_parts, part, sizes_of, side_of, part_of, place_in, place_parts, leaves_in}
 use Rattle.tui_panes_lib.specs.Laws.{PanesLieApart}
 
 -- a rectangle within the edges of another
@@ -158,9 +158,9 @@ lie_apart area pane =
     let whole = area_of area.x area.y area.width area.height in
     let inside = placed_inside whole pane in
     record {
-      inside = All-map (λ r. (x y : ℕ) → covers r x y ≡ true → covers area x y ≡ true) (λ (p : PlacedData). p.area) (placed_of area pane)
-          (All-from_recursion (λ (p : PlacedData). (x y : ℕ) → covers p.area x y ≡ true → covers area x y ≡ true) (placed_of area pane)
-          (all_weaker (λ (p : PlacedData). Lies whole p.area) (λ (p : PlacedData). (x y : ℕ) → covers p.area x y ≡ true → covers area x y ≡ true) (placed_of area pane)
+      inside = All-map (λ r. (x y : ℕ) → covers r x y ≡ true → covers area x y ≡ true) (λ (p : PlacedData). p.area) (leaves_in area pane)
+          (All-from_recursion (λ (p : PlacedData). (x y : ℕ) → covers p.area x y ≡ true → covers area x y ≡ true) (leaves_in area pane)
+          (all_weaker (λ (p : PlacedData). Lies whole p.area) (λ (p : PlacedData). (x y : ℕ) → covers p.area x y ≡ true → covers area x y ≡ true) (leaves_in area pane)
           (λ p l x y c. lies_covers area p.area x y (lies_cut area p.area l) c) inside.lie));
-      apart = apart_pairs (placed_of area pane) inside.apart;
+      apart = apart_pairs (leaves_in area pane) inside.apart;
     }

@@ -1,4 +1,4 @@
--- Leaves whose rectangles lie apart.
+-- Leaves whose rectangles lie apart stand apart, as the widgets of a scene do.
 use Rattle.std.proofs.Common.{◌≡◌, ℕ, zero, suc, ◌<◌, ◌&&◌, List, [], ◌∷◌, length, get_or, set, refl, sym, ap, ◌∙◌, arith}
 use Rattle.std.proofs.lemmas.List.{get_or-map, length-map, map-set, set-get_or}
 use Rattle.tui_cells.specs.declared.rect.Rect.{Rect}
