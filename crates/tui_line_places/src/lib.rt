@@ -12,4 +12,3 @@ pub use lines::Lines;
 pub use part::{first_part, is_behind_newline};
 pub use places::{from_line, line_places};
 pub use rest::after_line;
-pub use tui_clusters::clusters_go_on;
