@@ -7,7 +7,7 @@ use Rattle.tui_clusters.specs.Width.{width_of}
 
 -- the rule for clusters, where lines break at blanks alone
 abbrev pub cluster_rule : ℕ → Bool → Rule (List ℕ)
-cluster_rule w trim = record { blank = is_blank_text; cut = λ _. false; size = width_of; width = w; trim = trim }
+cluster_rule w trim = record { blank = is_blank_text; split = λ _. false; size = width_of; width = w; trim = trim }
 
 -- what is left behind a line that goes on, and the room that the line leaves: from where a grapheme doesn't fit, or else from
 -- where the last piece ended, if one has
