@@ -1,4 +1,4 @@
-use Rattle.std.proofs.Common.{◌≡◌, ◌∙◌, ap, length, map, subst, sym, List}
+use Rattle.std.proofs.Common.{◌∙◌, ap, length, map, subst, sym, List}
 use Rattle.std.proofs.lemmas.List.{length-map}
 use Rattle.tui_pager_lib.specs.Entry.{EntryData, entry_data}
 use Rattle.tui_pager_lib.specs.Laws.{SelectsEntry}

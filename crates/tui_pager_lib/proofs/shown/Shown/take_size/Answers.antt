@@ -20,7 +20,7 @@ cut-state-requires c =
     let entries = c.args.contents.now in
     let s = c.args.self.now in
     let items : vec_len s.places ≡ length s.places.items = search rules in
-    let have = subst (λ w. HavePlaces entries w s.state.selected s.places.items) (sym c.if-width-width.true) c.requires.places in
+    let have = subst (λ w. HavePlaces entries w s.state.selected s.places.items) (sym c.if-size-self.true) c.requires.places in
     c.len.ensures ∙ (items ∙ count_is entries c.args.size.width s.state.selected s.places.items
     (place_of entries s.size.width s.size.height s.state c.requires.sound) have)
 
@@ -35,11 +35,11 @@ redraw-requires-clause-sound c =
 pub redraw-requires-clause-places : goal.redraw-requires-clause-places
 redraw-requires-clause-places c =
     let s = c.args.self.now in
-    places_as c.args.contents.now c.args.size.width s.size.width _ s.state.selected s.places.items c.if-width-width.true
+    places_as c.args.contents.now c.args.size.width s.size.width _ s.state.selected s.places.items c.if-size-self.true
     (ap (λ (t : PagerState). t.selected) c.cut-state.ensures) c.requires.places
 
-pub cut-state-2-requires : goal.cut-state-2-requires
-cut-state-2-requires c =
+pub cut-state-requires-2 : goal.cut-state-requires-2
+cut-state-requires-2 c =
     let entries = c.args.contents.now in
     let s = c.args.self.now in
     let kept = c.in_ok-places.places in
