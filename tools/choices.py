@@ -76,6 +76,9 @@ class Width(Kind):
     def words(self):
         return "a number of columns, " + self.number.words() + ", or an object with one of " + listed(self.fields)
 
+    def hint(self, node):
+        return self.number.hint(node)
+
     def accepts(self, node):
         return node.kind == "number" or node.kind == "object" and any(node.get(name) for name in self.fields)
 
@@ -89,7 +92,7 @@ class Width(Kind):
         return []
 
     def known(self, node):
-        return {name for name, _, _, _ in self.children(node)} if node.kind == "object" else None
+        return {name for name, _, _, _ in self.children(node)} or set(self.fields) if node.kind == "object" else None
 
 
 class Date(Tuple):

@@ -10,6 +10,7 @@ NUMBER = re.compile(r"-?(?:0|[1-9][0-9]*)(?:\.[0-9]+)?(?:[eE][+-]?[0-9]+)?")
 WORD = re.compile(r"-?[^\W\d]\w*")
 BLANKS = re.compile(r"[ \t\n\r]*")
 WORDS = {"true": True, "false": False, "null": None}
+OTHERS = {"none": "null", "nil": "null", "undefined": "null", "yes": "true", "no": "false"}
 DEEPEST = 127
 CLOSING = {"{": "}", "[": "]"}
 
@@ -118,7 +119,7 @@ class Reader:
             return Node("word", WORDS[word], found.start())
         if word.lstrip("-") in ("NaN", "Infinity"):
             raise NotJSON(self.at, f"{word} is no JSON")
-        near = difflib.get_close_matches(word.lower(), [*WORDS, "null"], 1)
+        near = [OTHERS[word.lower()]] if word.lower() in OTHERS else difflib.get_close_matches(word.lower(), WORDS, 1)
         raise NotJSON(self.at, f"a value is wanted, found the word {word}; " + (f"did you mean {near[0]}?" if near else "texts stand in double quotes"))
 
     def value(self):

@@ -17,6 +17,13 @@ def number(text):
     return int(text.replace(",", ""))
 
 
+class Leaf(Number):
+    """The number of a leaf; how many there are is said by the value."""
+
+    def words(self):
+        return f"the number of a leaf, from 0 to {self.high}"
+
+
 class Tables:
     """The kinds by their names, of both pages. `scene`, `pages`, `pager` and `panes` are the inputs."""
 
@@ -183,7 +190,7 @@ class Tables:
 
     def read_programs(self):
         page = (ROOT / "docs/PROGRAMS.md").read_text(encoding="utf-8")
-        self.leaf, self.inputs = Number(0, 255), {}
+        self.leaf, self.inputs = Leaf(0, 255), {}
         for part in page.split("\n## ")[1:]:
             name = re.match(r"tui_(\w+):", part)
             if name:
