@@ -40,7 +40,7 @@ use Rattle.tui_cells.specs.declared.attributes.Attributes.{Attributes}
 use Rattle.tui_cells.specs.Cell.{IsAtRest, Look, blank, space}
 use Rattle.tui_print.specs.Laws.{IsInRun}
 use Rattle.tui_print.specs.Print.{AreRunLines, run_line}
-use Rattle.tui_print.specs.Runs.{StyleRun, IsStyleRun, AreStyleRuns, attributes_at, attributes_of, no_style}
+use Rattle.tui_print.specs.Runs.{StyleRun, IsStyleRun, AreStyleRuns, attributes_at, attributes_of, resting_attributes}
 
 -- The runs that begin before a column, which no run crosses.
 pub record RunsBefore (row : List Look) (column : ℕ) (runs : List StyleRun) : Type 0 where
@@ -49,7 +49,7 @@ pub record RunsBefore (row : List Look) (column : ℕ) (runs : List StyleRun) : 
   pub every : (run : StyleRun) → IsStyleRun row run → run.start < column → Contains runs run
   pub in_order : AllPairs (λ one later. one.start < later.start) runs
   pub edge : (x : ℕ) → x + 1 ≡ column → attributes_at row x ≢ attributes_at row column
-  pub cover : (x : ℕ) (a : Attributes) → x < column → attributes_at row x ≡ Some a → a ≢ no_style → (run : StyleRun) × IsStyleRun row run × IsInRun run x
+  pub cover : (x : ℕ) (a : Attributes) → x < column → attributes_at row x ≡ Some a → a ≢ resting_attributes → (run : StyleRun) × IsStyleRun row run × IsInRun run x
 
 -- Cells with one cell's attributes, up to a cell with others or the end of the row.
 pub record IsStretch (row : List Look) (start end : ℕ) (a : Attributes) : Type 0 where
@@ -121,7 +121,7 @@ only_run row s e a t run is from to =
     λ i. record { start = first i; len = len i; attributes = same i }
 
 -- a stretch that isn't at rest is a run
-new_run : (row : List Look) (s e : ℕ) (a : Attributes) → IsStretch row s e a → a ≢ no_style → ((x : ℕ) → x + 1 ≡ s → attributes_at row x ≢ attributes_at row s) → IsStyleRun row (run_of s e a)
+new_run : (row : List Look) (s e : ℕ) (a : Attributes) → IsStretch row s e a → a ≢ resting_attributes → ((x : ℕ) → x + 1 ≡ s → attributes_at row x ≢ attributes_at row s) → IsStyleRun row (run_of s e a)
 new_run row s e a t styled edge =
     let some = t.some in
     let ends : s + (e - s) ≡ e = omega arith in
@@ -134,7 +134,7 @@ new_run row s e a t styled edge =
     }
 
 -- cells at rest after the runs
-pub more_rest : (row : List Look) (s e : ℕ) (a : Attributes) (runs : List StyleRun) → RunsBefore row s runs → IsStretch row s e a → a ≡ no_style → RunsBefore row e runs
+pub more_rest : (row : List Look) (s e : ℕ) (a : Attributes) (runs : List StyleRun) → RunsBefore row s runs → IsStretch row s e a → a ≡ resting_attributes → RunsBefore row e runs
 more_rest row s e a runs inv t rest =
     let some = t.some in
     record {
@@ -152,29 +152,29 @@ more_rest row s e a runs inv t rest =
       ];
     }
 
-rest_attributes : (c : Look) → IsAtRest c → attributes_of c ≡ no_style
+rest_attributes : (c : Look) → IsAtRest c → attributes_of c ≡ resting_attributes
 rest_attributes c is = ap attributes_of is
 
-attributes_rest : (c : Look) → attributes_of c ≡ no_style → IsAtRest c
+attributes_rest : (c : Look) → attributes_of c ≡ resting_attributes → IsAtRest c
 attributes_rest c is = ap (λ (a : Attributes). record { symbol = space; fg = a.fg; bg = a.bg; modifier = a.modifier.bits }) is
 
 there : (row : List Look) (x : ℕ) → x < length row → attributes_at row x ≡ Some (attributes_of (slice_index_or row x blank))
 there row x lt = ap (option_map attributes_of) (slice_get-get_or row x blank lt)
 
-pub at_rest_at : (row : List Look) (x : ℕ) → x < length row → IsAtRest (slice_index_or row x blank) → attributes_at row x ≡ Some no_style
+pub at_rest_at : (row : List Look) (x : ℕ) → x < length row → IsAtRest (slice_index_or row x blank) → attributes_at row x ≡ Some resting_attributes
 at_rest_at row x lt is = there row x lt ∙ ap Some (rest_attributes (slice_index_or row x blank) is)
 
-styled_at : (row : List Look) (x : ℕ) → (x < length row → IsAtRest (slice_index_or row x blank) → ⊥) → attributes_at row x ≢ Some no_style
+styled_at : (row : List Look) (x : ℕ) → (x < length row → IsAtRest (slice_index_or row x blank) → ⊥) → attributes_at row x ≢ Some resting_attributes
 styled_at row x styled e = elim (cases_lt x (length row)) [
   | inl lt ↦ styled lt (attributes_rest (slice_index_or row x blank) (some_one _ _ (sym (there row x lt) ∙ e)))
-  | inr le ↦ past_end row x no_style le e
+  | inr le ↦ past_end row x resting_attributes le e
 ]
 
 -- no run begins before the first cell with a style
 pub rest_first : (row : List Look) (first : ℕ) → first ≤ length row → ((x : ℕ) → x < first → IsAtRest (slice_index_or row x blank)) →
     (first < length row → IsAtRest (slice_index_or row first blank) → ⊥) → RunsBefore row first []
 rest_first row first le rest styled = elim (cases_lt 0 first) [
-  | inl lt ↦ more_rest row 0 first no_style [] (no_runs row)
+  | inl lt ↦ more_rest row 0 first resting_attributes [] (no_runs row)
       (record { some = lt; alike = λ x from to. at_rest_at row x (omega (arith, to, le)) (rest x to); other = styled_at row first styled }) refl
   | inr none ↦
       let zero : first ≡ 0 = omega (arith, none) in
@@ -182,7 +182,7 @@ rest_first row first le rest styled = elim (cases_lt 0 first) [
 ]
 
 -- one more run after the runs
-pub more_run : (row : List Look) (s e : ℕ) (a : Attributes) (runs : List StyleRun) → RunsBefore row s runs → IsStretch row s e a → a ≢ no_style → RunsBefore row e (runs ++ run_of s e a ∷ [])
+pub more_run : (row : List Look) (s e : ℕ) (a : Attributes) (runs : List StyleRun) → RunsBefore row s runs → IsStretch row s e a → a ≢ resting_attributes → RunsBefore row e (runs ++ run_of s e a ∷ [])
 more_run row s e a runs inv t styled =
     let some = t.some in
     let new = run_of s e a in

@@ -11,7 +11,7 @@ use Rattle.tui_scene.specs.Item.{PlacedData}
 use Rattle.tui_print.specs.Laws.{IsInRun}
 use Rattle.tui_rows.specs.RowLine.{row_line}
 use Rattle.tui_print.specs.Print.{AreRunLines, IsPrint, run_line, state_lines}
-use Rattle.tui_print.specs.Runs.{StyleRun, IsStyleRun, AreStyleRuns, attributes_of, attributes_at, no_style}
+use Rattle.tui_print.specs.Runs.{StyleRun, IsStyleRun, AreStyleRuns, attributes_of, attributes_at, resting_attributes}
 use Rattle.tui_print.proofs.Equality.{attributes_cases}
 use Rattle.tui_print.proofs.RunLemmas.{RunsBefore, IsStretch, run_of, past_end, some_one, stretch_of, no_runs, more_rest, more_run, all_runs, one_run}
 
@@ -111,7 +111,7 @@ find_runs row (suc left) column runs le inv = elim (cases_lt column (length row)
       let stretch = stretch_end row column a first (length row - column) column (omega arith) (omega arith) (λ y low high. absurd (omega arith)) in
       let end = stretch.0 in
       let past = stretch.1.some in
-      elim (attributes_cases a no_style) [
+      elim (attributes_cases a resting_attributes) [
         | inl rest ↦ find_runs row left end runs (omega arith) (more_rest row column end a runs inv stretch.1 rest)
         | inr styled ↦ find_runs row left end (runs ++ run_of column end a ∷ []) (omega arith) (more_run row column end a runs inv stretch.1 styled)
       ]
@@ -123,7 +123,7 @@ runs_exist row =
     let found = find_runs row (length row) 0 [] (omega arith) (no_runs row) in
     (found.0, found.1)
 
-pub cell_run : (row : List Look) (column : ℕ) (a : Attributes) → attributes_at row column ≡ Some a → a ≢ no_style →
+pub cell_run : (row : List Look) (column : ℕ) (a : Attributes) → attributes_at row column ≡ Some a → a ≢ resting_attributes →
     (run : StyleRun) × IsStyleRun row run × IsInRun run column × (run.attributes ≡ a) × ((other : StyleRun) → IsStyleRun row other → IsInRun other column → other ≡ run)
 cell_run row column a is styled =
     let all = (find_runs row (length row) 0 [] (omega arith) (no_runs row)).2 in

@@ -4,7 +4,7 @@ use Rattle.tui_cells.specs.declared.attributes.Attributes.{Attributes}
 use Rattle.tui_cells.specs.Buffer.{Screen}
 use Rattle.tui_cells.specs.Cell.{Look}
 use Rattle.tui_scene.specs.Item.{PlacedData}
-use Rattle.tui_print.specs.Runs.{StyleRun, IsStyleRun, AreStyleRuns, no_style, attributes_at}
+use Rattle.tui_print.specs.Runs.{StyleRun, IsStyleRun, AreStyleRuns, resting_attributes, attributes_at}
 use Rattle.tui_print.specs.Print.{IsPrint}
 
 -- exactly one list has all the runs of a row
@@ -17,7 +17,7 @@ IsInRun run column = (run.start ≤ column) × (column < run.start + run.len)
 
 -- each cell that isn't at rest lies in exactly one run, whose attributes it has
 abbrev pub CellsHaveRuns : Type 0
-CellsHaveRuns = (row : List Look) (column : ℕ) (a : Attributes) → attributes_at row column ≡ Some a → a ≢ no_style →
+CellsHaveRuns = (row : List Look) (column : ℕ) (a : Attributes) → attributes_at row column ≡ Some a → a ≢ resting_attributes →
     (run : StyleRun) × IsStyleRun row run × IsInRun run column × (run.attributes ≡ a)
     × ((other : StyleRun) → IsStyleRun row other → IsInRun other column → other ≡ run)
 

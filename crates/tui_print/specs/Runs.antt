@@ -9,8 +9,8 @@ abbrev pub attributes_of : Look → Attributes
 attributes_of c = record { fg = c.fg; bg = c.bg; modifier = record { bits = c.modifier } }
 
 -- both colours Reset, no modifier
-abbrev pub no_style : Attributes
-no_style = attributes_of blank
+abbrev pub resting_attributes : Attributes
+resting_attributes = attributes_of blank
 
 -- the attributes of the cell in a column, if the row has that column
 abbrev pub attributes_at : List Look → ℕ → Option Attributes
@@ -26,7 +26,7 @@ pub record StyleRun : Type 0 where
 pub record IsStyleRun (row : List Look) (run : StyleRun) : Type 0 where
   pub some : 0 < run.len
   pub alike : (x : ℕ) → run.start ≤ x → x < run.start + run.len → attributes_at row x ≡ Some run.attributes
-  pub styled : run.attributes ≢ no_style
+  pub styled : run.attributes ≢ resting_attributes
   pub first : (x : ℕ) → x + 1 ≡ run.start → attributes_at row x ≢ Some run.attributes
   pub last : attributes_at row (run.start + run.len) ≢ Some run.attributes
 

@@ -4,7 +4,7 @@ ghost use Rattle.std.specs.Prelude.{◌≡◌, ◌≢◌, ◌<◌, ◌≤◌, �
 ghost use Rattle.tui_cells.specs.Cell.{IsAtRest, blank};
 ghost use Rattle.tui_outside.specs.Gathers.{Gathers};
 ghost use Rattle.tui_print.specs.Print.{AreRunLines, run_line};
-ghost use Rattle.tui_print.specs.Runs.{AreStyleRuns, StyleRun, no_style, attributes_at};
+ghost use Rattle.tui_print.specs.Runs.{AreStyleRuns, StyleRun, resting_attributes, attributes_at};
 
 use crate::line::Line;
 use tui_cells::{Attributes, Buffer, Cell, Color};
@@ -101,9 +101,9 @@ fn put_run<K: Sink>(
     attributes: Attributes,
     sink: &mut K,
 )
-    ensures { ((attributes ≡ no_style)
+    ensures { ((attributes ≡ resting_attributes)
         × Gathers (K.told sink.old) (K.told sink.new) print.old print.new [])
-        ⊎ ((attributes ≢ no_style)
+        ⊎ ((attributes ≢ resting_attributes)
         × Gathers (K.told sink.old) (K.told sink.new) print.old print.new
         (run_line number (record { start = start; len = len; attributes = attributes }))) }
 {
