@@ -167,7 +167,7 @@ step knows tame t = record t { cursor = None; pen = None; tamed = true; autowrap
 step knows (place x y) t =
     record t { cursor = if t.tamed && (nat_lt x t.columns && nat_lt y t.height) then Some (record { column = x; row = y }) else None }
 step knows (paint ss) t = record t { pen = Some (pen_after ss rest) }
-step knows (add s) t = record t { pen = option_map_or (λ p. Some (set_to s p)) None t.pen }
+step knows (add s) t = record t { pen = option_map_or (λ p. Some (set_to s p)) t.pen None }
 step knows (print symbol) t = printed knows symbol t t.cursor t.pen
 step knows (turn mode on) t = turned mode on t
 
