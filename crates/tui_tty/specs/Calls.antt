@@ -19,7 +19,7 @@ pub record IsFull (o : Output) (b : Screen) (text : List ℕ) : Type 0 where
   pub commands : List Command
   pub spelled : IsSpelled o.trust commands text
   pub shows : (knows : List ℕ → Bool) (t : Tty) → Trusts o.trust knows → HasRoom t b → Shows o knows (run knows commands t) b
-  pub cursor : (knows : List ℕ → Bool) (t : Tty) → HasRoom t b → HasCursor o.cursor (run knows commands t)
+  pub cursor : (knows : List ℕ → Bool) (t : Tty) → Trusts o.trust knows → HasRoom t b → HasCursor o.cursor (run knows commands t)
   pub keeps : (knows : List ℕ → Bool) (t : Tty) → Trusts o.trust knows → HasRoom t b → t.whole ≡ true → Keeps o knows b t (run knows commands t)
   -- what is sent, row by row
   pub sent : List (List Placed)
@@ -34,7 +34,7 @@ pub record IsChange (o : Output) (old new : Screen) (text : List ℕ) : Type 0 w
   pub commands : List Command
   pub spelled : IsSpelled o.trust commands text
   pub shows : (knows : List ℕ → Bool) (t : Tty) → Trusts o.trust knows → Shows o knows t old → Shows o knows (run knows commands t) new
-  pub cursor : (knows : List ℕ → Bool) (t : Tty) → Shows o knows t old → HasCursor o.cursor (run knows commands t)
+  pub cursor : (knows : List ℕ → Bool) (t : Tty) → Trusts o.trust knows → Shows o knows t old → HasCursor o.cursor (run knows commands t)
   pub keeps : (knows : List ℕ → Bool) (t : Tty) → Trusts o.trust knows → Shows o knows t old → Keeps o knows new t (run knows commands t)
   pub sent : List (List Placed)
   pub counted : length sent ≡ length new.rows

@@ -4,3 +4,7 @@ pub mod Seen
 pub mod Walks
 pub mod Pen
 pub mod Steps
+pub mod Rows
+pub mod Apart
+pub mod Frames
+pub mod Screens
