@@ -8,3 +8,6 @@ pub mod Rows
 pub mod Apart
 pub mod Frames
 pub mod Screens
+pub mod Unchanged
+pub mod Between
+pub mod Depths

@@ -2,7 +2,9 @@
 #![tactic(auto)]
 
 mod at;
+mod laws;
 mod wanted;
 
 pub use at::At;
+pub use laws::{colour_laws, screen_laws, session_law, symbol_law};
 pub use wanted::Wanted;
