@@ -1,5 +1,5 @@
 -- A colour as far as a terminal has it.
-use Rattle.std.specs.Prelude.{◌≡◌, ℕ, ◌+◌, ◌-◌, ◌*◌, ◌/◌, ◌≤◌, ◌<◌, min, Bool, nat_le, nat_lt, List, [], ◌∷◌, get_or, if◌then◌else◌}
+use Rattle.std.specs.Prelude.{◌≡◌, ℕ, ◌+◌, ◌-◌, ◌*◌, ◌/◌, Bool, nat_le, nat_lt, List, [], ◌∷◌, get_or, map, if◌then◌else◌}
 use Rattle.tui_cells.specs.declared.color.Color.{Color}
 use Rattle.tui_cells.specs.declared.color.Color.TheVariants as colors
 use Rattle.tui_tty.specs.declared.depth.Depth.{Depth}
@@ -41,27 +41,43 @@ cube_index r g b = 16 + (36 * r + (6 * g + b))
 abbrev pub gray_index : ℕ → ℕ
 gray_index i = 232 + i
 
--- the level that is nearest to a number, and the gray that is nearest to a sum of three
+-- the level that is nearest to a number
 unfoldable pub level_at : ℕ → ℕ
 level_at v = if nat_lt v 48 then 0 else if nat_lt v 115 then 1 else if nat_lt v 155 then 2 else if nat_lt v 195 then 3 else if nat_lt v 235 then 4 else 5
 
-unfoldable pub gray_at : ℕ → ℕ
-gray_at sum = min 23 ((sum - 9) / 30)
+-- ---- the nearest of some
 
--- the nearest of cube and grays, of the cube where both are as near
-unfoldable pub nearest_index : Light → ℕ
-nearest_index c =
-    let r = level_at c.red in
-    let g = level_at c.green in
-    let b = level_at c.blue in
-    let i = gray_at (c.red + (c.green + c.blue)) in
-    if nat_le (distance c (cube_light r g b)) (distance c (gray_light i)) then cube_index r g b else gray_index i
-
--- ---- the sixteen named ones, as xterm has them by default
-
+-- a colour as it is sent, and its red, green and blue
 pub record Named : Type 0 where
   pub color : Color
   pub light : Light
+
+-- the nearer one of two, the first of those that are as near
+abbrev pub nearer : Light → Named → Named → Named
+nearer c a b = if nat_le (distance c a.light) (distance c b.light) then a else b
+
+unfoldable pub nearest_of : Light → Named → List Named → Named
+nearest_of c best [] = best
+nearest_of c best (n ∷ ns) = nearest_of c (nearer c best n) ns
+
+-- one of the cube, and the grays
+abbrev pub cube_color : ℕ → ℕ → ℕ → Named
+cube_color r g b = record { color = colors.Indexed (cube_index r g b); light = cube_light r g b }
+
+abbrev pub gray_color : ℕ → Named
+gray_color i = record { color = colors.Indexed (gray_index i); light = gray_light i }
+
+unfoldable pub grays : List Named
+grays = map gray_color (0 ∷ 1 ∷ 2 ∷ 3 ∷ 4 ∷ 5 ∷ 6 ∷ 7 ∷ 8 ∷ 9 ∷ 10 ∷ 11 ∷ 12 ∷ 13 ∷ 14 ∷ 15 ∷ 16 ∷ 17 ∷ 18 ∷ 19 ∷ 20 ∷ 21 ∷ 22 ∷ 23 ∷ [])
+
+-- the nearest of the cube, level by level; and of cube and grays
+abbrev pub nearest_in_cube : Light → Named
+nearest_in_cube c = cube_color (level_at c.red) (level_at c.green) (level_at c.blue)
+
+abbrev pub nearest_in_palette : Light → Named
+nearest_in_palette c = nearest_of c (nearest_in_cube c) grays
+
+-- ---- the sixteen named ones, as xterm has them by default
 
 abbrev named : Color → ℕ → ℕ → ℕ → Named
 named c r g b = record { color = c; light = record { red = r; green = g; blue = b } }
@@ -75,14 +91,6 @@ other_names =
     ∷ named colors.Magenta 205 0 205 ∷ named colors.Cyan 0 205 205 ∷ named colors.Gray 229 229 229 ∷ named colors.DarkGray 127 127 127
     ∷ named colors.LightRed 255 0 0 ∷ named colors.LightGreen 0 255 0 ∷ named colors.LightYellow 255 255 0 ∷ named colors.LightBlue 92 92 255
     ∷ named colors.LightMagenta 255 0 255 ∷ named colors.LightCyan 0 255 255 ∷ named colors.White 255 255 255 ∷ []
-
--- the nearest of some, the first of those that are as near
-abbrev pub nearer : Light → Named → Named → Named
-nearer c a b = if nat_le (distance c a.light) (distance c b.light) then a else b
-
-unfoldable pub nearest_of : Light → Named → List Named → Named
-nearest_of c best [] = best
-nearest_of c best (n ∷ ns) = nearest_of c (nearer c best n) ns
 
 abbrev pub nearest_named : Light → Color
 nearest_named c = (nearest_of c black other_names).color
@@ -99,7 +107,7 @@ light_at n =
 -- ---- by depth
 
 unfoldable pub palette_color : Color → Color
-palette_color (colors.Rgb red green blue) = colors.Indexed (nearest_index (record { red = red; green = green; blue = blue }))
+palette_color (colors.Rgb red green blue) = (nearest_in_palette (record { red = red; green = green; blue = blue })).color
 palette_color c = c
 
 unfoldable pub sixteen_color : Color → Color

@@ -10,7 +10,7 @@ use Rattle.tui_tty.specs.declared.output.Output.{Output}
 use Rattle.tui_tty.specs.declared.trust.Trust.{Trust}
 use Rattle.tui_tty.specs.declared.trust.Trust.TheVariants.{Common}
 use Rattle.tui_tty.specs.Calls.{IsChange, IsFull}
-use Rattle.tui_tty.specs.Colours.{Light, Named, black, color_at, distance, nearest_of, other_names}
+use Rattle.tui_tty.specs.Colours.{Light, Named, black, color_at, cube_light, distance, grays, nearest_in_palette, nearest_of, other_names}
 use Rattle.tui_tty.specs.Pens.{IsPen, has_name, parameters, settings_of}
 use Rattle.tui_tty.specs.Shows.{HasRoom, IsPlace, Shows, Trusts}
 use Rattle.tui_tty.specs.Spelling.{spelling}
@@ -84,3 +84,11 @@ NamesStay = (c : Color) → has_name c ≡ true → (color_at depths.Sixteen c �
 -- none of the sixteen is nearer
 abbrev pub NearestName : Type 0
 NearestName = (c : Light) (n : Named) → Contains (black ∷ other_names) n → distance c (nearest_of c black other_names).light ≤ distance c n.light
+
+-- of the palette's cube and grays none is nearer
+pub record IsNearest (c : Light) (found : Named) : Type 0 where
+  pub in_cube : (r g b : ℕ) → r ≤ 5 → g ≤ 5 → b ≤ 5 → distance c found.light ≤ distance c (cube_light r g b)
+  pub in_grays : (n : Named) → Contains grays n → distance c found.light ≤ distance c n.light
+
+abbrev pub NearestInPalette : Type 0
+NearestInPalette = (c : Light) → IsNearest c (nearest_in_palette c)
