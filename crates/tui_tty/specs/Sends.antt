@@ -1,5 +1,5 @@
 -- What is sent, and how: each cell at most once, its move and its pen right before it.
-use Rattle.std.specs.Prelude.{◌≡◌, ℕ, ◌+◌, ◌<◌, Bool, true, false, List, [], ◌∷◌, ◌++◌, All, Contains, flat_map, ◌⊎◌, if◌then◌else◌}
+use Rattle.std.specs.Prelude.{◌≡◌, ℕ, ◌+◌, ◌<◌, Bool, true, false, List, [], ◌∷◌, ◌++◌, All, Contains, length, flat_map, ◌⊎◌, if◌then◌else◌}
 use Rattle.tui_text.specs.Visible.{Placed}
 use Rattle.tui_tty.specs.declared.cursor.Cursor.{Cursor}
 use Rattle.tui_tty.specs.declared.cursor.Cursor.TheVariants.{Keep, Hidden, At}
@@ -13,7 +13,7 @@ use Rattle.tui_tty.specs.Terminal.{Pen, Setting, mark, front, back, Mode, autowr
 
 -- ---- a text is commands
 
--- A symbol that is sent holds no control character, so no text of a cell begins a command. A paint sets a pen of nine marks, and of the
+-- A symbol that is sent is some text without a control character, so no text of a cell begins a command. A paint sets a pen of nine marks, and of the
 -- modes a frame turns the cursor and what is held alone.
 abbrev pub IsSafeSetting : Setting → Type 0
 IsSafeSetting (mark k) = k < 9
@@ -25,7 +25,7 @@ IsSafeMode held = Unit {0}
 IsSafeMode _ = ⊥
 
 abbrev pub IsSafe : Command → Type 0
-IsSafe (print symbol) = is_quiet symbol ≡ true
+IsSafe (print symbol) = (0 < length symbol) × (is_quiet symbol ≡ true)
 IsSafe (paint ss) = (p : Pen) × (IsPen p × (ss ≡ settings_of p))
 IsSafe (add s) = IsSafeSetting s
 IsSafe (turn mode on) = IsSafeMode mode

@@ -18,7 +18,6 @@ use Rattle.tui_tty.specs.Pens.{attributes_of, first_pen, has_name, paints_of, pe
 use Rattle.tui_tty.specs.Pieces.{pieces, row_pieces}
 use Rattle.tui_tty.specs.Sends.{IsFrame, IsMove, IsPaint, IsSafe, Sends, SendsFirst, SendsRow, SendsRows, closing, cursor_commands, opening}
 use Rattle.tui_tty.specs.Shows.{HasCursor, HasRoom, IsBeside, IsPlace, KnowsAll, Stands, Trusts}
-use Rattle.tui_tty.specs.Symbols.{is_quiet}
 use Rattle.tui_tty.specs.Terminal.{Command, Shown, Spot, Tty, add, back, held, paint, place, print, run, turn, visible}
 use Rattle.tui_tty_laws.specs.declared.at.At.{At}
 use Rattle.tui_tty_laws.specs.Sent.{row_shown}
@@ -312,7 +311,7 @@ paint_safe false depth p =
     let b = color_at depth a.bg in
     ((first_pen (pen_of depth a), (first_is f b a.modifier.bits, refl)), back_safe (has_name b) b)
 
-send_safe : (o : Output) (y : ℕ) (at : At) (ps : List Placed) → Each (λ p. is_quiet p.cell.symbol ≡ true) ps → Each IsSafe (send o y at ps)
+send_safe : (o : Output) (y : ℕ) (at : At) (ps : List Placed) → Each (λ p. IsSafe (print p.cell.symbol)) ps → Each IsSafe (send o y at ps)
 unfolding send
 send_safe o y at [] quiet = tt
 send_safe o y at (p ∷ ps) quiet =
@@ -328,7 +327,7 @@ unfolding send_rows
 rows_safe o y columns [] fit = tt
 rows_safe o y columns (ps ∷ pss) fit =
     Each-append IsSafe (send o y nowhere ps) _
-    (send_safe o y nowhere ps (Each-weaker (IsFit o.trust columns) (λ p. is_quiet p.cell.symbol ≡ true) (λ p h. h.quiet) ps fit.0))
+    (send_safe o y nowhere ps (Each-weaker (IsFit o.trust columns) (λ p. IsSafe (print p.cell.symbol)) (λ p h. (h.some, h.quiet)) ps fit.0))
     (rows_safe o (y + 1) columns pss fit.1)
 
 open_safe : (on : Bool) → Each IsSafe (cond on (turn held true ∷ []) [])

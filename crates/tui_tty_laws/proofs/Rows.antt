@@ -163,6 +163,7 @@ in_fit trust left columns row xs le within =
       wide = omega (arith, fit.wide);
       reaches = λ risky. omega (arith, fit.reaches risky);
       quiet = fit.quiet;
+      some = fit.some;
     })
     xs within
 

@@ -1,8 +1,8 @@
 -- The symbols that are shown.
-use Rattle.std.proofs.Common.{◌≡◌, ℕ, ◌<◌, ◌≤◌, true, false, ◌&&◌, ◌||◌, List, refl, sym, ◌∙◌, inl, inr, arith, rules}
+use Rattle.std.proofs.Common.{◌≡◌, ℕ, ◌<◌, ◌≤◌, true, false, ◌&&◌, ◌||◌, List, [], ◌∷◌, length, refl, sym, ap, ◌∙◌, inl, inr, arith, rules}
 use Rattle.std.specs.Prelude.{nat_le, Option, None, Some}
 use Rattle.std.specs.Str.{chars}
-use Rattle.std.proofs.lemmas.Str.{chars-IsAscii}
+use Rattle.std.proofs.lemmas.Str.{chars-IsAscii, chars-nil}
 use Rattle.std.proofs.lemmas.Bool.{and_parts, cond-true, cond-false, leb-true, or_cases, true≢false}
 use Rattle.unicode_width.proofs.Rules.{str_width-printable}
 use Rattle.tui_cells.specs.Cell.{Look, space}
@@ -11,7 +11,7 @@ use Rattle.tui_text.specs.Visible.{step_of}
 use Rattle.tui_tty.specs.declared.trust.Trust.{Trust}
 use Rattle.tui_tty.specs.declared.trust.Trust.TheVariants.{Common, Ascii}
 use Rattle.tui_tty.specs.Pieces.{Cover, blanked, covered, seen}
-use Rattle.tui_tty.specs.Symbols.{is_ascii, is_common, is_ended, is_led, is_quiet, is_sendable, is_trusted}
+use Rattle.tui_tty.specs.Symbols.{has_columns, is_ascii, is_common, is_ended, is_led, is_quiet, is_sendable, is_trusted}
 use Rattle.tui_tty.specs.Terminal.{reach}
 
 -- a blank takes one column
@@ -32,9 +32,21 @@ blank_quiet = refl
 
 -- a symbol that may be sent
 pub record Sendable (trust : Trust) (room : ℕ) (s : List ℕ) : Type 0 where
+  pub some : 0 < length s
   pub quiet : is_quiet s ≡ true
   pub fits : step_of s ≤ room
   pub reaches : is_trusted trust s ≡ false → reach s ≤ room
+
+some_trusted : (trust : Trust) (s : List ℕ) → is_trusted trust s ≡ true → 0 < length s
+unfolding is_ascii is_common
+some_trusted Common [] e = absurd (true≢false (sym e))
+some_trusted Ascii [] e = absurd (true≢false (sym e))
+some_trusted trust (b ∷ bs) e = omega arith
+
+some_led : (s : List ℕ) → is_led s ≡ true → 0 < length s
+unfolding is_led
+some_led [] e = absurd (true≢false (sym (sym (ap has_columns chars-nil) ∙ e)))
+some_led (b ∷ bs) e = omega arith
 
 pub parts_of : (trust : Trust) (room : ℕ) (s : List ℕ) → is_sendable trust room s ≡ true → Sendable trust room s
 unfolding is_sendable
@@ -42,6 +54,10 @@ parts_of trust room s e =
     let both = and_parts (is_quiet s && nat_le (step_of s) room) (is_trusted trust s || ((is_led s && is_ended s) && nat_le (reach s) room)) e in
     let first = and_parts (is_quiet s) (nat_le (step_of s) room) both.0 in
     record {
+      some = elim (or_cases (is_trusted trust s) ((is_led s && is_ended s) && nat_le (reach s) room) both.1) [
+        | inl trusted ↦ some_trusted trust s trusted
+        | inr other ↦ some_led s (and_parts (is_led s) (is_ended s) (and_parts (is_led s && is_ended s) (nat_le (reach s) room) other).0).0
+      ];
       quiet = first.0;
       fits = leb-true (step_of s) room first.1;
       reaches = λ risky. elim (or_cases (is_trusted trust s) ((is_led s && is_ended s) && nat_le (reach s) room) both.1) [

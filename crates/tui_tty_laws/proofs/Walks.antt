@@ -346,14 +346,17 @@ pub record IsFit (trust : Trust) (right : ℕ) (p : Placed) : Type 0 where
   pub wide : p.column + step_of p.cell.symbol ≤ right
   pub reaches : is_trusted trust p.cell.symbol ≡ false → p.column + reach p.cell.symbol ≤ right
   pub quiet : is_quiet p.cell.symbol ≡ true
+  pub some : 0 < length p.cell.symbol
 
 blank_fit : (trust : Trust) (right column : ℕ) (b : Look) → b.symbol ≡ space → column < right → IsFit trust right (at_column column b)
 blank_fit trust right column b is lt =
     let one : step_of b.symbol ≡ 1 = ap step_of is ∙ blank_step in
+    let long : length b.symbol ≡ length space = ap length is in
     record {
       wide = omega (arith, one);
       reaches = λ risky. absurd (true≢false (sym (ap (is_trusted trust) is ∙ blank_trusted trust) ∙ risky));
       quiet = ap is_quiet is ∙ blank_quiet;
+      some = omega (arith, long);
     }
 
 seen_fit : (trust : Trust) (right column room : ℕ) (c : Look) → column + room ≡ right → 0 < room → IsFit trust right (at_column column (seen trust room c))
@@ -365,6 +368,7 @@ seen_fit trust right column room c end some = elim (cases_Bool (is_sendable trus
         wide = omega (arith, fits);
         reaches = λ risky. omega (arith, parts.reaches risky);
         quiet = parts.quiet;
+        some = parts.some;
       } in
       subst (λ s. IsFit trust right (at_column column s)) (sym (seen_true trust room c on)) here
   | inr off ↦ subst (λ s. IsFit trust right (at_column column s)) (sym (seen_false trust room c off)) (blank_fit trust right column (blanked c) refl (omega arith))
