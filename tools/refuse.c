@@ -59,7 +59,7 @@ static void *refuse(const void *place)
     return NULL;
 }
 
-/* Whether a request of so many bytes is met. */
+/* Whether a request of `bytes` bytes is met. */
 static int may(size_t bytes)
 {
     if (one && refused && !next_wanted)

@@ -15,7 +15,7 @@ def fill(symbol, area=(0, 0, 1000, 1000), **fields):
 
 
 def words(length):
-    """A text of about so many bytes, of words of 1 to 9 letters."""
+    """A text of about `length` bytes, of words of 1 to 9 letters."""
     source = random.Random(4711)
     text = []
     while length > 0:
@@ -26,13 +26,13 @@ def words(length):
 
 
 def compounds(length):
-    """A text of about so many bytes, in the words of the text above, every third of them with a hyphen at its third letter."""
+    """A text of about `length` bytes, in the words of the text above, every third of them with a hyphen at its third letter."""
     each = words(length).split(" ")
     return " ".join(word[:2] + "-" + word[3:] if i % 3 == 0 and len(word) > 3 else word for i, word in enumerate(each))
 
 
 def short_lines(length):
-    """A text of about so many bytes, in lines of five words of the text above."""
+    """A text of about `length` bytes, in lines of five words of the text above."""
     each = words(length).split(" ")
     return "\n".join(" ".join(each[i : i + 5]) for i in range(0, len(each), 5))
 
@@ -131,7 +131,7 @@ def ignored():
 
 
 def wide_words(length):
-    """A text of about so many bytes, of words of one to eight CJK characters, every fourth with accents by combining marks at its end."""
+    """A text of about `length` bytes, of words of one to eight CJK characters, every fourth with accents by combining marks at its end."""
     source = random.Random(4719)
     each = []
     while length > 0:
@@ -142,7 +142,7 @@ def wide_words(length):
 
 
 def words_of(letters, length):
-    """A text of about so many bytes, of words of one to nine of these letters."""
+    """A text of about `length` bytes, of words of one to nine of these letters."""
     source = random.Random(4720)
     each = []
     while length > 0:
@@ -165,7 +165,7 @@ def stripes():
 
 
 def pager(width, height, entries, key):
-    """So many entries as the pair says, each with a title of four bytes and a body of so many bytes, and 1,000 times one key."""
+    """Entries, as many as the first of the pair, each with a title of four bytes and a body of as many bytes as the second, and 1,000 times one key."""
     count, length = entries
     each = [{"title": f"e{i:03}", "body": words(length)[:length]} for i in range(count)]
     return {"width": width, "height": height, "entries": each, "keys": [key] * 1_000}
@@ -176,7 +176,7 @@ def pane_item(i):
 
 
 def grid(rows, changes):
-    """16 panes of 60 by 60 in each of so many rows, and so many changes, each of one pane."""
+    """16 panes of 60 by 60 in each of the rows, and the changes, each of one pane."""
     row = lambda y: {"parts": [{"size": {"fill": 1}, "pane": {"item": pane_item(16 * y + x)}} for x in range(16)]}
     root = {"direction": "Vertical", "parts": [{"size": {"fill": 1}, "pane": row(y)} for y in range(rows)]}
     changed = [{"leaf": i % (16 * rows), "item": pane_item(i + 16 * rows)} for i in range(changes)]
@@ -213,12 +213,12 @@ def records(count):
 
 
 def letters(count):
-    """So many records of one word of 4,096 letters, a line for each letter."""
+    """`count` records of one word of 4,096 letters, a line for each letter."""
     return report(3, 4, [1], [["abcdefghijklmnop" * 256] for _ in range(count)])
 
 
 def newlines(count):
-    """So many records of 4,096 lines of one letter."""
+    """`count` records of 4,096 lines of one letter."""
     return report(3, 4, [1], [["a\n" * 4096] for _ in range(count)])
 
 

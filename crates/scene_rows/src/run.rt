@@ -1,17 +1,17 @@
 //! The run of a row.
 
-ghost use Rattle.scene_rows.specs.Ran.{EndsWith, Ran};
+ghost use Rattle.scene_rows.specs.Ran.{HasStatus, Ran};
 ghost use Rattle.std.specs.Prelude.{IfOk};
-ghost use Rattle.tui_program.specs.Call.{call_of};
+ghost use Rattle.tui_program.specs.Transcript.{transcript_of};
 
 use crate::program::Program;
 use crate::row::Given;
 use anyhow::Result;
 use std::alloc::Global;
+use tui_outside::{MemSink, MemSource, Sink, Source};
 use tui_pager_run::run_pager;
 use tui_pages_run::run_pages;
 use tui_panes_run::run_panes;
-use tui_port::{MemSink, MemSource, Sink, Source};
 use tui_show_run::show;
 
 /// Runs a program over words and what is given, and answers its status and the sink.
@@ -37,7 +37,7 @@ fn end<S: Source, K: Sink>(
     source: &mut S,
     sink: &mut K,
 ) -> u8
-    ensures { EndsWith program words.now (call_of (S.told source.old) (S.told source.new) (K.told sink.old) (K.told sink.new)) result }
+    ensures { HasStatus program words.now (transcript_of (S.told source.old) (S.told source.new) (K.told sink.old) (K.told sink.new)) result }
 {
     match program {
         Program::Show => show(alloc, words, source, sink).status(),

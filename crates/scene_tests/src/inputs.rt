@@ -1,15 +1,14 @@
 //! What only calls show of inputs in JSON: one item in a given area, and values with fields of their own.
 
-ghost use Rattle.std.specs.Prelude.{◌≡◌, None};
-ghost use Rattle.tui_schema.specs.Refusals.{Refusal, refused, required};
+ghost use Rattle.tui_schema.specs.Refusals.{required};
 
 use serde_json::Value;
 use std::alloc::Global;
 use std::test::Fail;
 use tui_cells::{Mem, NoMemory, Rect};
-use tui_json::{Numbered, each_numbered, elements, required};
+use tui_json::{InputError, Numbered, each_numbered, elements, required};
 use tui_scene::Item;
-use tui_schema::{Field, SceneError, item_of};
+use tui_schema::{BadField, Field, SceneError, item_of};
 
 fn json(alloc: Global, text: &str) -> Mem<Value> {
     match Value::from_str(alloc, text) {
@@ -47,40 +46,35 @@ fn an_item_is_read_in_a_given_area(rt: HostRuntime) -> Result<(), Fail> {
 #[derive(Drop)]
 struct Place(u64);
 
-impl<'v> Numbered<'v> for Place {
+impl<'v> Numbered<'v, Field> for Place {
     ghost use Rattle.std.specs.Prelude.{ℕ, Some};
     ghost use Rattle.tui_json.specs.Number.{u64_of};
     ghost use Rattle.tui_schema.specs.declared.field.Field.TheVariants as fields;
 
-    type Error = SceneError;
-
-    ghost Refusal = { Refusal };
-
-    ghost refused = { refused };
+    type Known = ();
 
     ghost Seen = { ℕ };
 
     ghost seen = { λ place. place.0 };
 
-    ghost tests = { λ number d. required u64_of (Some number) fields.Selected d };
+    ghost tests = { λ known number d. required u64_of (Some number) fields.Selected d };
 
-    fn read(alloc: Global, number: usize, value: &'v Value) -> Result<Place, SceneError> {
+    fn read(
+        alloc: Global,
+        _known: (),
+        number: usize,
+        value: &'v Value,
+    ) -> Result<Place, InputError<BadField>> {
         Ok(Place(required(alloc, Some(number), Field::Selected, value)?))
-    }
-
-    fn no_memory() -> SceneError
-        ensures { refused result ≡ None }
-    {
-        SceneError::NoMemory
     }
 }
 
 /// The number of places of an array, and the first one.
-fn places(alloc: Global, value: &Value) -> Result<(usize, u64), SceneError> {
+fn places(alloc: Global, value: &Value) -> Result<(usize, u64), InputError<BadField>> {
     let Ok(values) = elements(value) else {
-        return Err(SceneError::NoMemory);
+        return Err(InputError::NoMemory);
     };
-    let places: Vec<Place> = each_numbered(alloc, values)?;
+    let places = each_numbered::<Place, Field>(alloc, (), values)?;
     Ok((places.len(), places.first().map_or(0, |place| place.0)))
 }
 
@@ -89,10 +83,10 @@ fn values_are_refused_with_their_number(rt: HostRuntime) -> Result<(), Fail> {
     let value = json(rt.alloc(), r#"[{"selected":5},{"selected":6}]"#)?;
     assert!(&rt; places(rt.alloc(), &value) == Ok((2, 5)));
     let value = json(rt.alloc(), r#"[{"selected":5},6]"#)?;
-    let refused = SceneError::BadField {
+    let refused = InputError::Refused(BadField {
         item: Some(1),
         field: Field::Selected,
-    };
+    });
     assert!(&rt; places(rt.alloc(), &value) == Err(refused));
     Ok(())
 }

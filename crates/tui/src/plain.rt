@@ -5,12 +5,13 @@ ghost use Rattle.std.specs.Prelude.{◌≡◌, true};
 ghost use Rattle.tui.specs.Order.{PaddingIsOrdered};
 ghost use Rattle.tui.specs.Same.{same_bar};
 ghost use Rattle.tui_cells.specs.Same.{same_attributes, same_style};
+ghost use Rattle.tui_pager_lib.specs.Same.{same_size};
 
 use crate::buffer::{Attributes, NoMemory};
 use crate::layout::{
     Alignment, Constraint, Direction, Flex, Fraction, Offset, Position, Rect, Segment, Window,
 };
-use crate::pager::{Key, PagerError, PagerState};
+use crate::pager::{Key, PagerError, PagerSize, PagerState};
 use crate::panes::{OrderError, PanesError};
 use crate::report::{Piece, ReportError};
 use crate::scene::DrawError;
@@ -86,6 +87,10 @@ impl Plain for Key {
 
 impl Plain for PagerError {
     ghost same = { Prim.search rules };
+}
+
+impl Plain for PagerSize {
+    ghost same = { same_size };
 }
 
 impl Plain for PagerState {

@@ -5,7 +5,7 @@ use Rattle.std.specs.List.{list_all}
 use Rattle.std.proofs.lemmas.Bool.{and_parts}
 use Rattle.tui_layout.specs.declared.direction.Direction.{Direction}
 use Rattle.tui_layout.specs.declared.direction.Direction.TheVariants.{Horizontal, Vertical}
-use Rattle.tui_text.specs.Part.{is_printable}
+use Rattle.tui_clusters.specs.Printable.{is_printable}
 use Rattle.tui_text.specs.Setting.{AreLight}
 use Rattle.tui_text.specs.Span.{raw_span}
 use Rattle.tui_text.proofs.LightTexts.{both_printable, clusters_light, decimal_printable, printable_light}

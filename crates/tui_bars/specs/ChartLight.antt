@@ -5,7 +5,7 @@ use Rattle.tui_cells.specs.Cell.{IsLight}
 use Rattle.tui_frames.specs.InBlock.{IsLightIfBlock}
 use Rattle.tui_layout.specs.declared.direction.Direction.{Direction}
 use Rattle.tui_layout.specs.declared.direction.Direction.TheVariants.{Horizontal, Vertical}
-use Rattle.tui_text.specs.Graphemes.{clusters}
+use Rattle.tui_clusters.specs.Shown.{clusters}
 use Rattle.tui_bars.specs.BarChart.{BarChartData, BarData, GroupData}
 use Rattle.tui_bars.specs.Levels.{AreLightLevels}
 use Rattle.tui_bars.specs.LineGauge.{IsLightLine}

@@ -8,7 +8,7 @@ use Rattle.std.proofs.lemmas.Bool.Decides.{nat_tests}
 use Rattle.jiff_core.specs.Calendar.{IsYear}
 use Rattle.jiff_core.specs.declared.civil.date.Date.{Date}
 use Rattle.jiff_core.proofs.SignedLemmas.{signed_arith}
-use Rattle.tui_text.specs.Part.{is_printable}
+use Rattle.tui_clusters.specs.Printable.{is_printable}
 use Rattle.tui_calendar.specs.Month.{date_data}
 use Rattle.tui_calendar.specs.Monthly.{day_text, heading_text, month_name, month_names}
 use Rattle.tui_text.proofs.LightTexts.{both_printable, decimal_printable}

@@ -1,12 +1,13 @@
 -- Laws of strokes.
-use Rattle.std.proofs.Common.{◌≡◌, ℕ, Bool, true, false, ◌&&◌, ◌||◌, Option, List, [], ◌∷◌, ◌++◌, Some, None, option_map, if◌then◌else◌, refl, ◌∙◌, ap, sym, arith}
+use Rattle.std.proofs.Common.{◌≡◌, ℕ, Bool, true, false, ◌&&◌, ◌||◌, Option, List, [], ◌∷◌, ◌++◌, Some, None, option_map, Result, Ok, Err, OnErr, if◌then◌else◌, refl, ◌∙◌, ap, sym, arith}
 use Rattle.std.proofs.lemmas.Bool.Decides.{nat_tests}
 use Rattle.tui_cells.specs.declared.rect.Rect.{Rect}
 use Rattle.tui_cells.specs.Rect.{covers, is_empty}
 use Rattle.tui_cells.specs.Layers.{StayIn}
 use Rattle.tui_cells.specs.Cell.{Look, Edit, edited}
 use Rattle.tui_cells.specs.Buffer.{Screen, cell_at, look_at}
-use Rattle.tui_cells.specs.Layers.{Painted, KeptOutside, SameCells, Layer, layers_at, over, edits}
+use Rattle.tui_cells.specs.Layers.{EditedFirst, Painted, KeptOutside, SameCells, Layer, before, layers_at, over, edits, stroke}
+use Rattle.tui_cells.specs.Stays.{StayIn-stroke}
 
 -- at one place, the third region is the first two together, which do not meet
 abbrev pub Joins : (r s t : Bool) → Type 0
@@ -158,3 +159,18 @@ Painted-kept {ls = ls} {a = a} s p = record {
   area = p.area;
   cells = λ x y out. p.cells x y ∙ sym (still_at ls x y (cell_at a x y) (s.cell x y out));
 }
+
+-- what has reached a position of an area, where nothing more has changed
+pub edited_first : {T E : Type 0} (r : Result T E) (area : Rect) (edit : Edit) (x y : ℕ) (a b c : Screen) → Painted (stroke (before area x y) edit) a b → c ≡ b →
+    OnErr r (EditedFirst area edit a c)
+edited_first (Ok k) area edit x y a b c p e = tt
+edited_first (Err k) area edit x y a b c p e = record { column = x; row = y; cells = rw e p }
+
+-- what has not begun
+pub none_edited : {T E : Type 0} (r : Result T E) (area : Rect) (edit : Edit) (b : Screen) → OnErr r (EditedFirst area edit b b)
+none_edited (Ok x) area edit b = tt
+none_edited (Err e) area edit b =
+    record { column = 0; row = 0; cells = Painted-still b (StayIn-stroke (before area 0 0) edit (λ x y out. out)) (λ x y. nowhere x y) }
+  where
+    nowhere : (x y : ℕ) → before area 0 0 x y ≡ false
+    nowhere x y = grind (arith, nat_tests)

@@ -24,10 +24,7 @@ pub inner_empty : (o : Option BlockData) (area : Rect) → is_empty area ≡ tru
 inner_empty None area e = e
 inner_empty (Some b) area e = empty_within b area e
 
--- what keeps all outside the clip, or all outside the inner area, keeps all outside the footprint
-pub clip_kept : (o : Option BlockData) (clip : Rect) {a b : Screen} → KeptOutside (covers clip) a b → KeptOutside (footprint_if o clip) a b
-clip_kept o clip k = KeptOutside-weaker (λ x y out. clip_out o clip x y out) k
-
+-- what keeps all outside the inner area keeps all outside the footprint
 pub inner_kept : (o : Option BlockData) (clip : Rect) {a b : Screen} → KeptOutside (covers (inner_of o clip)) a b → KeptOutside (footprint_if o clip) a b
 inner_kept o clip k = KeptOutside-weaker (λ x y out. inner_out o clip x y (clip_out o clip x y out)) k
 

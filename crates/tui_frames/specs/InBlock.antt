@@ -5,7 +5,7 @@ use Rattle.tui_cells.specs.declared.style.Style.{Style}
 use Rattle.tui_cells.specs.Cell.{dress}
 use Rattle.tui_cells.specs.Layers.{Layer, stroke}
 use Rattle.tui_cells.specs.Rect.{covers}
-use Rattle.tui_text.specs.Width.{saturated}
+use Rattle.tui_clusters.specs.Width.{saturated}
 use Rattle.tui_frames.specs.Block.{BlockData}
 use Rattle.tui_frames.specs.Light.{IsLightBlock}
 use Rattle.tui_frames.specs.Space.{inner}

@@ -1,3 +1,4 @@
 pub mod Arrays
 pub mod Bounds
+pub mod Listed
 pub mod Numbering

@@ -4,5 +4,6 @@ pub mod Members
 pub mod Named
 pub mod Names
 pub mod Number
+pub mod Objects
 pub mod Refusals
 pub mod Text

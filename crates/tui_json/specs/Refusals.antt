@@ -18,15 +18,20 @@ abbrev pub Refuses : {Y R : Type 0} → Option R → Result Y R → Type 0
 Refuses None tests = Unit {0}
 Refuses (Some refusal) tests = tests ≡ Err refusal
 
--- what a reader answers, seen by view, is what the tests give; an error that refuses nothing is want of memory
-abbrev pub Gives : {X Y E R : Type 0} → (X → Y) → (E → Option R) → Result X E → Result Y R → Type 0
-Gives view refused (Ok x) tests = tests ≡ Ok (view x)
-Gives view refused (Err e) tests = Refuses (refused e) tests
-
 -- what an error refuses: nothing where it is want of memory
 abbrev pub refused : {R : Type 0} → InputError R → Option R
 refused (errors.Refused refusal) = Some refusal
 refused errors.NoMemory = None
+
+-- what a reader answers, seen by view, is what the tests give; an error that refuses nothing is want of memory
+abbrev pub Gives : {X Y R : Type 0} → (X → Y) → Result X (InputError R) → Result Y R → Type 0
+Gives view (Ok x) tests = tests ≡ Ok (view x)
+Gives view (Err e) tests = Refuses (refused e) tests
+
+-- an error by what it is as a refusal, and what it is as want of memory
+abbrev pub by_error : {R A : Type 0} → (R → A) → A → InputError R → A
+by_error refusing no_memory (errors.Refused refusal) = refusing refusal
+by_error refusing no_memory errors.NoMemory = no_memory
 
 -- a refusal, where a value is not of its kind
 abbrev pub unless_memory : {R : Type 0} → KindError → R → Option R

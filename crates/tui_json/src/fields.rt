@@ -1,9 +1,11 @@
 //! The fields of an input, each tested in its turn: the first whose test fails refuses it.
 
-ghost use Rattle.std.specs.Prelude.{◌≡◌, ℕ, List, Option, Some, None, option_map};
+ghost use Rattle.std.specs.Prelude.{◌≡◌, ℕ, List, Option, option_map};
+ghost use Rattle.serde_json.specs.Find.{get};
 ghost use Rattle.serde_json.specs.View.{view};
-ghost use Rattle.tui_json.specs.Refusals.{Gives, given, optional, required, unless_memory};
+ghost use Rattle.tui_json.specs.Refusals.{Gives, given, optional, or_refuse, refused, required, unless_memory};
 
+use crate::input_error::InputError;
 use crate::kind::{Kind, KindError};
 use crate::members::{given_member, member, optional_member};
 use serde_json::Value;
@@ -11,40 +13,31 @@ use std::alloc::Global;
 
 /// The fields of an input, mostly an enum of their names, and what an input is refused with.
 pub trait Fields: Copy {
-    /// Why a value is no input: one of these fields refuses it, or memory was wanting.
-    type Error;
-
-    // What refuses an input, as plain data.
-    ghost Refusal: { Type 0 };
+    /// What refuses a value: mostly one of these fields, and the place of the item that has it.
+    type Refusal;
 
     // The key of a field in JSON.
     ghost key: { Self → List ℕ };
 
     // The refusal at a place and a field.
-    ghost refusal: { Option ℕ → Self → Refusal };
-
-    // The refusal that an error is: none where it is want of memory.
-    ghost refused: { Self.Error → Option Refusal };
+    ghost refusal: { Option ℕ → Self → Self.Refusal };
 
     /// Its key in JSON.
     fn key(&self) -> &'static str
         ensures { result.now ≡ key self.now };
 
-    /// What is answered where this field, at this place, is missing though required or not of its kind.
-    fn error(self, at: Option<usize>) -> Self::Error
-        ensures { refused result ≡ Some (refusal at self) };
-
-    /// What is answered where the memory was not there.
-    fn no_memory() -> Self::Error
-        ensures { refused result ≡ None };
+    /// What refuses a value where this field, at this place, is missing though required or not of its kind.
+    fn refusal(self, at: Option<usize>) -> Self::Refusal
+        ensures { result ≡ refusal at self };
 }
 
-fn error_at<F: Fields>(field: F, at: Option<usize>, why: KindError) -> F::Error
-    ensures { F.refused result ≡ unless_memory why (F.refusal at field) }
+/// Why a field is no input, as the refusal of this field at this place or as want of memory.
+pub fn error_at<F: Fields>(field: F, at: Option<usize>, why: KindError) -> InputError<F::Refusal>
+    ensures { refused result ≡ unless_memory why (F.refusal at field) }
 {
     match why {
-        KindError::WrongKind => field.error(at),
-        KindError::NoMemory => F::no_memory(),
+        KindError::WrongKind => InputError::Refused(field.refusal(at)),
+        KindError::NoMemory => InputError::NoMemory,
     }
 }
 
@@ -55,8 +48,8 @@ pub fn required<'v, T: Kind<'v, F>, F: Fields>(
     at: Option<usize>,
     field: F,
     value: &'v Value,
-) -> Result<T, F::Error>
-    ensures { Gives T.seen F.refused result (required T.kind (F.key field) (F.refusal at field) (view value.now)) }
+) -> Result<T, InputError<F::Refusal>>
+    ensures { Gives T.seen result (required T.kind (F.key field) (F.refusal at field) (view value.now)) }
 {
     match member::<T, F>(alloc, value, field.key()) {
         Ok(found) => Ok(found),
@@ -70,8 +63,8 @@ pub fn optional<'v, T: Kind<'v, F>, F: Fields>(
     at: Option<usize>,
     field: F,
     value: &'v Value,
-) -> Result<Option<T>, F::Error>
-    ensures { Gives (option_map T.seen) F.refused result (optional T.kind (F.key field) (F.refusal at field) (view value.now)) }
+) -> Result<Option<T>, InputError<F::Refusal>>
+    ensures { Gives (option_map T.seen) result (optional T.kind (F.key field) (F.refusal at field) (view value.now)) }
 {
     match optional_member::<T, F>(alloc, value, field.key()) {
         Ok(found) => Ok(found),
@@ -85,11 +78,25 @@ pub fn given<'v, T: Kind<'v, F>, F: Fields>(
     at: Option<usize>,
     field: F,
     value: &'v Value,
-) -> Result<Option<T>, F::Error>
-    ensures { Gives (option_map T.seen) F.refused result (given T.kind (F.key field) (F.refusal at field) (view value.now)) }
+) -> Result<Option<T>, InputError<F::Refusal>>
+    ensures { Gives (option_map T.seen) result (given T.kind (F.key field) (F.refusal at field) (view value.now)) }
 {
     match given_member::<T, F>(alloc, value, field.key()) {
         Ok(found) => Ok(found),
         Err(error) => Err(error_at(field, at, error)),
+    }
+}
+
+/// The member of this name, whatever it is; null is a value. Where it is absent it is refused so. Takes no memory.
+pub fn any_member<'v, R: Copy>(
+    value: &'v Value,
+    name: &str,
+    absent: R,
+) -> Result<&'v Value, InputError<R>>
+    ensures { Gives (λ member. view member.now) result (or_refuse absent (get name.now (view value.now))) }
+{
+    match value.get(name) {
+        Some(member) => Ok(member),
+        None => Err(InputError::Refused(absent)),
     }
 }

@@ -4,10 +4,16 @@ ghost use Rattle.std.specs.Prelude.{◌≡◌, ℕ, List, Result};
 ghost use Rattle.std.specs.Result.{result_ok};
 ghost use Rattle.serde_json.specs.View.{view};
 ghost use Rattle.tui_cells.specs.declared.error.ParseError.{ParseError};
+ghost use Rattle.tui_json.specs.Kinds.{Reads};
+ghost use Rattle.tui_json.specs.Members.{optional_member};
+ghost use Rattle.tui_json.specs.Refusals.{Gives, optional};
 ghost use Rattle.tui_json.specs.Named.{Names, named_of, reads_named, value_named};
 ghost use Rattle.tui_json.specs.Names.{directions, flexes, highlight_spacings, merge_strategies};
 
+use crate::fields::{Fields, optional};
+use crate::input_error::InputError;
 use crate::kind::{Kind, KindError};
+use crate::members::optional_member;
 use serde_json::Value;
 use std::alloc::Global;
 use std::str::FromStr;
@@ -31,24 +37,58 @@ pub fn by_name<T: Named<F>, F>(value: &Value) -> Option<T>
     value.as_str()?.parse().ok()
 }
 
+/// The value of such an enum, as the kind that its name is. Takes no memory.
+#[derive(Drop)]
+pub struct ByName<T>(pub T);
+
+impl<'v, F, T: Named<F>> Kind<'v, F> for ByName<T> {
+    ghost Seen = { T };
+
+    ghost seen = { λ value. value.0 };
+
+    ghost kind = { named_of T.names };
+
+    fn read(_alloc: Global, value: &'v Value) -> Result<ByName<T>, KindError> {
+        match by_name::<T, F>(value) {
+            Some(value) => Ok(ByName(value)),
+            None => Err(KindError::WrongKind),
+        }
+    }
+}
+
+/// The member of this name, which may be absent or null, as the value of such an enum.
+pub fn optional_named_member<'v, T: Named<F>, F>(
+    alloc: Global,
+    value: &'v Value,
+    name: &str,
+) -> Result<Option<T>, KindError>
+    ensures { Reads (λ read. read) result (optional_member (named_of T.names) name.now (view value.now)) }
+{
+    match optional_member::<ByName<T>, F>(alloc, value, name)? {
+        Some(ByName(value)) => Ok(Some(value)),
+        None => Ok(None),
+    }
+}
+
+/// A field that may be absent or null, as the value of such an enum. It is refused where it is there and no name of one.
+pub fn optional_named<'v, T: Named<F>, F: Fields>(
+    alloc: Global,
+    at: Option<usize>,
+    field: F,
+    value: &'v Value,
+) -> Result<Option<T>, InputError<F::Refusal>>
+    ensures { Gives (λ read. read) result (optional (named_of T.names) (F.key field) (F.refusal at field) (view value.now)) }
+{
+    match optional::<ByName<T>, F>(alloc, at, field, value)? {
+        Some(ByName(value)) => Ok(Some(value)),
+        None => Ok(None),
+    }
+}
+
 impl<F> Named<F> for Direction {
     ghost names = { directions };
 
     ghost reads = { reads_named directions };
-}
-
-impl<'v, F> Kind<'v, F> for Direction {
-    ghost use Rattle.tui_layout.specs.declared.direction.Direction.{Direction};
-
-    ghost Seen = { Direction };
-
-    ghost seen = { λ value. value };
-
-    ghost kind = { named_of directions };
-
-    fn read(_alloc: Global, value: &'v Value) -> Result<Direction, KindError> {
-        by_name::<Direction, F>(value).ok_or(KindError::WrongKind)
-    }
 }
 
 impl<F> Named<F> for Flex {
@@ -57,56 +97,14 @@ impl<F> Named<F> for Flex {
     ghost reads = { reads_named flexes };
 }
 
-impl<'v, F> Kind<'v, F> for Flex {
-    ghost use Rattle.tui_layout.specs.declared.flex.Flex.{Flex};
-
-    ghost Seen = { Flex };
-
-    ghost seen = { λ value. value };
-
-    ghost kind = { named_of flexes };
-
-    fn read(_alloc: Global, value: &'v Value) -> Result<Flex, KindError> {
-        by_name::<Flex, F>(value).ok_or(KindError::WrongKind)
-    }
-}
-
 impl<F> Named<F> for HighlightSpacing {
     ghost names = { highlight_spacings };
 
     ghost reads = { reads_named highlight_spacings };
 }
 
-impl<'v, F> Kind<'v, F> for HighlightSpacing {
-    ghost use Rattle.tui_layout.specs.declared.highlight_spacing.HighlightSpacing.{HighlightSpacing};
-
-    ghost Seen = { HighlightSpacing };
-
-    ghost seen = { λ value. value };
-
-    ghost kind = { named_of highlight_spacings };
-
-    fn read(_alloc: Global, value: &'v Value) -> Result<HighlightSpacing, KindError> {
-        by_name::<HighlightSpacing, F>(value).ok_or(KindError::WrongKind)
-    }
-}
-
 impl<F> Named<F> for MergeStrategy {
     ghost names = { merge_strategies };
 
     ghost reads = { reads_named merge_strategies };
-}
-
-impl<'v, F> Kind<'v, F> for MergeStrategy {
-    ghost use Rattle.tui_cells.specs.declared.merge_strategy.MergeStrategy.{MergeStrategy};
-
-    ghost Seen = { MergeStrategy };
-
-    ghost seen = { λ value. value };
-
-    ghost kind = { named_of merge_strategies };
-
-    fn read(_alloc: Global, value: &'v Value) -> Result<MergeStrategy, KindError> {
-        by_name::<MergeStrategy, F>(value).ok_or(KindError::WrongKind)
-    }
 }

@@ -5,7 +5,8 @@ use Rattle.std.specs.Str.{IsUtf8}
 use Rattle.std.specs.Str.Lines.{lines}
 use Rattle.tui_cells.specs.Style.{no_style}
 use Rattle.tui_cells.specs.declared.style.Style.{Style}
-use Rattle.tui_text.specs.Grapheme.{is_blank_text, width_of}
+use Rattle.tui_clusters.specs.Blank.{is_blank_text}
+use Rattle.tui_clusters.specs.Width.{width_of}
 use Rattle.tui_text.specs.declared.alignment.Alignment.{Alignment}
 use Rattle.tui_text.specs.declared.alignment.Alignment.TheVariants.{Left}
 use Rattle.tui_para.specs.Lines.{GlyphLine, glyph_line}
@@ -15,11 +16,12 @@ use Rattle.tui_para.specs.Wrapped.{WrapsKept, after_break, line_start}
 use Rattle.tui_para.proofs.Greedy.{AllFit, all_fit-kept, wrap_kept_is}
 use Rattle.std.proofs.lemmas.List.{append_assoc, length-drop, length-map}
 use Rattle.tui_text.specs.Text.{text_lines}
-use Rattle.tui_text.specs.Graphemes.{glyph_in, is_shown}
+use Rattle.tui_clusters.specs.Shown.{is_shown}
+use Rattle.tui_text.specs.Graphemes.{glyph_in}
 use Rattle.unicode_segmentation.specs.Grapheme.{graphemes}
 use Rattle.tui_line_places.specs.AfterLine.{HasLineCount, IsFromLine, wrapped_lines}
 use Rattle.tui_line_places.specs.Next.{IsOver}
-use Rattle.tui_line_places.specs.Places.{GoesOn, behind_line, line_part, shown_in}
+use Rattle.tui_line_places.specs.Places.{GoesOnInLine, behind_line, line_part, shown_in}
 use Rattle.tui_line_places.specs.Rests.{cluster_rule, first_rest, line_rest}
 use Rattle.tui_line_places.proofs.Rests.{FirstThen, first_then, lines_behind}
 use Rattle.tui_line_places.proofs.WrappedLines.{all_lines, by_first, shown_style, styled}
@@ -72,7 +74,7 @@ module _ (w : ℕ) (trim : Bool) (text : List ℕ) (u : IsUtf8 text) (rest : Lis
   others_after : (clusters : List (List ℕ)) (c : List ℕ) (cs : List (List ℕ)) → clusters ≡ c ∷ cs → lines_behind (cluster_rule w trim) clusters ≡ wrap_kept (cluster_rule w trim) clusters
   others_after clusters c cs e = ap (lines_behind (cluster_rule w trim)) e ∙ sym (ap (wrap_kept (cluster_rule w trim)) e)
 
-  pub within : GoesOn text rest → (c : List ℕ) (cs : List (List ℕ)) → shown_in w rest ≡ c ∷ cs → IsFromLine w trim 1 text rest
+  pub within : GoesOnInLine text rest → (c : List ℕ) (cs : List (List ℕ)) → shown_in w rest ≡ c ∷ cs → IsFromLine w trim 1 text rest
   within g c cs e = record {
     front = g.front;
     whole = g.whole;
@@ -84,7 +86,7 @@ module _ (w : ℕ) (trim : Bool) (text : List ℕ) (u : IsUtf8 text) (rest : Lis
         ∙ sym (ap (drop 1) (first_is style alignment));
   }
 
-  module _ (g : GoesOn text rest) (o : List ℕ) (over : IsOver w rest o) where
+  module _ (g : GoesOnInLine text rest) (o : List ℕ) (over : IsOver w rest o) where
     last_is : (style : Style) (alignment : Alignment) → wrapped_lines style alignment w trim text
         ≡ glyph_line alignment (map (glyph_in (shown_style style w trim)) the_first.first) ∷ all_lines style w trim alignment (lines o)
     last_is style alignment =
@@ -155,7 +157,7 @@ module _ (w : ℕ) (trim : Bool) (text : List ℕ) (u : IsUtf8 text) where
   says_shorter (Some rest) h = shorter w trim text u rest.now h.0 h.1
 
   -- where the line is over, by whether a text stands behind it
-  pub answered : (rest : List ℕ) → shown_in w rest ≡ first_rest (cluster_rule w trim) (shown_in w text) → GoesOn text rest → (o : List ℕ) → IsOver w rest o → (found : Option (Bor (List ℕ)))
+  pub answered : (rest : List ℕ) → shown_in w rest ≡ first_rest (cluster_rule w trim) (shown_in w text) → GoesOnInLine text rest → (o : List ℕ) → IsOver w rest o → (found : Option (Bor (List ℕ)))
       → MatchOption found (o ≡ []) (λ some. (some.now ≡ o) × (0 < length o)) → Answers w trim text found
   answered rest shown g o over None none = one_line w trim text u rest shown g o over none
   answered rest shown g o over (Some some) (same, more) = (subst IsUtf8 (sym same) over.utf8, subst (IsFromLine w trim 1 text) (sym same) (behind w trim text u rest shown g o over more))

@@ -8,7 +8,7 @@ use Rattle.std.proofs.lemmas.Str.{IsCharBoundary-at_seam, IsCharBoundary-start}
 use Rattle.std.proofs.Math.Seq.{drop-append_seam}
 use Rattle.tui_cells.specs.Style.{no_style}
 use Rattle.tui_text.specs.declared.alignment.Alignment.TheVariants.{Left}
-use Rattle.tui_line_places.specs.AfterLine.{HasAtMost, HasLineCount, IsFromLine, IsPlace, wrapped_lines}
+use Rattle.tui_line_places.specs.AfterLine.{HasAtMost, HasLineCount, IsFromLine, BeginsLine, wrapped_lines}
 use Rattle.tui_line_places.specs.Reading.{HasPassed, Passes}
 use Rattle.tui_line_places.proofs.AfterLine.{has_line, shorter}
 
@@ -39,7 +39,7 @@ module _ (w : ℕ) (trim : Bool) (text : List ℕ) where
         omega arith
 
     -- the place at which the rest begins
-    pub place_from : IsUtf8 rest → IsPlace w trim text k (length text - length rest)
+    pub place_from : IsUtf8 rest → BeginsLine w trim text k (length text - length rest)
     place_from u =
         let size = ap length from.whole ∙ length-append from.front rest in
         let place : length text - length rest ≡ length from.front = omega arith in
@@ -76,19 +76,19 @@ module _ (w : ℕ) (trim : Bool) (text rest next : List ℕ) (u : IsUtf8 rest) (
       let place = length text - length next in
       let size = length-append places (place ∷ []) in
       let last : slice_index (places ++ place ∷ []) (length places) ≡ place = ap (λ n. slice_index (places ++ place ∷ []) n) (omega arith) ∙ get_or-append-add places (place ∷ []) 0 0 in
-      let here : IsPlace w trim text (h.passed + 1) place = place_from w trim text (h.passed + 1) next passes.from v in
+      let here : BeginsLine w trim text (h.passed + 1) place = place_from w trim text (h.passed + 1) next passes.from v in
       record {
         passed = h.passed + 1;
         many = omega (arith, h.many);
         passes = passes;
         each = λ k less.
             ⊎_elim
-            (λ before. subst (IsPlace w trim text k) (sym (get_or_append_left places (place ∷ []) 0 k before)) (h.each k before))
+            (λ before. subst (BeginsLine w trim text k) (sym (get_or_append_left places (place ∷ []) 0 k before)) (h.each k before))
             (λ at.
             let same : k ≡ length places = omega (arith, size) in
             let is_last : slice_index (places ++ place ∷ []) k ≡ place = ap (slice_index (places ++ place ∷ [])) same ∙ last in
             let line : h.passed + 1 ≡ k = omega (arith, h.many) in
-            subst (IsPlace w trim text k) (sym is_last) (subst (λ n. IsPlace w trim text n place) line here))
+            subst (BeginsLine w trim text k) (sym is_last) (subst (λ n. BeginsLine w trim text n place) line here))
             (cases_lt k (length places));
       }
 
@@ -99,5 +99,5 @@ first_place w trim text u = record {
   passes = record { from = from_first w trim text; few = omega arith };
   each = λ k less.
       let first : 0 ≡ k = omega arith in
-      subst (λ n. IsPlace w trim text n (slice_index (0 ∷ []) n)) first (record { boundary = IsCharBoundary-start text u; from = from_first w trim text });
+      subst (λ n. BeginsLine w trim text n (slice_index (0 ∷ []) n)) first (record { boundary = IsCharBoundary-start text u; from = from_first w trim text });
 }

@@ -1,11 +1,7 @@
-mod Controls
-mod Boundaries
 mod NewLines
-mod LineEnds
 mod LineClusters
 mod Rests
 mod ShownClusters
-mod FirstCluster
 mod Printable
 mod Walked
 mod WrappedLines

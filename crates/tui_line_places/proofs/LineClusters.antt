@@ -1,39 +1,22 @@
 -- A text's first line in clusters.
 use Rattle.std.proofs.Common.{◌≡◌, ℕ, ◌==◌, true, false, cond, ◌||◌, List, [], ◌∷◌, ◌++◌, drop, refl, sym, ap, ap₂, ◌∙◌, subst, ⊎_elim, arith, length, ◌+◌, get_or, get_or-append-add, length-append, drop-drop}
 use Rattle.std.specs.List.{concat, list_any, AllByRecursion}
-use Rattle.std.specs.Prelude.{encode_utf8_all}
-use Rattle.std.specs.Str.{IsUtf8, chars}
+use Rattle.std.specs.Str.{IsUtf8}
 use Rattle.std.specs.Str.Lines.{lines}
 use Rattle.std.proofs.lemmas.Bool.{cases_Bool, false≢true}
 use Rattle.std.proofs.lemmas.Bool.Decides.{nat_tests}
 use Rattle.std.proofs.lemmas.List.{append_assoc}
-use Rattle.std.proofs.lemmas.Str.{encodes-chars, IsUtf8-drop, IsUtf8-take, IsCharBoundary-after_ascii, IsCharBoundary-before_ascii}
+use Rattle.std.proofs.lemmas.Str.{IsUtf8-drop, IsUtf8-take, IsCharBoundary-after_ascii, IsCharBoundary-before_ascii}
 use Rattle.std.proofs.Math.Seq.{drop-append_seam, take-append_seam}
-use Rattle.unicode_segmentation.specs.Grapheme.{graphemes, is_grapheme_break}
-use Rattle.unicode_segmentation.specs.Segments.{cut, segments}
+use Rattle.unicode_segmentation.specs.Grapheme.{graphemes}
 use Rattle.tui_text.specs.Text.{text_lines}
 use Rattle.tui_line_places.specs.Places.{is_newline, line_part, behind_part}
-use Rattle.tui_line_places.proofs.Boundaries.{concat-cut, concat-encoded}
-use Rattle.tui_line_places.proofs.LineEnds.{graphemes-feed, graphemes-return}
-use Rattle.tui_line_places.proofs.NewLines.{Newline, OneLine, none, feed, both, first_line, is_newline_byte}
-
--- the clusters make up the text
-pub concat-graphemes : (text : List ℕ) → IsUtf8 text → concat (graphemes true text) ≡ text
-unfolding segments
-concat-graphemes text u = concat-encoded (cut (is_grapheme_break true) [] (chars text) []) ∙ ap encode_utf8_all (concat-cut [] (chars text)) ∙ encodes-chars text u
+use Rattle.tui_clusters.proofs.Boundaries.{concat-graphemes}
+use Rattle.tui_clusters.proofs.LineEnds.{graphemes-feed, graphemes-return}
+use Rattle.tui_line_places.proofs.NewLines.{Newline, OneLine, none, feed, both, first_line, is_newline_byte, one_parts}
 
 abbrev pub NoNewline : List (List ℕ) → Type 0
 NoNewline clusters = AllByRecursion (λ c. is_newline c ≡ false) clusters
-
-one_parts : (front back : List ℕ) → OneLine (front ++ back) → OneLine front × OneLine back
-one_parts [] back h = (refl, h)
-one_parts (b ∷ front) back h =
-    ⊎_elim
-    (λ t. absurd (false≢true (sym h ∙ ap (λ x. x || list_any is_newline_byte (front ++ back)) t)))
-    (λ t.
-    let rest = one_parts front back (sym (ap (λ x. x || list_any is_newline_byte (front ++ back)) t) ∙ h) in
-    (ap (λ x. x || list_any is_newline_byte front) t ∙ rest.0, rest.1))
-    (cases_Bool (b == 10))
 
 one_cluster : (c : List ℕ) → OneLine c → is_newline c ≡ false
 one_cluster [] h = refl

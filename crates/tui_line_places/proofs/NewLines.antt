@@ -3,6 +3,7 @@ use Rattle.std.proofs.Common.{◌≡◌, ℕ, ◌+◌, ◌-◌, ◌==◌, Bool, 
 use Rattle.std.specs.List.{list_any, slice_split, onto_first}
 use Rattle.std.specs.Prelude.{◌⊎◌, if◌then◌else◌}
 use Rattle.std.specs.Str.Lines.{lines, lines_of_parts, strip_carriage_return}
+use Rattle.tui_clusters.proofs.LineEnds.{EndsInReturn}
 use Rattle.tui_text.specs.Text.{text_lines}
 use Rattle.std.proofs.lemmas.Bool.{cases_Bool, false≢true}
 use Rattle.std.proofs.lemmas.Bool.Decides.{nat_tests}
@@ -14,10 +15,6 @@ is_newline_byte b = b == 10
 -- no newline stands in these bytes
 abbrev pub OneLine : List ℕ → Type 0
 OneLine bytes = list_any is_newline_byte bytes ≡ false
-
--- the bytes end in a carriage return, or don't
-abbrev pub EndsInReturn : List ℕ → Type 0
-EndsInReturn bytes = (front : List ℕ) × (bytes ≡ front ++ 13 ∷ [])
 
 -- the first newline stands behind the line, or behind a carriage return that isn't its own
 pub data Newline (bytes line behind : List ℕ) : Type 0 where
@@ -94,11 +91,15 @@ returned (b ∷ bytes) =
     ))
     (cases_Bool (slice_index line (length line - 1) == 13))
 
--- OneLine of a part
-one-front : (front : List ℕ) (back : List ℕ) → OneLine (front ++ back) → OneLine front
-one-front [] back h = refl
-one-front (b ∷ front) back h = ⊎_elim (λ t. absurd (false≢true (sym h ∙ ap (λ x. x || list_any is_newline_byte (front ++ back)) t)))
-    (λ t. ap (λ x. x || list_any is_newline_byte front) t ∙ one-front front back (sym (ap (λ x. x || list_any is_newline_byte (front ++ back)) t) ∙ h)) (cases_Bool (b == 10))
+pub one_parts : (front back : List ℕ) → OneLine (front ++ back) → OneLine front × OneLine back
+one_parts [] back h = (refl, h)
+one_parts (b ∷ front) back h =
+    ⊎_elim
+    (λ t. absurd (false≢true (sym h ∙ ap (λ x. x || list_any is_newline_byte (front ++ back)) t)))
+    (λ t.
+    let rest = one_parts front back (sym (ap (λ x. x || list_any is_newline_byte (front ++ back)) t) ∙ h) in
+    (ap (λ x. x || list_any is_newline_byte front) t ∙ rest.0, rest.1))
+    (cases_Bool (b == 10))
 
 some_bytes : (b : ℕ) (bytes : List ℕ) → (length (b ∷ bytes) == 0) ≡ false
 some_bytes b bytes = grind (arith, nat_tests)
@@ -128,7 +129,7 @@ first_line (b ∷ bytes) =
     (λ r. record {
       line = r.0;
       behind = more.0;
-      newline = both (more.1 ∙ ap (λ x. x ++ 10 ∷ more.0) r.1 ∙ append_assoc r.0 (13 ∷ []) (10 ∷ more.0)) (one-front r.0 (13 ∷ []) (subst OneLine r.1 f.one));
+      newline = both (more.1 ∙ ap (λ x. x ++ 10 ∷ more.0) r.1 ∙ append_assoc r.0 (13 ∷ []) (10 ∷ more.0)) (one_parts r.0 (13 ∷ []) (subst OneLine r.1 f.one)).0;
       lines_are = first ∙ ap (λ x. x ∷ lines more.0) r.2;
     })
     (returned f.line))

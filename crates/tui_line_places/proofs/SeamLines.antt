@@ -47,15 +47,16 @@ use Rattle.tui_cells.specs.declared.style.Style.{Style}
 use Rattle.tui_para.specs.Lines.{GlyphLine, glyph_line}
 use Rattle.tui_para.specs.Places.{wrap_kept}
 use Rattle.tui_para.proofs.Greedy.{AllFit, all_fit-kept}
-use Rattle.tui_text.specs.Grapheme.{width_of}
-use Rattle.tui_text.specs.Graphemes.{glyph_in, is_shown}
-use Rattle.tui_text.specs.Part.{is_printable, IsSeam}
+use Rattle.tui_clusters.specs.Width.{width_of}
+use Rattle.tui_clusters.specs.Shown.{is_shown}
+use Rattle.tui_text.specs.Graphemes.{glyph_in}
+use Rattle.tui_clusters.specs.Printable.{is_printable}
 use Rattle.tui_text.specs.Text.{text_lines}
 use Rattle.tui_text.specs.declared.alignment.Alignment.{Alignment}
-use Rattle.tui_text.proofs.PartClusters.{graphemes-part}
+use Rattle.tui_clusters.proofs.Seams.{graphemes-seam, printable_seam}
 use Rattle.unicode_segmentation.specs.Grapheme.{graphemes}
 use Rattle.tui_line_places.specs.AfterLine.{wrapped_lines}
-use Rattle.tui_line_places.specs.Parts.{EndsAtSeam, EndsInNewline, HaveSameLines}
+use Rattle.tui_line_places.specs.Parts.{EndsBetweenPrintable, EndsInNewline, HaveSameLines, IsBetweenPrintable}
 use Rattle.tui_line_places.specs.Places.{behind_line, line_part, shown_in}
 use Rattle.tui_line_places.specs.Rests.{cluster_rule}
 use Rattle.tui_line_places.proofs.AfterLine.{has_line}
@@ -167,14 +168,20 @@ has_last (b ∷ text) =
     (λ h. inr (b ∷ h.0, h.1, ap (λ x. b ∷ x) h.2, h.3))
     (has_last text)
 
-clusters_of_parts : (part more : List ℕ) → IsUtf8 (part ++ more) → 0 < length part → IsSeam (part ++ more) (length part) → ArePartsClusters part more
+-- a byte that is not there is no printable one
+within : (part more : List ℕ) → is_printable (slice_index (part ++ more) (length part)) ≡ true → length part < length (part ++ more)
+within [] [] e = cc
+within [] (b ∷ more) e = omega arith
+within (b ∷ part) more e = let rest = within part more e in omega arith
+
+clusters_of_parts : (part more : List ℕ) → IsUtf8 (part ++ more) → 0 < length part → IsBetweenPrintable (part ++ more) (length part) → ArePartsClusters part more
 clusters_of_parts part more u some s =
-    graphemes-part (part ++ more) (length part) u some (omega (arith, length-append part more)) (λ _. s)
+    graphemes-seam (part ++ more) (length part) u (printable_seam (part ++ more) (length part) u some (within part more s.after) s.before s.after)
     ∙ ap₂ (λ a b. graphemes true a ++ graphemes true b) (take-append_seam part more) (drop-append_seam part more)
 
 -- the place stands behind a line that has some bytes
-seam_in_line : (front line more : List ℕ) → IsSeam (front ++ 10 ∷ (line ++ more)) (length (front ++ 10 ∷ line))
-    → (0 < length line) × IsSeam (line ++ more) (length line)
+seam_in_line : (front line more : List ℕ) → IsBetweenPrintable (front ++ 10 ∷ (line ++ more)) (length (front ++ 10 ∷ line))
+    → (0 < length line) × IsBetweenPrintable (line ++ more) (length line)
 seam_in_line front [] more s =
     let k : length (front ++ 10 ∷ []) - 1 ≡ length front + 0 = omega (arith, length-append front (10 ∷ [])) in
     let newline : slice_index (front ++ 10 ∷ more) (length (front ++ 10 ∷ []) - 1) ≡ 10 =
@@ -199,7 +206,7 @@ module _ (style : Style) (w : ℕ) (trim : Bool) (alignment : Alignment) (n : �
   lines_here text = wrapped_lines style alignment w trim text
 
   behind_front : (front line more : List ℕ) → IsUtf8 (front ++ 10 ∷ line) → IsUtf8 (front ++ 10 ∷ (line ++ more)) → OneLine line
-      → IsSeam (front ++ 10 ∷ (line ++ more)) (length (front ++ 10 ∷ line)) → n < length (lines_here (front ++ 10 ∷ line))
+      → IsBetweenPrintable (front ++ 10 ∷ (line ++ more)) (length (front ++ 10 ∷ line)) → n < length (lines_here (front ++ 10 ∷ line))
       → take n (lines_here (front ++ 10 ∷ (line ++ more))) ≡ take n (lines_here (front ++ 10 ∷ line))
   behind_front front line more u v one s few =
       let above = lines_here (front ++ 10 ∷ []) in
@@ -217,28 +224,28 @@ module _ (style : Style) (w : ℕ) (trim : Bool) (alignment : Alignment) (n : �
       behind_newline style w trim alignment n front line more line_is both_are
       (one_line style w trim alignment (n - length above) line more here both one clusters less)
 
-  seam_lines : (part more : List ℕ) → IsUtf8 part → IsUtf8 (part ++ more) → 0 < length part → IsSeam (part ++ more) (length part) → n < length (lines_here part)
+  seam_lines : (part more : List ℕ) → IsUtf8 part → IsUtf8 (part ++ more) → 0 < length part → IsBetweenPrintable (part ++ more) (length part) → n < length (lines_here part)
       → take n (lines_here (part ++ more)) ≡ take n (lines_here part)
   seam_lines part more u v some s few = ⊎_elim
       (λ one. one_line style w trim alignment n part more u v one (clusters_of_parts part more v some s) few)
       (λ (front, line, e, one).
       let whole : part ++ more ≡ front ++ 10 ∷ (line ++ more) = ap (λ t. t ++ more) e ∙ append_assoc front (10 ∷ line) more in
       ap (λ t. take n (lines_here t)) whole
-      ∙ (behind_front front line more (subst IsUtf8 e u) (subst IsUtf8 whole v) one (subst (λ t. IsSeam t (length (front ++ 10 ∷ line))) whole
-      (subst (λ t. IsSeam (part ++ more) (length t)) e s)) (subst (λ t. n < length (lines_here t)) e few)
+      ∙ (behind_front front line more (subst IsUtf8 e u) (subst IsUtf8 whole v) one (subst (λ t. IsBetweenPrintable t (length (front ++ 10 ∷ line))) whole
+      (subst (λ t. IsBetweenPrintable (part ++ more) (length t)) e s)) (subst (λ t. n < length (lines_here t)) e few)
       ∙ sym (ap (λ t. take n (lines_here t)) e)))
       (has_last part)
 
 -- of a part that ends in one of the two ways
 pub cut_lines : (w : ℕ) (trim : Bool) (n end : ℕ) (text part more : List ℕ) → IsUtf8 text → IsUtf8 part → part ≡ take end text → text ≡ part ++ more
-    → EndsInNewline (take end text) ⊎ EndsAtSeam text end → ((style : Style) (alignment : Alignment) → n < length (wrapped_lines style alignment w trim part))
+    → EndsInNewline (take end text) ⊎ EndsBetweenPrintable text end → ((style : Style) (alignment : Alignment) → n < length (wrapped_lines style alignment w trim part))
     → HaveSameLines w trim n text part
 cut_lines w trim n end text part more u v front whole cut many = ⊎_elim
     (λ newline. same_lines w trim n text part more whole (subst EndsInNewline (sym front) newline)
     (λ style alignment. let m = many style alignment in omega arith))
     (λ (some, within, seam). λ style alignment.
     let place : end ≡ length part = sym (ap length front ∙ length-take-le end text (omega arith)) in
-    let here : IsSeam (part ++ more) (length part) = subst (λ t. IsSeam t (length part)) whole (subst (IsSeam text) place seam) in
+    let here : IsBetweenPrintable (part ++ more) (length part) = subst (λ t. IsBetweenPrintable t (length part)) whole (subst (IsBetweenPrintable text) place seam) in
     sym (ap (λ t. take n (wrapped_lines style alignment w trim t)) whole
     ∙ seam_lines style w trim alignment n part more v (subst IsUtf8 whole u) (omega arith) here (many style alignment)))
     cut

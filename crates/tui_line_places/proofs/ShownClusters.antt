@@ -5,12 +5,13 @@ use Rattle.std.specs.Prelude.{nat_le}
 use Rattle.std.specs.Str.{IsUtf8}
 use Rattle.std.proofs.lemmas.Bool.{and_parts}
 use Rattle.std.proofs.lemmas.List.{append_assoc}
-use Rattle.tui_text.specs.Grapheme.{has_control, is_blank_text, width_of}
-use Rattle.tui_text.specs.Graphemes.{is_shown}
+use Rattle.tui_clusters.specs.Blank.{is_blank_text}
+use Rattle.tui_clusters.specs.Shown.{has_control, is_shown}
+use Rattle.tui_clusters.specs.Width.{width_of}
 use Rattle.unicode_segmentation.specs.Grapheme.{graphemes}
-use Rattle.tui_line_places.specs.Next.{IsHiddenUpTo, IsOver, IsShown}
-use Rattle.tui_line_places.specs.Places.{GoesOn, behind_line, behind_part, is_newline, line_part, shown_in}
-use Rattle.tui_line_places.proofs.LineClusters.{concat-graphemes}
+use Rattle.tui_line_places.specs.Next.{IsHiddenUpTo, IsOver, IsNextShown}
+use Rattle.tui_line_places.specs.Places.{GoesOnInLine, behind_line, behind_part, is_newline, line_part, shown_in}
+use Rattle.tui_clusters.proofs.Boundaries.{concat-graphemes}
 
 abbrev fits : ℕ → List ℕ → Bool
 fits w c = nat_le (width_of c) w
@@ -64,11 +65,11 @@ module _ (w : ℕ) (text here rest cluster : List ℕ) (u : IsUtf8 rest) (h : Is
       let o = line_over w here rest cluster clusters u newline in
       record { front = h.goes_on.front ++ cluster; whole = to_rest; utf8 = u; shown = h.shown ∙ o.0; behind = sym h.goes_on.same ∙ o.1 }
 
-  goes : is_newline cluster ≡ false → GoesOn text rest
+  goes : is_newline cluster ≡ false → GoesOnInLine text rest
   goes other = record { front = h.goes_on.front ++ cluster; whole = to_rest; utf8 = u; same = behind_goes w here rest cluster clusters other ∙ h.goes_on.same }
 
   pub next_shown : (width : ℕ) (blank : Bool) → is_newline cluster ≡ false → width ≡ width_of cluster → blank ≡ is_blank_text cluster → (nat_le width w && not (has_control cluster)) ≡ true
-      → IsShown w text width blank rest
+      → IsNextShown w text width blank rest
   next_shown width blank other e f fit =
       let test = and_parts (nat_le width w) (not (has_control cluster)) fit in
       record {
@@ -97,9 +98,9 @@ line_ends w text here h none e =
     let o = nothing_shown w here none in
     record { front = h.goes_on.front; whole = h.goes_on.whole; utf8 = h.goes_on.utf8; shown = h.shown ∙ o.0; behind = sym h.goes_on.same ∙ o.1 ∙ sym e }
 
-pub goes_on-refl : (text : List ℕ) → IsUtf8 text → GoesOn text text
+pub goes_on-refl : (text : List ℕ) → IsUtf8 text → GoesOnInLine text text
 goes_on-refl text u = record { front = []; whole = refl; utf8 = u; same = refl }
 
-pub goes_on-then : (text rest last : List ℕ) → GoesOn text rest → GoesOn rest last → GoesOn text last
+pub goes_on-then : (text rest last : List ℕ) → GoesOnInLine text rest → GoesOnInLine rest last → GoesOnInLine text last
 goes_on-then text rest last g h =
     record { front = g.front ++ h.front; whole = g.whole ∙ ap (λ t. g.front ++ t) h.whole ∙ sym (append_assoc g.front h.front last); utf8 = h.utf8; same = h.same ∙ g.same }

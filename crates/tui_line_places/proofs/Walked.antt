@@ -1,15 +1,16 @@
 -- The steps of walks over a text line.
 use Rattle.std.proofs.Common.{◌≡◌, ℕ, ◌-◌, ◌≤◌, Bool, true, false, cond, not, ◌&&◌, List, ◌∷◌, nat_le, Option, Some, unwrap_or, IfSome, option_map, refl, sym, ap, ap₂, ◌∙◌, subst, le-leb}
 use Rattle.tui_para.specs.Wrapped.{after_break, without_blanks}
-use Rattle.tui_text.specs.Grapheme.{is_blank_text, width_of}
-use Rattle.tui_line_places.specs.Next.{IsShown}
-use Rattle.tui_line_places.specs.Places.{GoesOn, shown_in}
+use Rattle.tui_clusters.specs.Blank.{is_blank_text}
+use Rattle.tui_clusters.specs.Width.{width_of}
+use Rattle.tui_line_places.specs.Next.{IsNextShown}
+use Rattle.tui_line_places.specs.Places.{GoesOnInLine, shown_in}
 use Rattle.tui_line_places.specs.Rests.{cluster_rule, line_rest}
 use Rattle.tui_line_places.specs.Walks.{PastBlanks, PastBreak, ToLineEnd, left_of}
 use Rattle.tui_line_places.specs.declared.line.Left.{Left}
 use Rattle.tui_line_places.proofs.ShownClusters.{goes_on-then}
 
-module _ (w : ℕ) (text rest behind : List ℕ) (columns : ℕ) (s : IsShown w rest columns true behind) where
+module _ (w : ℕ) (text rest behind : List ℕ) (columns : ℕ) (s : IsNextShown w rest columns true behind) where
   pub past_blank : PastBlanks w text rest → PastBlanks w text behind
   past_blank p = record {
     goes_on = goes_on-then text rest behind p.goes_on s.goes_on;
@@ -32,11 +33,11 @@ mapped : {A B : Type 0} (f : A → B) (b : Bool) (x : A) (o : Option A) → opti
 mapped f true x o = refl
 mapped f false x o = refl
 
-all_go : (text : List ℕ) (b : Bool) (here : Left) (ended : Option Left) → GoesOn text here.text.now → IfSome ended (λ l. GoesOn text l.text.now) → IfSome (cond b (Some here) ended) (λ l. GoesOn text l.text.now)
+all_go : (text : List ℕ) (b : Bool) (here : Left) (ended : Option Left) → GoesOnInLine text here.text.now → IfSome ended (λ l. GoesOnInLine text l.text.now) → IfSome (cond b (Some here) ended) (λ l. GoesOnInLine text l.text.now)
 all_go text true here ended g h = g
 all_go text false here ended g h = h
 
-pub line_on : (w : ℕ) (text : List ℕ) (in_word blank : Bool) (ended last : Option Left) (here next : Left) (columns : ℕ) → IsShown w here.text.now columns blank next.text.now → columns ≤ here.room → next.room ≡ here.room - columns
+pub line_on : (w : ℕ) (text : List ℕ) (in_word blank : Bool) (ended last : Option Left) (here next : Left) (columns : ℕ) → IsNextShown w here.text.now columns blank next.text.now → columns ≤ here.room → next.room ≡ here.room - columns
     → last ≡ cond (in_word && blank) (Some here) ended → ToLineEnd w text in_word ended here → ToLineEnd w text (not blank) last next
 line_on w text in_word blank ended last here next columns s fits room last_is t =
     let rule = cluster_rule w false in
@@ -57,6 +58,6 @@ line_on w text in_word blank ended last here next columns s fits room last_is t 
     ∙ ap₂ (λ o n. line_rest rule (not blank) o n more) (ap (λ k. cond (in_word && blank) (Some (k, here.room)) before) (sym s.shown) ∙ sym now_is) (sym room) in
     record {
       goes_on = goes_on-then text here.text.now next.text.now t.goes_on s.goes_on;
-      ended_on = subst (λ o. IfSome o (λ l. GoesOn text l.text.now)) (sym last_is) (all_go text (in_word && blank) here ended t.goes_on t.ended_on);
+      ended_on = subst (λ o. IfSome o (λ l. GoesOnInLine text l.text.now)) (sym last_is) (all_go text (in_word && blank) here ended t.goes_on t.ended_on);
       same = sym step ∙ t.same;
     }

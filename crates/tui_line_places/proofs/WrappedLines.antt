@@ -6,17 +6,19 @@ use Rattle.std.specs.Str.{IsUtf8}
 use Rattle.std.specs.Str.Lines.{lines}
 use Rattle.tui_cells.specs.Style.{no_style, patched}
 use Rattle.tui_cells.specs.declared.style.Style.{Style}
-use Rattle.tui_text.specs.Grapheme.{Glyph, glyph_width, width_of}
-use Rattle.tui_text.specs.Graphemes.{clusters, glyph_in, is_shown, line_graphemes}
+use Rattle.tui_clusters.specs.Width.{width_of}
+use Rattle.tui_text.specs.Grapheme.{Glyph, glyph_width}
+use Rattle.tui_clusters.specs.Shown.{clusters, is_shown}
+use Rattle.tui_text.specs.Graphemes.{glyph_in, line_graphemes}
 use Rattle.tui_text.specs.Line.{raw_line}
 use Rattle.tui_text.specs.declared.alignment.Alignment.{Alignment}
 use Rattle.unicode_segmentation.specs.Grapheme.{graphemes}
-use Rattle.tui_para.specs.Hyphens.{at_blanks, glyph_rule, uncut, with_cuts, wrap}
-use Rattle.tui_para.specs.Lines.{GlyphLine, cut_all, glyph_line}
+use Rattle.tui_para.specs.Hyphens.{at_blanks, glyph_rule, unsplit, with_splits, wrap}
+use Rattle.tui_para.specs.Lines.{GlyphLine, lines_of_each, glyph_line}
 use Rattle.tui_para.specs.Places.{wrap_kept}
 use Rattle.tui_para.specs.WrappedText.{text_glyph_line}
 use Rattle.tui_para.specs.Wrapped.{not_wider}
-use Rattle.tui_para.proofs.WithoutCuts.{no_cuts, plain, wrap_map}
+use Rattle.tui_para.proofs.WithoutSplits.{no_splits, plain, wrap_map}
 use Rattle.tui_line_places.specs.AfterLine.{wrapped_lines}
 use Rattle.tui_line_places.specs.Places.{behind_line, line_part, shown_in}
 use Rattle.tui_line_places.specs.Rests.{cluster_rule}
@@ -58,18 +60,18 @@ module _ (style : Style) (w : ℕ) (trim : Bool) where
       let fit = filter (λ c. nat_le (width_of c) w) (clusters line) in
       let glyphs : line_graphemes style (raw_line line) ≡ map (glyph_in shown_style) (clusters line) = append-nil (map (glyph_in shown_style) (clusters line)) in
       let fitting : not_wider glyph_width w (line_graphemes style (raw_line line)) ≡ map (glyph_in shown_style) fit = ap (not_wider glyph_width w) glyphs ∙ filter-map (glyph_in shown_style) (λ g. nat_le (glyph_width g) w) (clusters line) in
-      let cuts : with_cuts false [] (not_wider glyph_width w (line_graphemes style (raw_line line))) ≡ map marked fit =
-      no_cuts [] (not_wider glyph_width w (line_graphemes style (raw_line line))) ∙ ap (map plain) fitting ∙ map-map (glyph_in shown_style) plain fit in
+      let splits : with_splits false [] (not_wider glyph_width w (line_graphemes style (raw_line line))) ≡ map marked fit =
+      no_splits [] (not_wider glyph_width w (line_graphemes style (raw_line line))) ∙ ap (map plain) fitting ∙ map-map (glyph_in shown_style) plain fit in
       let wraps : wrap_kept (glyph_rule w way) (map marked fit) ≡ map (map marked) (wrap_kept (cluster_rule w trim) fit) = wrap_map marked (glyph_rule w way) fit in
-      ap (λ t. uncut (wrap_kept (glyph_rule w way) t)) cuts
-      ∙ ap uncut wraps
+      ap (λ t. unsplit (wrap_kept (glyph_rule w way) t)) splits
+      ∙ ap unsplit wraps
       ∙ map-map (map marked) (map (λ (p : Glyph × Bool). p.0)) (wrap_kept (cluster_rule w trim) fit)
       ∙ map-same (λ line. map (λ (p : Glyph × Bool). p.0) (map marked line)) (map (glyph_in shown_style)) (λ line. map-map marked (λ (p : Glyph × Bool). p.0) line) (wrap_kept (cluster_rule w trim) fit)
 
   module _ (alignment : Alignment) where
     -- the wrapped lines of some text lines
     abbrev pub all_lines : List (List ℕ) → List GlyphLine
-    all_lines texts = cut_all (λ t. wrap w (at_blanks trim) t.glyphs) (map (text_glyph_line style alignment) (map raw_line texts))
+    all_lines texts = lines_of_each (λ t. wrap w (at_blanks trim) t.glyphs) (map (text_glyph_line style alignment) (map raw_line texts))
 
     pub by_first : (text : List ℕ) → IsUtf8 text → wrapped_lines style alignment w trim text
         ≡ map (glyph_line alignment) (styled (wrap_kept (cluster_rule w trim) (shown_in w text))) ++ all_lines (lines (behind_line text))

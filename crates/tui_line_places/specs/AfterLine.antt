@@ -35,11 +35,11 @@ abbrev pub IsAfterLine : ℕ → Bool → List ℕ → List ℕ → Type 0
 IsAfterLine w trim text rest = IsFromLine w trim 1 text rest
 
 -- the lines from line k on are those of the text from this place on
-pub record IsPlace (w : ℕ) (trim : Bool) (text : List ℕ) (k place : ℕ) : Type 0 where
+pub record BeginsLine (w : ℕ) (trim : Bool) (text : List ℕ) (k place : ℕ) : Type 0 where
   pub boundary : IsCharBoundary text place
   pub from : IsFromLine w trim k text (drop place text)
 
 -- a place for each line
 pub record ArePlaces (w : ℕ) (trim : Bool) (text places : List ℕ) : Type 0 where
   pub count : HasLineCount w trim text (length places)
-  pub each : (k : ℕ) → k < length places → IsPlace w trim text k (slice_index places k)
+  pub each : (k : ℕ) → k < length places → BeginsLine w trim text k (slice_index places k)

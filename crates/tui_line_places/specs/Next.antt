@@ -1,24 +1,25 @@
 -- What comes next in a text's first line.
 use Rattle.std.specs.Prelude.{◌≡◌, ◌<◌, ◌≤◌, ℕ, Bool, List, [], ◌∷◌, ◌++◌, length}
 use Rattle.std.specs.Str.{IsUtf8}
-use Rattle.tui_text.specs.Grapheme.{is_blank_text, width_of}
-use Rattle.tui_line_places.specs.Places.{GoesOn, behind_line, shown_in}
+use Rattle.tui_clusters.specs.Blank.{is_blank_text}
+use Rattle.tui_clusters.specs.Width.{width_of}
+use Rattle.tui_line_places.specs.Places.{GoesOnInLine, behind_line, shown_in}
 use Rattle.tui_line_places.specs.declared.graphemes.Next.{Next}
 use Rattle.tui_line_places.specs.declared.graphemes.Next.TheVariants as next
 
 -- up to `rest` nothing of the first line is shown
 pub record IsHiddenUpTo (w : ℕ) (text rest : List ℕ) : Type 0 where
-  pub goes_on : GoesOn text rest
+  pub goes_on : GoesOnInLine text rest
   pub shown : shown_in w text ≡ shown_in w rest
   pub no_longer : length rest ≤ length text
 
 -- the next cluster that is shown in lines of w columns, of this width and a blank or not, and the text behind it
-pub record IsShown (w : ℕ) (text : List ℕ) (columns : ℕ) (is_blank : Bool) (rest : List ℕ) : Type 0 where
+pub record IsNextShown (w : ℕ) (text : List ℕ) (columns : ℕ) (is_blank : Bool) (rest : List ℕ) : Type 0 where
   pub cluster : List ℕ
   pub shown : shown_in w text ≡ cluster ∷ shown_in w rest
   pub width : columns ≡ width_of cluster
   pub blank : is_blank ≡ is_blank_text cluster
-  pub goes_on : GoesOn text rest
+  pub goes_on : GoesOnInLine text rest
   pub shorter : length rest < length text
 
 -- no cluster more is shown, and this text stands behind the line
@@ -31,5 +32,5 @@ pub record IsOver (w : ℕ) (text rest : List ℕ) : Type 0 where
 
 -- a grapheme that shows, or the end of the line with what stands behind it
 abbrev pub IsNextOf : ℕ → List ℕ → Next → Type 0
-IsNextOf w text (next.Grapheme g) = IsShown w text g.width g.blank g.behind.now
+IsNextOf w text (next.Grapheme g) = IsNextShown w text g.width g.blank g.behind.now
 IsNextOf w text (next.Over rest) = IsOver w text rest.now

@@ -1,7 +1,7 @@
 -- A first part of a text with the same first lines.
-use Rattle.std.specs.Prelude.{◌≡◌, ℕ, ◌<◌, Bool, List, [], ◌∷◌, ◌++◌, length, take}
+use Rattle.std.specs.Prelude.{◌≡◌, ℕ, ◌-◌, ◌<◌, Bool, true, List, [], ◌∷◌, ◌++◌, length, slice_index, take}
 use Rattle.tui_cells.specs.declared.style.Style.{Style}
-use Rattle.tui_text.specs.Part.{IsSeam}
+use Rattle.tui_clusters.specs.Printable.{is_printable}
 use Rattle.tui_text.specs.declared.alignment.Alignment.{Alignment}
 use Rattle.tui_line_places.specs.AfterLine.{wrapped_lines}
 
@@ -13,6 +13,11 @@ HaveSameLines w trim n text part =
 abbrev pub EndsInNewline : List ℕ → Type 0
 EndsInNewline text = (front : List ℕ) × (text ≡ front ++ 10 ∷ [])
 
--- the place stands within the text, between two printable characters of one byte
-abbrev pub EndsAtSeam : List ℕ → ℕ → Type 0
-EndsAtSeam text place = (0 < place) × (place < length text) × IsSeam text place
+-- a printable character of one byte stands on either side of the place
+pub record IsBetweenPrintable (text : List ℕ) (place : ℕ) : Type 0 where
+  pub before : is_printable (slice_index text (place - 1)) ≡ true
+  pub after : is_printable (slice_index text place) ≡ true
+
+-- and the place stands within the text
+abbrev pub EndsBetweenPrintable : List ℕ → ℕ → Type 0
+EndsBetweenPrintable text place = (0 < place) × (place < length text) × IsBetweenPrintable text place

@@ -3,8 +3,8 @@ use Rattle.std.specs.List.{concat}
 use Rattle.std.specs.Prelude.{◌≡◌, ℕ, Bool, true, if◌then◌else◌, ◌||◌, List, [], ◌∷◌, ◌++◌, filter, nat_eq, nat_le}
 use Rattle.std.specs.Str.{IsUtf8}
 use Rattle.std.specs.Cmp.Lexicographic.{pointwise}
-use Rattle.tui_text.specs.Grapheme.{width_of}
-use Rattle.tui_text.specs.Graphemes.{is_shown}
+use Rattle.tui_clusters.specs.Width.{width_of}
+use Rattle.tui_clusters.specs.Shown.{is_shown}
 use Rattle.unicode_segmentation.specs.Grapheme.{graphemes}
 
 -- a newline, with a carriage return before it or without one
@@ -31,7 +31,7 @@ abbrev pub behind_line : List ℕ → List ℕ
 behind_line text = concat (behind_part (graphemes true text))
 
 -- the text goes on with `rest` in its first line
-pub record GoesOn (text rest : List ℕ) : Type 0 where
+pub record GoesOnInLine (text rest : List ℕ) : Type 0 where
   pub front : List ℕ
   pub whole : text ≡ front ++ rest
   pub utf8 : IsUtf8 rest

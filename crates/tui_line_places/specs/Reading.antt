@@ -1,6 +1,6 @@
 -- What is kept where lines are passed.
 use Rattle.std.specs.Prelude.{◌≡◌, ℕ, ◌+◌, ◌<◌, ◌≤◌, Bool, List, length, slice_index}
-use Rattle.tui_line_places.specs.AfterLine.{IsFromLine, IsPlace}
+use Rattle.tui_line_places.specs.AfterLine.{IsFromLine, BeginsLine}
 
 -- k lines are passed, each of which had a byte at least
 pub record Passes (w : ℕ) (trim : Bool) (text : List ℕ) (k : ℕ) (rest : List ℕ) : Type 0 where
@@ -12,4 +12,4 @@ pub record HasPassed (w : ℕ) (trim : Bool) (text places rest : List ℕ) : Typ
   pub passed : ℕ
   pub many : length places ≡ passed + 1
   pub passes : Passes w trim text passed rest
-  pub each : (k : ℕ) → k < length places → IsPlace w trim text k (slice_index places k)
+  pub each : (k : ℕ) → k < length places → BeginsLine w trim text k (slice_index places k)

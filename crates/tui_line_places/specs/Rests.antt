@@ -2,11 +2,12 @@
 use Rattle.std.specs.Prelude.{ℕ, ◌-◌, Bool, false, not, ◌&&◌, if◌then◌else◌, nat_le, List, [], ◌∷◌, Option, None, Some, unwrap_or}
 use Rattle.tui_para.specs.Rule.{Rule, ends_piece}
 use Rattle.tui_para.specs.Wrapped.{after_break, line_start}
-use Rattle.tui_text.specs.Grapheme.{is_blank_text, width_of}
+use Rattle.tui_clusters.specs.Blank.{is_blank_text}
+use Rattle.tui_clusters.specs.Width.{width_of}
 
 -- the rule for clusters, where lines break at blanks alone
 abbrev pub cluster_rule : ℕ → Bool → Rule (List ℕ)
-cluster_rule w trim = record { blank = is_blank_text; cut = λ _. false; size = width_of; width = w; trim = trim }
+cluster_rule w trim = record { blank = is_blank_text; split = λ _. false; size = width_of; width = w; trim = trim }
 
 -- what is left behind a line that goes on, and the room that the line leaves: from where a grapheme doesn't fit, or else from
 -- where the last piece ended, if one has

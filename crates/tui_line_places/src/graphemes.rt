@@ -1,14 +1,11 @@
 //! The graphemes of the text line at the front of a text.
 
-ghost use Rattle.std.specs.List.{list_any};
-ghost use Rattle.std.specs.Prelude.{◌≡◌, ◌&&◌, chars, nat_le, not, IfSome};
-ghost use Rattle.tui_text.specs.Grapheme.{has_control, is_blank_text};
-ghost use Rattle.tui_line_places.specs.Next.{IsNextOf, IsShown};
+ghost use Rattle.std.specs.Prelude.{◌≡◌, ◌&&◌, nat_le, not, IfSome};
+ghost use Rattle.tui_clusters.specs.Shown.{has_control};
+ghost use Rattle.tui_line_places.specs.Next.{IsNextOf, IsNextShown};
 ghost use Rattle.tui_line_places.specs.Places.{is_newline};
 
-use crate::clusters::{begins_printable, first_cluster};
-use tui_cells::Style;
-use tui_text::{StyledGrapheme, cell_width};
+use tui_clusters::{cell_width, first_cluster, has_control, is_blank, is_printable_first};
 
 /// A grapheme: its columns, whether it is a blank, and the text behind it.
 #[derive(Clone, Copy, Debug)]
@@ -36,12 +33,13 @@ pub(crate) fn next_grapheme(text: &str, max_width: u16) -> Next<'_>
     looked_up_grapheme(text, max_width)
 }
 
-/// The next grapheme where the text begins with two printable characters of one byte: the first of them, which needs no tables.
+/// The next grapheme where the text begins with a printable character of one byte and then ends, or goes on with another one: such a
+/// character needs no tables.
 #[inline(always)]
 fn printable_grapheme(text: &str, max_width: u16) -> Option<Grapheme<'_>>
-    ensures { IfSome result (λ next. IsShown max_width text.now next.width next.blank next.behind.now) }
+    ensures { IfSome result (λ next. IsNextShown max_width text.now next.width next.blank next.behind.now) }
 {
-    if max_width == 0 || !begins_printable(text) {
+    if max_width == 0 || text.is_empty() || !is_printable_first(text) {
         return None;
     }
     let blank = text.as_bytes()[0] == b' ';
@@ -86,22 +84,4 @@ fn is_shown(cluster: &str, width: u16, max_width: u16) -> bool
     ensures { result ≡ (nat_le width max_width && not (has_control cluster.now)) }
 {
     width <= max_width && !has_control(cluster)
-}
-
-#[tactic(auto, unfolding(tui_text::specs::Grapheme::has_control))]
-fn has_control(cluster: &str) -> bool
-    ensures { result ≡ has_control cluster.now }
-{
-    cluster.chars().any(|c| c.is_control())
-}
-
-#[tactic(auto, unfolding(tui_text::specs::Grapheme::is_blank))]
-fn is_blank(cluster: &str) -> bool
-    ensures { result ≡ is_blank_text cluster.now }
-{
-    let grapheme = StyledGrapheme {
-        symbol: cluster,
-        style: Style::new(),
-    };
-    grapheme.is_whitespace()
 }

@@ -2,12 +2,13 @@
 
 ghost use Rattle.std.specs.Prelude.{◌≡◌, ◌&&◌, if◌then◌else◌, false, None, Some};
 ghost use Rattle.tui_para.specs.Wrapped.{after_break, line_start, without_blanks};
-ghost use Rattle.tui_text.specs.Grapheme.{is_blank_text};
-ghost use Rattle.tui_line_places.specs.Places.{GoesOn, shown_in};
+ghost use Rattle.tui_clusters.specs.Blank.{is_blank_text};
+ghost use Rattle.tui_line_places.specs.Places.{GoesOnInLine, shown_in};
 ghost use Rattle.tui_line_places.specs.Rests.{cluster_rule, line_rest};
 ghost use Rattle.tui_line_places.specs.Walks.{left_of};
 
 use crate::graphemes::{Next, next_grapheme};
+use crate::lines::Lines;
 
 /// What is left of a text line, and the columns that are left of a line.
 #[derive(Clone, Copy, Debug)]
@@ -17,19 +18,19 @@ pub(crate) struct Left<'a> {
 }
 
 /// The text from where its first line begins: with `trim` behind the blanks.
-pub(crate) fn line_start(text: &str, width: u16, trim: bool) -> &str
-    ensures goes_on { GoesOn text.now result.now }
-    ensures shown { shown_in width result.now ≡ line_start is_blank_text trim (shown_in width text.now) }
+pub(crate) fn line_start(text: &str, lines: Lines) -> &str
+    ensures goes_on { GoesOnInLine text.now result.now }
+    ensures shown { shown_in lines.width result.now ≡ line_start is_blank_text lines.trim (shown_in lines.width text.now) }
 {
-    if trim {
-        without_blanks(text, width)
+    if lines.trim {
+        without_blanks(text, lines.width)
     } else {
         text
     }
 }
 
 fn without_blanks(text: &str, width: u16) -> &str
-    ensures goes_on { GoesOn text.now result.now }
+    ensures goes_on { GoesOnInLine text.now result.now }
     ensures shown { shown_in width result.now ≡ without_blanks is_blank_text (shown_in width text.now) }
 {
     let mut rest = text;
@@ -44,7 +45,7 @@ fn without_blanks(text: &str, width: u16) -> &str
 
 /// What is left behind the line that begins with the text.
 pub(crate) fn line_end(text: &str, width: u16) -> Left<'_>
-    ensures goes_on { GoesOn text.now result.text.now }
+    ensures goes_on { GoesOnInLine text.now result.text.now }
     ensures left { left_of width result ≡ line_rest (cluster_rule width false) false None width (shown_in width text.now) }
 {
     let mut here = Left { text, room: width };
@@ -78,7 +79,7 @@ fn last_end<'a>(
 
 /// The text without the blanks that are left out behind a line.
 pub(crate) fn past_blanks<'a>(line: Left<'a>, width: u16) -> &'a str
-    ensures goes_on { GoesOn line.entry.text.now result.now }
+    ensures goes_on { GoesOnInLine line.entry.text.now result.now }
     ensures shown { shown_in width result.now ≡ after_break (cluster_rule width false) line.entry.room (shown_in width line.entry.text.now) }
 {
     let mut rest = line.text;

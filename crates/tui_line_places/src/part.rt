@@ -1,13 +1,14 @@
 //! A first part of a text, where nothing behind it is shown.
 
-ghost use Rattle.std.specs.Prelude.{◌≡◌, ◌<◌, ◌⊎◌, ℕ, length, take, true};
+ghost use Rattle.std.specs.Prelude.{◌≡◌, ◌<◌, ◌≤◌, ◌⊎◌, ◌++◌, ℕ, List, length, take, true};
 ghost use Rattle.tui_cells.specs.declared.style.Style.{Style};
 ghost use Rattle.tui_text.specs.declared.alignment.Alignment.{Alignment};
 ghost use Rattle.tui_line_places.specs.AfterLine.{wrapped_lines};
-ghost use Rattle.tui_line_places.specs.Parts.{EndsAtSeam, EndsInNewline, HaveSameLines};
+ghost use Rattle.tui_line_places.specs.Parts.{EndsBetweenPrintable, EndsInNewline, HaveSameLines};
 
-use crate::clusters::is_printable;
+use crate::lines::Lines;
 use crate::places::rest_from;
+use tui_clusters::is_printable;
 
 /// The byte of a newline.
 const NEWLINE: u8 = 10;
@@ -18,17 +19,17 @@ const REACH: usize = 512;
 /// How many bytes are searched for two printable characters of one byte.
 const SEAM_REACH: usize = 64;
 
-/// A first part of the text that has the same first `lines` lines, where it is wrapped into lines of `width` columns that break at
-/// blanks alone. It ends behind the first newline from byte `near` on, or little more than a line behind that byte, between two
+/// A first part of the text that has the same first `count` lines, where it is wrapped. It ends behind the first newline from byte `near` on, or little more than a line behind that byte, between two
 /// printable characters of one byte. Where there is no such place in reach, or the part has no line more than these, it is the whole
 /// text. The work is that of these lines and of some hundred bytes. It takes no memory.
-pub fn first_part(text: &str, width: u16, trim: bool, lines: usize, near: usize) -> &str
-    ensures { HaveSameLines width trim lines text.now result.now }
+pub fn first_part(text: &str, lines: Lines, count: usize, near: usize) -> &str
+    ensures same { HaveSameLines lines.width lines.trim count text.now result.now }
+    ensures part { (rest : List ℕ) × (text.now ≡ result.now ++ rest) }
 {
-    let end = part_end(text, width, near);
+    let end = part_end(text, lines.width, near);
     match text.split_at_checked(end) {
         Some((part, _)) => {
-            if is_cut(text, end) && has_more_lines(part, width, trim, lines) {
+            if is_cut(text, end) && has_more_lines(part, lines, count) {
                 part
             } else {
                 text
@@ -83,29 +84,30 @@ fn seam_from(bytes: &[u8], from: usize) -> Option<usize> {
 
 /// Whether the lines of what stands before a place are lines of the whole, but for the last one.
 fn is_cut(text: &str, place: usize) -> bool
-    ensures { result ≡ true → EndsInNewline (take place text.now) ⊎ EndsAtSeam text.now place }
+    ensures { result ≡ true → EndsInNewline (take place text.now) ⊎ EndsBetweenPrintable text.now place }
 {
     let bytes = text.as_bytes();
     is_behind_newline(bytes, place) || is_seam(bytes, place)
 }
 
-fn is_behind_newline(bytes: &[u8], place: usize) -> bool
-    ensures { result ≡ true → EndsInNewline (take place bytes.now) }
+/// Whether a newline stands before a place.
+pub fn is_behind_newline(bytes: &[u8], place: usize) -> bool
+    ensures { result ≡ true → (place ≤ length bytes.now) × EndsInNewline (take place bytes.now) }
 {
     0 < place && place <= bytes.len() && bytes[place - 1] == NEWLINE
 }
 
 fn is_seam(bytes: &[u8], place: usize) -> bool
-    ensures { result ≡ true → EndsAtSeam bytes.now place }
+    ensures { result ≡ true → EndsBetweenPrintable bytes.now place }
 {
     0 < place && place < bytes.len() && is_printable(bytes[place - 1]) && is_printable(bytes[place])
 }
 
 /// Whether the text has more lines than these.
-fn has_more_lines(text: &str, width: u16, trim: bool, lines: usize) -> bool
-    ensures { result ≡ true → (style : Style) (alignment : Alignment) → lines < length (wrapped_lines style alignment width trim text.now) }
+fn has_more_lines(text: &str, lines: Lines, count: usize) -> bool
+    ensures { result ≡ true → (style : Style) (alignment : Alignment) → count < length (wrapped_lines style alignment lines.width lines.trim text.now) }
 {
-    match rest_from(text, width, trim, lines) {
+    match rest_from(text, lines, count) {
         Some(_) => true,
         None => false,
     }

@@ -4,54 +4,54 @@ ghost use Rattle.std.specs.Prelude.{◌≡◌, ◌↔◌, ◌<◌, ◌≤◌, �
 ghost use Rattle.std.specs.Str.{IsUtf8};
 ghost use Rattle.tui_line_places.specs.AfterLine.{ArePlaces, HasAtMost, HasLineCount, IsFromLine};
 
+use crate::lines::Lines;
 use crate::rest::second_line;
 use std::alloc::Global;
 use tui_cells::Mem;
 
-/// The text from where its line `line`, counted from 0, begins, where it is wrapped into lines of `width` columns that break at blanks
-/// alone; None where it has no such line. The work is that of the lines above. It takes no memory.
-pub fn from_line(text: &str, width: u16, trim: bool, line: usize) -> Option<&str>
-    ensures past { result ≡ None ↔ HasAtMost width trim text.now line }
-    ensures rest { IfSome result (λ rest. IsFromLine width trim line text.now rest.now) }
+/// The text from where its line `line`, counted from 0, begins, where it is wrapped; None where it has no such line. The work is that
+/// of the lines above. It takes no memory.
+pub fn from_line(text: &str, lines: Lines, line: usize) -> Option<&str>
+    ensures past { result ≡ None ↔ HasAtMost lines.width lines.trim text.now line }
+    ensures rest { IfSome result (λ rest. IsFromLine lines.width lines.trim line text.now rest.now) }
 {
-    rest_from(text, width, trim, line)
+    rest_from(text, lines, line)
 }
 
-pub(crate) fn rest_from(text: &str, width: u16, trim: bool, line: usize) -> Option<&str>
-    ensures { MatchOption result (HasAtMost width trim text.now line) (λ rest. IsUtf8 rest.now × IsFromLine width trim line text.now rest.now) }
+pub(crate) fn rest_from(text: &str, lines: Lines, line: usize) -> Option<&str>
+    ensures { MatchOption result (HasAtMost lines.width lines.trim text.now line) (λ rest. IsUtf8 rest.now × IsFromLine lines.width lines.trim line text.now rest.now) }
 {
     let mut rest = text;
     for _line in 0..line {
-        rest = second_line(rest, width, trim)?;
+        rest = second_line(rest, lines)?;
     }
     Some(rest)
 }
 
 /// How many lines the text has.
-fn line_count(text: &str, width: u16, trim: bool) -> usize
-    ensures count { HasLineCount width trim text.now result }
+fn count_lines(text: &str, lines: Lines) -> usize
+    ensures count { HasLineCount lines.width lines.trim text.now result }
     ensures some { 0 < result }
     ensures few { result ≤ length text.now + 1 }
 {
     let mut rest = text;
     let mut count = 1usize;
-    'lines: while let Some(next) = second_line(rest, width, trim) {
+    'lines: while let Some(next) = second_line(rest, lines) {
         rest = next;
         count += 1;
     }
     count
 }
 
-/// Where the lines of a text begin, in bytes, where it is wrapped into lines of `width` columns that break at blanks alone: from each
-/// of these places on, the text has the lines from that one on. It takes 8 bytes a line, and reads the text twice. `NoMemory`
-/// where there is none for the places.
-pub fn line_places(alloc: Global, text: &str, width: u16, trim: bool) -> Mem<Vec<usize>>
-    ensures { IfOk result (λ places. ArePlaces width trim text.now places.items) }
+/// Where the lines of a text begin, in bytes, where it is wrapped: from each of these places on, the text has the lines from that one
+/// on. It takes 8 bytes a line, and reads the text twice. `NoMemory` where there is none for the places.
+pub fn line_places(alloc: Global, text: &str, lines: Lines) -> Mem<Vec<usize>>
+    ensures { IfOk result (λ places. ArePlaces lines.width lines.trim text.now places.items) }
 {
-    let mut places = Vec::with_capacity(alloc, line_count(text, width, trim))?;
+    let mut places = Vec::with_capacity(alloc, count_lines(text, lines))?;
     places.push(0)?;
     let mut rest = text;
-    'lines: while let Some(next) = second_line(rest, width, trim) {
+    'lines: while let Some(next) = second_line(rest, lines) {
         rest = next;
         places.push(text.len() - rest.len())?;
     }

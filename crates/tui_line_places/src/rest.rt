@@ -6,24 +6,25 @@ ghost use Rattle.tui_line_places.specs.AfterLine.{IsAfterLine, IsOneLine};
 
 use crate::graphemes::{Next, next_grapheme};
 use crate::line::{line_end, line_start, past_blanks};
+use crate::lines::Lines;
 
-/// The text from where its second line begins, where it is wrapped into lines of `width` columns that break at blanks alone; None
-/// where it has only one line. The work is that of the line and of what is read ahead for its end. It takes no memory.
-pub fn after_line(text: &str, width: u16, trim: bool) -> Option<&str>
-    ensures one { result ≡ None ↔ IsOneLine width trim text.now }
-    ensures rest { IfSome result (λ rest. IsAfterLine width trim text.now rest.now) }
+/// The text from where its second line begins, where it is wrapped; None where it has only one line. The work is that of the line and
+/// of what is read ahead for its end. It takes no memory.
+pub fn after_line(text: &str, lines: Lines) -> Option<&str>
+    ensures one { result ≡ None ↔ IsOneLine lines.width lines.trim text.now }
+    ensures rest { IfSome result (λ rest. IsAfterLine lines.width lines.trim text.now rest.now) }
     ensures shorter { IfSome result (λ rest. length rest.now < length text.now) }
 {
-    second_line(text, width, trim)
+    second_line(text, lines)
 }
 
-pub(crate) fn second_line(text: &str, width: u16, trim: bool) -> Option<&str>
-    ensures { MatchOption result (IsOneLine width trim text.now) (λ rest. IsUtf8 rest.now × IsAfterLine width trim text.now rest.now) }
+pub(crate) fn second_line(text: &str, lines: Lines) -> Option<&str>
+    ensures { MatchOption result (IsOneLine lines.width lines.trim text.now) (λ rest. IsUtf8 rest.now × IsAfterLine lines.width lines.trim text.now rest.now) }
 {
-    let start = line_start(text, width, trim);
-    let end = line_end(start, width);
-    let rest = past_blanks(end, width);
-    match next_grapheme(rest, width) {
+    let start = line_start(text, lines);
+    let end = line_end(start, lines.width);
+    let rest = past_blanks(end, lines.width);
+    match next_grapheme(rest, lines.width) {
         Next::Grapheme(_) => Some(rest),
         Next::Over(behind) => if_some(behind),
     }

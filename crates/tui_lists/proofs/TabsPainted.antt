@@ -17,7 +17,7 @@ use Rattle.tui_text.specs.Line.{LineData}
 use Rattle.tui_text.specs.Setting.{line_spans, set_column, set_layers}
 use Rattle.tui_text.specs.Span.{SpanData}
 use Rattle.tui_text.proofs.Elements.{if_ok, on_ok}
-use Rattle.tui_text.specs.Width.{saturated}
+use Rattle.tui_clusters.specs.Width.{saturated}
 
 -- a product that is cut at the end, of a factor that was cut before
 pub saturated_product : (n d : ℕ) → saturated (n * saturated d) ≡ saturated (n * d)

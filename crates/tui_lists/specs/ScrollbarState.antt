@@ -3,7 +3,7 @@ use Rattle.std.specs.Prelude.{◌+◌, ◌-◌, min}
 use Rattle.tui_lists.specs.declared.scrollbar.direction.ScrollDirection.{ScrollDirection}
 use Rattle.tui_lists.specs.declared.scrollbar.direction.ScrollDirection.TheVariants.{Forward, Backward}
 use Rattle.tui_lists.specs.declared.scrollbar.state.ScrollbarState.{ScrollbarState}
-use Rattle.tui_text.specs.Width.{saturated}
+use Rattle.tui_clusters.specs.Width.{saturated}
 
 -- one place on or back, within the content
 abbrev pub scrolled : ScrollDirection → ScrollbarState → ScrollbarState

@@ -17,8 +17,8 @@ use Rattle.tui_lists.specs.Scrollbar.{ScrollbarData}
 use Rattle.tui_lists.specs.declared.scrollbar.orientation.ScrollbarOrientation.{ScrollbarOrientation}
 use Rattle.tui_lists.specs.declared.scrollbar.parts.Parts.{Parts}
 use Rattle.tui_lists.specs.declared.scrollbar.state.ScrollbarState.{ScrollbarState}
-use Rattle.tui_text.specs.Grapheme.{width_of}
-use Rattle.tui_text.specs.Graphemes.{clusters}
+use Rattle.tui_clusters.specs.Width.{width_of}
+use Rattle.tui_clusters.specs.Shown.{clusters}
 use Rattle.tui_text.specs.Setting.{set_layers, styled_text}
 use Rattle.tui_text.proofs.SetStays.{set_stays}
 

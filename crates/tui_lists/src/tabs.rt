@@ -5,7 +5,8 @@ ghost use Rattle.tui_frames.specs.Block.{block_data};
 ghost use Rattle.tui_lists.specs.Tabs.{reversed, selected_in, tab_width, tabs_data, tabs_of, tabs_width};
 ghost use Rattle.tui_text.specs.Line.{line_data};
 ghost use Rattle.tui_text.specs.Span.{span_data};
-ghost use Rattle.tui_text.specs.Width.{line_width, saturated, span_width};
+ghost use Rattle.tui_clusters.specs.Width.{saturated};
+ghost use Rattle.tui_text.specs.Width.{line_width, span_width};
 
 mod rendering;
 

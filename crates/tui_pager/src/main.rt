@@ -4,8 +4,8 @@
 
 use std::process::ExitCode;
 use std::{env, io};
+use tui_outside::{StdSink, StdSource};
 use tui_pager_run::run_program;
-use tui_port::{StdSink, StdSource};
 
 fn main(rt: HostRuntime) -> ExitCode {
     let mut source = StdSource::new(rt.reader());

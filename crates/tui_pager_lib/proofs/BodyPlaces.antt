@@ -12,17 +12,17 @@ use Rattle.tui_line_places.specs.AfterLine.{IsFromLine, wrapped_lines}
 use Rattle.tui_line_places.proofs.RestLayers.{rest_layers}
 use Rattle.tui_text.specs.declared.alignment.Alignment.TheVariants.{Left}
 use Rattle.tui_pager_lib.specs.Entry.{EntryData}
-use Rattle.tui_pager_lib.specs.Laws.{IsPlace}
+use Rattle.tui_pager_lib.specs.Laws.{SelectsEntry}
 use Rattle.tui_pager_lib.specs.Lines.{AreWithin, HavePlaces, inner_width}
-use Rattle.tui_pager_lib.specs.Screen.{body_area, body_lines, body_of, body_paragraph, line_count}
+use Rattle.tui_pager_lib.specs.Screen.{body_area, body_lines, body_of, body_paragraph, body_height}
 use Rattle.tui_pager_lib.specs.Steps.{lines_at}
 
 -- there are as many places as lines
-pub count_is : (entries : List EntryData) (width : ℕ) (selected : Option ℕ) (places : List ℕ) → IsPlace (length entries) selected →
+pub count_is : (entries : List EntryData) (width : ℕ) (selected : Option ℕ) (places : List ℕ) → SelectsEntry (length entries) selected →
     HavePlaces entries width selected places → length places ≡ lines_at (body_lines entries width) selected
 count_is entries width None places there have = ap length have
 count_is entries width (Some place) places there have =
-    let lines = λ (d : EntryData). line_count (width - width / 3 - 2) d.body in
+    let lines = λ (d : EntryData). body_height (width - width / 3 - 2) d.body in
     sym (have.count no_style Left) ∙ sym (get_or-map lines entries place (record { title = []; body = [] }) 0 there)
 
 -- they are places of the body

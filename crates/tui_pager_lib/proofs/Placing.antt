@@ -6,12 +6,12 @@ use Rattle.tui_cells.specs.Cell.{blank, wipe}
 use Rattle.tui_cells.specs.Layers.{Layer, Painted, layers_at, stroke}
 use Rattle.tui_cells.specs.Rect.{covers}
 use Rattle.tui_cells.specs.declared.rect.Rect.{Rect}
-use Rattle.tui_pager_lib.specs.Laws.{IsPlace}
-use Rattle.tui_pager_lib.specs.Screen.{IsDrawn}
+use Rattle.tui_pager_lib.specs.Laws.{SelectsEntry}
+use Rattle.tui_pager_lib.specs.Screen.{IsBlankUnder}
 
 -- layers on a blank buffer
 pub drawn : {layers : List Layer} (filled area : Rect) (a b : Screen) → filled ≡ area → IsFilled filled blank a → Painted layers a b → IsScreen b →
-    IsDrawn layers area b
+    IsBlankUnder layers area b
 drawn {layers = layers} filled area a b same first painted shape =
     let k : IsFilled area blank a = subst (λ (r : Rect). IsFilled r blank a) same first in
     record {
@@ -30,7 +30,7 @@ wiped page a b same painted = record {
       painted.cells x y ∙ (ap (option_map (layers_at (stroke (covers page) wipe) x y)) held ∙ ap Some (cond-true (covers page x y) blank (look_at a x y) here));
 }
 
--- a place among so many is none of the last ones of 64 bits
-pub place_small : (count : ℕ) (selected : Option ℕ) → count < 2 ^ 64 → IsPlace count selected → IfSome selected (λ place. place + 1 < 2 ^ 64)
+-- a place among these is none of the last ones of 64 bits
+pub place_small : (count : ℕ) (selected : Option ℕ) → count < 2 ^ 64 → SelectsEntry count selected → IfSome selected (λ place. place + 1 < 2 ^ 64)
 place_small count None few there = tt
 place_small count (Some place) few there = omega arith

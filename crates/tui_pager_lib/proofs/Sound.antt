@@ -1,9 +1,8 @@
 -- The state of a pager stays sound.
-use Rattle.std.proofs.Common.{◌≡◌, ℕ, ◌-◌, ◌<◌, ◌≤◌, ◌==◌, min, true, false, List, [], ◌∷◌, length, refl, sym, ap, ◌∙◌, subst, arith, inl, inr, Option, None, Some}
+use Rattle.std.proofs.Common.{◌≡◌, ℕ, ◌-◌, ◌<◌, ◌≤◌, ◌==◌, min, List, [], ◌∷◌, length, refl, sym, ap, ◌∙◌, subst, arith, inl, inr, Option, None, Some}
 use Rattle.std.specs.Prelude.{map, slice_index, if◌then◌else◌}
 use Rattle.std.proofs.lemmas.List.{length-map}
-use Rattle.std.proofs.lemmas.Bool.{cases_eq, cond-true, cond-false}
-use Rattle.std.proofs.lemmas.Bool.Decides.{nat_tests}
+use Rattle.std.proofs.lemmas.Bool.{cases_eq, cond-true, cond-false, eq-eqb, ne_eqb}
 use Rattle.tui_layout.specs.Found.{window_of}
 use Rattle.tui_layout.specs.Window.{IsWindow, cut_selection}
 use Rattle.tui_layout.specs.Sums.{total}
@@ -17,18 +16,18 @@ use Rattle.tui_lists.specs.ListItem.{heights_of, item_height}
 use Rattle.tui_pager_lib.specs.Entry.{EntryData}
 use Rattle.tui_pager_lib.specs.Pager.{PagerData}
 use Rattle.tui_pager_lib.specs.Screen.{list_state, sizes_of, title_item, titles_area, titles_list}
-use Rattle.tui_pager_lib.specs.Laws.{Call, press, resize, after_call, after_calls, pager_of, IsPlace, IsSound, IsSoundPager, SeesSelected, StaysSound, SelectedIsSeen}
+use Rattle.tui_pager_lib.specs.Laws.{Call, press, resize, after_call, after_calls, pager_of, SelectsEntry, IsSound, IsSoundPager, SeesSelected, StaysSound, SelectedIsSeen}
 use Rattle.tui_pager_lib.specs.declared.key.Key.{Key}
 use Rattle.tui_pager_lib.specs.declared.key.Key.TheVariants.{Up, Down, PageUp, PageDown, First, Last, LineUp, LineDown, BodyTop, BodyEnd}
 use Rattle.tui_pager_lib.specs.declared.state.PagerState.{PagerState}
 
 -- a selection that is a place is not cut
-cut_none : (heights : List ℕ) (selected : Option ℕ) → IsPlace (length heights) selected → cut_selection heights selected ≡ selected
+cut_none : (heights : List ℕ) (selected : Option ℕ) → SelectsEntry (length heights) selected → cut_selection heights selected ≡ selected
 cut_none heights None p = refl
 cut_none heights (Some place) p = let same : min place (length heights - 1) ≡ place = omega arith in ap Some same
 
 -- an offset that followed follows again
-follows_again : (heights : List ℕ) (rows offset : ℕ) (selected : Option ℕ) → IsPlace (length heights) selected
+follows_again : (heights : List ℕ) (rows offset : ℕ) (selected : Option ℕ) → SelectsEntry (length heights) selected
     → let first = (window_of heights rows offset selected 1).first in first ≡ (window_of heights rows first selected 1).first
 follows_again heights rows offset selected p =
     let w = window_of heights rows offset selected 1 in
@@ -38,7 +37,7 @@ follows_again heights rows offset selected p =
     ap (λ (k : Window). k.first)
     (sym (settles heights rows offset selected 1 w again is (subst (λ o. IsWindow heights rows w.first o 1 again) (sym (cut_none heights selected p)) is_again)))
 
-settled_sound : (z : Sizes) (s : PagerState) → IsPlace (length z.heights) s.selected → s.line ≤ most_of z s.selected → IsSound z (settled z.heights z.rows s)
+settled_sound : (z : Sizes) (s : PagerState) → SelectsEntry (length z.heights) s.selected → s.line ≤ most_of z s.selected → IsSound z (settled z.heights z.rows s)
 settled_sound z s p l = record { place = p; line = l; follows = follows_again z.heights z.rows s.offset s.selected p }
 
 place_stays : (rows count place : ℕ) (key : Key) → place < count → selected_by rows count key place < count
@@ -65,12 +64,6 @@ line_stays most line LineDown h = omega arith
 line_stays most line BodyTop h = omega arith
 line_stays most line BodyEnd h = omega arith
 
-eq_test : (a b : ℕ) → a ≡ b → (a == b) ≡ true
-eq_test a b h = grind (arith, nat_tests)
-
-ne_test : (a b : ℕ) → (a ≡ b → ⊥) → (a == b) ≡ false
-ne_test a b h = grind (arith, nat_tests)
-
 -- the line of the selection behind a key
 line_moved : (z : Sizes) (place next line : ℕ) (key : Key) → line ≤ most_in z.rows (slice_index z.lines place)
     → (if next == place then line_by (most_in z.rows (slice_index z.lines place)) key line else 0) ≤ most_in z.rows (slice_index z.lines next)
@@ -78,18 +71,18 @@ line_moved z place next line key h =
     let most = most_in z.rows (slice_index z.lines place) in
     elim (cases_eq next place) [
       | inl same ↦
-          (let e : (if next == place then line_by most key line else 0) ≡ line_by most key line = cond-true _ _ _ (eq_test next place same) in
+          (let e : (if next == place then line_by most key line else 0) ≡ line_by most key line = cond-true _ _ _ (eq-eqb next place same) in
           let k : line_by most key line ≤ most = line_stays most line key h in
           let there : most_in z.rows (slice_index z.lines next) ≡ most = ap (λ i. most_in z.rows (slice_index z.lines i)) same in
           rw (e, there) k)
       | inr other ↦
-          (let e : (if next == place then line_by most key line else 0) ≡ 0 = cond-false _ _ _ (ne_test next place other) in
+          (let e : (if next == place then line_by most key line else 0) ≡ 0 = cond-false _ _ _ (ne_eqb next place other) in
           rw e (omega arith))
     ]
 
-pressed_from : (z : Sizes) (key : Key) (s : PagerState) (selected : Option ℕ) → s.selected ≡ selected → IsPlace (length z.heights) selected → s.line ≤ most_of z selected
+pressed_from : (z : Sizes) (key : Key) (s : PagerState) (selected : Option ℕ) → s.selected ≡ selected → SelectsEntry (length z.heights) selected → s.line ≤ most_of z selected
     → IsSound z (settled z.heights z.rows (moved_from z.rows (length z.heights) (most_of z selected) key s selected))
-pressed_from z key s None e p l = settled_sound z s (subst (IsPlace (length z.heights)) (sym e) p) (subst (λ o. s.line ≤ most_of z o) (sym e) l)
+pressed_from z key s None e p l = settled_sound z s (subst (SelectsEntry (length z.heights)) (sym e) p) (subst (λ o. s.line ≤ most_of z o) (sym e) l)
 pressed_from z key s (Some place) e p l =
     let next = selected_by z.rows (length z.heights) key place in
     settled_sound z (record { selected = Some next; offset = s.offset; line = if next == place then line_by (most_of z (Some place)) key s.line else 0 })
@@ -98,7 +91,7 @@ pressed_from z key s (Some place) e p l =
 pressed_sound : (z : Sizes) (key : Key) (s : PagerState) → IsSound z s → IsSound z (pressed z key s)
 pressed_sound z key s sound = pressed_from z key s s.selected refl sound.place sound.line
 
-resized_sound : (z : Sizes) (s : PagerState) → IsPlace (length z.heights) s.selected → IsSound z (resized z s)
+resized_sound : (z : Sizes) (s : PagerState) → SelectsEntry (length z.heights) s.selected → IsSound z (resized z s)
 resized_sound z s p = settled_sound z (record { selected = s.selected; offset = s.offset; line = min s.line (most_of z s.selected) }) p (omega arith)
 
 pub call_sound : (p : PagerData) (call : Call) → IsSoundPager p → IsSoundPager (after_call p call)
@@ -109,9 +102,9 @@ calls_sound : (p : PagerData) (calls : List Call) → IsSoundPager p → IsSound
 calls_sound p [] sound = sound
 calls_sound p (call ∷ calls) sound = calls_sound (after_call p call) calls (call_sound p call sound)
 
-first_is_place : (heights : List ℕ) → IsPlace (length heights) (first_place heights)
+first_is_place : (heights : List ℕ) → SelectsEntry (length heights) (first_place heights)
 first_is_place [] = refl
-first_is_place (h ∷ heights) = subst (IsPlace (length (h ∷ heights))) (sym (cond-false _ _ _ (ne_test (length (h ∷ heights)) 0 (λ e. absurd (omega (arith, e)))))) (omega arith)
+first_is_place (h ∷ heights) = subst (SelectsEntry (length (h ∷ heights))) (sym (cond-false _ _ _ (ne_eqb (length (h ∷ heights)) 0 (λ e. absurd (omega (arith, e)))))) (omega arith)
 
 pub start_sound : (entries : List EntryData) (width height : ℕ) → IsSoundPager (pager_of entries width height)
 start_sound entries width height =
@@ -121,7 +114,7 @@ start_sound entries width height =
 pub stays_sound : StaysSound
 stays_sound entries width height calls = calls_sound (pager_of entries width height) calls (start_sound entries width height)
 
-some_entries : (count place : ℕ) (selected : Option ℕ) → IsPlace count selected → selected ≡ Some place → place < count
+some_entries : (count place : ℕ) (selected : Option ℕ) → SelectsEntry count selected → selected ≡ Some place → place < count
 some_entries count place None p e = absurd (cc)
 some_entries count place (Some other) p e = let same : other ≡ place = cc in omega arith
 

@@ -3,7 +3,7 @@ use Rattle.std.proofs.Common.{◌≡◌, ℕ, ◌-◌, ◌==◌, List, length, s
 use Rattle.std.specs.Prelude.{map, if◌then◌else◌}
 use Rattle.tui_lists.specs.ListItem.{heights_of}
 use Rattle.tui_pager_lib.specs.Entry.{EntryData}
-use Rattle.tui_pager_lib.specs.Laws.{IsPlace, IsSound}
+use Rattle.tui_pager_lib.specs.Laws.{SelectsEntry, IsSound}
 use Rattle.tui_pager_lib.specs.Lines.{HavePlaces}
 use Rattle.tui_pager_lib.specs.Screen.{body_lines, sizes_of, title_item}
 use Rattle.tui_pager_lib.specs.Steps.{lines_at, most_in, most_of, settled, started}
@@ -15,8 +15,8 @@ pub most_is : (entries : List EntryData) (width height : ℕ) (selected : Option
     lines ≡ lines_at (body_lines entries width) selected → most ≡ most_of (sizes_of entries width height) selected
 most_is entries width height selected lines most m n = m ∙ ap (most_in (height - 3)) n
 
-pub place_of : (entries : List EntryData) (width height : ℕ) (s : PagerState) → IsSound (sizes_of entries width height) s → IsPlace (length entries) s.selected
-place_of entries width height s sound = subst (λ n. IsPlace n s.selected) (count_heights entries) sound.place
+pub place_of : (entries : List EntryData) (width height : ℕ) (s : PagerState) → IsSound (sizes_of entries width height) s → SelectsEntry (length entries) s.selected
+place_of entries width height s sound = subst (λ n. SelectsEntry n s.selected) (count_heights entries) sound.place
 
 pub start_is : (entries : List EntryData) (width height count : ℕ) (place : Option ℕ) (s : PagerState) → count ≡ length entries →
     place ≡ (if count == 0 then None else Some 0) →

@@ -8,7 +8,7 @@ use Rattle.tui_frames.specs.InBlock.{inner_of}
 use Rattle.tui_lists.specs.List.{list_window}
 use Rattle.tui_pager_lib.specs.Entry.{EntryData}
 use Rattle.tui_pager_lib.specs.Pager.{PagerData}
-use Rattle.tui_pager_lib.specs.Screen.{IsDrawn, list_state, page_area, pager_layers, sizes_of, titles_area, titles_list}
+use Rattle.tui_pager_lib.specs.Screen.{IsBlankUnder, list_state, page_area, pager_layers, sizes_of, titles_area, titles_list}
 use Rattle.tui_pager_lib.specs.Steps.{Sizes, most_of, pressed, resized, started}
 use Rattle.tui_pager_lib.specs.declared.key.Key.{Key}
 use Rattle.tui_pager_lib.specs.declared.state.PagerState.{PagerState}
@@ -42,13 +42,13 @@ after_calls p [] = p
 after_calls p (call ∷ calls) = after_calls (after_call p call) calls
 
 -- a place of an entry, where there are entries
-abbrev pub IsPlace : ℕ → Option ℕ → Type 0
-IsPlace count None = count ≡ 0
-IsPlace count (Some place) = place < count
+abbrev pub SelectsEntry : ℕ → Option ℕ → Type 0
+SelectsEntry count None = count ≡ 0
+SelectsEntry count (Some place) = place < count
 
 -- the selection is an entry, the line shows the body's end at most, and the offset is the one that the list keeps
 pub record IsSound (z : Sizes) (s : PagerState) : Type 0 where
-  pub place : IsPlace (length z.heights) s.selected
+  pub place : SelectsEntry (length z.heights) s.selected
   pub line : s.line ≤ most_of z s.selected
   pub follows : s.offset ≡ (window_of z.heights z.rows s.offset s.selected 1).first
 
@@ -63,7 +63,7 @@ titles_window p =
     list_window list (inner_of list.block (titles_area p.width p.height)).height (list_state p.state)
 
 -- an entry is one of those, which begin at the offset and fit together, so that all lines of its title are seen
-pub record IsSeen (p : PagerData) (place : ℕ) : Type 0 where
+pub record IsTitleSeen (p : PagerData) (place : ℕ) : Type 0 where
   pub offset : (titles_window p).first ≡ p.state.offset
   pub from_first : (titles_window p).first ≤ place
   pub before_end : place < (titles_window p).end
@@ -73,7 +73,7 @@ pub record IsSeen (p : PagerData) (place : ℕ) : Type 0 where
 -- the selected entry, where its title has at most as many lines as the list has rows
 abbrev pub SeesSelected : PagerData → Type 0
 SeesSelected p = (place : ℕ) → p.state.selected ≡ Some place
-    → slice_index (sizes_of p.entries p.width p.height).heights place ≤ p.height - 3 → IsSeen p place
+    → slice_index (sizes_of p.entries p.width p.height).heights place ≤ p.height - 3 → IsTitleSeen p place
 
 -- after any calls a pager is sound
 abbrev pub StaysSound : Type 0
@@ -86,5 +86,5 @@ SelectedIsSeen = (entries : List EntryData) (width height : ℕ) (calls : List C
 
 -- a pager has one screen
 abbrev pub ScreenIsOne : Type 0
-ScreenIsOne = (p : PagerData) (screen other : Screen) → IsDrawn (pager_layers p) (page_area p.width p.height) screen →
-    IsDrawn (pager_layers p) (page_area p.width p.height) other → other ≡ screen
+ScreenIsOne = (p : PagerData) (screen other : Screen) → IsBlankUnder (pager_layers p) (page_area p.width p.height) screen →
+    IsBlankUnder (pager_layers p) (page_area p.width p.height) other → other ≡ screen

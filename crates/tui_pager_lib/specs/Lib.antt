@@ -4,6 +4,7 @@ pub mod Key
 pub mod Laws
 pub mod Lines
 pub mod Pager
+pub mod Same
 pub mod Screen
 pub mod Shown
 pub mod Steps

@@ -1,6 +1,6 @@
 -- Where the lines of the selected body begin.
 use Rattle.std.specs.Prelude.{ℕ, ◌≡◌, ◌-◌, ◌/◌, ◌<◌, true, List, [], length, Option, None, Some, slice_index}
-use Rattle.tui_line_places.specs.AfterLine.{ArePlaces, IsPlace}
+use Rattle.tui_line_places.specs.AfterLine.{ArePlaces, BeginsLine}
 use Rattle.tui_pager_lib.specs.Entry.{EntryData}
 use Rattle.tui_pager_lib.specs.Screen.{body_of}
 
@@ -15,4 +15,4 @@ HavePlaces entries width (Some place) places = ArePlaces (inner_width width) tru
 
 -- from each of these places on a body has its lines from that one on
 abbrev pub AreWithin : ℕ → List ℕ → List ℕ → Type 0
-AreWithin width body places = (k : ℕ) → k < length places → IsPlace (inner_width width) true body k (slice_index places k)
+AreWithin width body places = (k : ℕ) → k < length places → BeginsLine (inner_width width) true body k (slice_index places k)

@@ -114,12 +114,12 @@ abbrev pub bar_state : ℕ → ℕ → ℕ → ScrollbarState
 bar_state rows most line = record { content_length = most + 1; position = line; viewport_content_length = rows }
 
 -- how many lines a body is wrapped into at a width
-abbrev pub line_count : ℕ → List ℕ → ℕ
-line_count width body = length (wrap_text width (at_blanks true) Left (raw_text body))
+abbrev pub body_height : ℕ → List ℕ → ℕ
+body_height width body = length (wrap_text width (at_blanks true) Left (raw_text body))
 
 -- how many lines each body has
 abbrev pub body_lines : List EntryData → ℕ → List ℕ
-body_lines entries width = map (λ e. line_count (width - width / 3 - 2) e.body) entries
+body_lines entries width = map (λ e. body_height (width - width / 3 - 2) e.body) entries
 
 -- what the steps need to know of a pager
 abbrev pub sizes_of : List EntryData → ℕ → ℕ → Sizes
@@ -130,13 +130,13 @@ sizes_of entries width height = record {
 }
 
 -- the place of the selected entry, from 1, and 0 for none
-abbrev pub number_of : Option ℕ → ℕ
-number_of None = 0
-number_of (Some place) = place + 1
+abbrev pub entry_number : Option ℕ → ℕ
+entry_number None = 0
+entry_number (Some place) = place + 1
 
 -- that number and how many entries there are
-abbrev pub place_text : Option ℕ → ℕ → List ℕ
-place_text selected count = decimal (number_of selected) ++ (codes "/" ++ decimal count)
+abbrev pub last_row_text : Option ℕ → ℕ → List ℕ
+last_row_text selected count = decimal (entry_number selected) ++ (codes "/" ++ decimal count)
 
 -- the titles, the body, the bar and the place, in order
 unfoldable pub pager_layers : PagerData → List Layer
@@ -145,10 +145,10 @@ pager_layers p =
     list_layers (titles_list p.entries) (list_state p.state) (titles_area p.width p.height)
     ++ (paragraph_layers (body_paragraph (body_of p.entries p.state.selected) p.state.line) (body_area p.width p.height)
     ++ (scrollbar_layers bar (bar_state (p.height - 3) most p.state.line) (bar_area p.width p.height)
-    ++ paragraph_layers (paragraph_of (raw_text (place_text p.state.selected (length p.entries)))) (last_row p.width p.height)))
+    ++ paragraph_layers (paragraph_of (raw_text (last_row_text p.state.selected (length p.entries)))) (last_row p.width p.height)))
 
 -- a screen of an area and of its shape, each cell of which is the blank one under the layers
-pub record IsDrawn (layers : List Layer) (area : Rect) (screen : Screen) : Type 0 where
+pub record IsBlankUnder (layers : List Layer) (area : Rect) (screen : Screen) : Type 0 where
   pub area_is : screen.area ≡ area
   pub cells : (x y : ℕ) → covers area x y ≡ true → cell_at screen x y ≡ Some (layers_at layers x y blank)
   pub shape : IsScreen screen

@@ -12,7 +12,7 @@ pub record Sizes : Type 0 where
   pub heights : List ℕ
   pub lines : List ℕ
 
--- the greatest line that a body of so many lines begins with
+-- the greatest line that a body begins with, by the rows that there are and the lines that it has
 abbrev pub most_in : ℕ → ℕ → ℕ
 most_in rows lines = min (lines - rows) farthest_edge
 

@@ -1,17 +1,15 @@
 //! The body of an entry.
 
-ghost use Rattle.std.specs.Prelude.{◌≡◌, ◌≤◌, IfOk, length, map};
+ghost use Rattle.std.specs.Prelude.{◌≡◌, IfOk, length, map};
 ghost use Rattle.tui_para.specs.Paragraph.{paragraph_data};
 ghost use Rattle.tui_pager_lib.specs.Entry.{entry_data};
-ghost use Rattle.tui_pager_lib.specs.Laws.{IsPlace};
-ghost use Rattle.tui_pager_lib.specs.Lines.{HavePlaces};
+ghost use Rattle.tui_pager_lib.specs.Laws.{SelectsEntry};
 ghost use Rattle.tui_pager_lib.specs.Screen.{body_of, body_paragraph, unframed};
 
 use crate::entry::Entry;
 use std::alloc::Global;
 use tui_cells::Mem;
 use tui_frames::Block;
-use tui_line_places::line_places;
 use tui_para::{Paragraph, Wrap};
 use tui_text::Text;
 
@@ -37,28 +35,9 @@ pub(crate) fn body_paragraph<'a>(alloc: Global, body: &'a str, line: u16) -> Mem
     Ok(unframed(alloc, body, line)?.block(Block::bordered(alloc)))
 }
 
-/// Where the lines of the selected body begin on a screen of this width, in bytes; no place where none is selected. `NoMemory` where
-/// there is none for the places.
-pub(crate) fn selected_places(
-    alloc: Global,
-    width: u16,
-    entries: &[Entry<'_>],
-    selected: Option<usize>,
-) -> Mem<Vec<usize>>
-    requires wide { 12 ≤ width }
-    requires place { IsPlace (length entries.now) selected }
-    ensures { IfOk result (λ places. HavePlaces (map entry_data entries.now) width selected places.items) }
-{
-    let body = selected_body(entries, selected);
-    match selected {
-        None => Ok(Vec::new(alloc)),
-        Some(_) => line_places(alloc, body, width - width / 3 - 2, true),
-    }
-}
-
 /// The selected body, and an empty one where none is selected.
 pub(crate) fn selected_body<'a>(entries: &[Entry<'a>], selected: Option<usize>) -> &'a str
-    requires { IsPlace (length entries.now) selected }
+    requires { SelectsEntry (length entries.now) selected }
     ensures { result.now ≡ body_of (map entry_data entries.now) selected }
 {
     match selected {

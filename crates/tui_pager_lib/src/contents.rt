@@ -1,24 +1,26 @@
 //! What a pager keeps of its entries.
 
-ghost use Rattle.std.specs.Prelude.{◌≡◌, ◌≤◌, IfOk, OnOk, length, map};
+ghost use Rattle.std.specs.Prelude.{◌≡◌, ◌-◌, IfOk, OnOk, length, map};
 ghost use Rattle.tui_lists.specs.ListItem.{heights_of};
 ghost use Rattle.tui_pager_lib.specs.Entry.{entry_data};
-ghost use Rattle.tui_pager_lib.specs.Laws.{IsPlace};
+ghost use Rattle.tui_pager_lib.specs.Laws.{SelectsEntry};
 ghost use Rattle.tui_pager_lib.specs.Lines.{HavePlaces};
 ghost use Rattle.tui_pager_lib.specs.Pager.{PagerData};
-ghost use Rattle.tui_pager_lib.specs.Screen.{IsDrawn, page_area, pager_layers, title_item};
+ghost use Rattle.tui_pager_lib.specs.Screen.{IsBlankUnder, body_of, page_area, pager_layers, title_item};
 ghost use Rattle.tui_pager_lib.specs.Steps.{settled};
 
-use crate::body::selected_places;
-use crate::drawing::draw_screen;
+use crate::body::selected_body;
+use crate::drawing::{draw_bar, draw_body, draw_place, draw_titles, wipe_page};
 use crate::entry::Entry;
 use crate::making::{heights, title_items, titles_list};
+use crate::size::PagerSize;
 use crate::state::PagerState;
-use crate::steps::follow;
+use crate::steps::{follow, greatest_line};
 use std::alloc::Global;
 use std::marker::Model;
 use tui_cells::{Buffer, Mem};
 use tui_layout::Sums;
+use tui_line_places::{Lines, line_places};
 use tui_lists::List;
 
 /// Entries, with the list of their titles and the sums of the titles' heights, which are made once.
@@ -74,18 +76,36 @@ impl<'a> Contents<'a> {
         self.entries.len()
     }
 
-    /// Where the lines of the selected body begin on a screen of this width, in bytes; no place where none is selected.
+    /// The selected body, and an empty one where none is selected.
+    fn body(&self, selected: Option<usize>) -> &'a str
+        requires { SelectsEntry (length self.now) selected }
+        ensures { result.now ≡ body_of self.now selected }
+    {
+        selected_body(&self.entries, selected)
+    }
+
+    /// Where the lines of the selected body begin on a screen of this size, in bytes; no place where none is selected. `NoMemory` where
+    /// there is none for the places.
     pub(crate) fn places(
         &self,
         alloc: Global,
-        width: u16,
+        size: PagerSize,
         selected: Option<usize>,
     ) -> Mem<Vec<usize>>
-        requires wide { 12 ≤ width }
-        requires place { IsPlace (length self.now) selected }
-        ensures { IfOk result (λ places. HavePlaces self.now width selected places.items) }
+        requires { SelectsEntry (length self.now) selected }
+        ensures { IfOk result (λ places. HavePlaces self.now size.width selected places.items) }
     {
-        selected_places(alloc, width, &self.entries, selected)
+        let body = self.body(selected);
+        match selected {
+            None => Ok(Vec::new(alloc)),
+            Some(_) => {
+                let lines = Lines {
+                    width: size.width - size.width / 3 - 2,
+                    trim: true,
+                };
+                line_places(alloc, body, lines)
+            }
+        }
     }
 
     /// The state with the offset that the list of the titles keeps.
@@ -99,28 +119,25 @@ impl<'a> Contents<'a> {
     pub(crate) fn draw(
         &self,
         alloc: Global,
-        width: u16,
-        height: u16,
+        size: PagerSize,
         state: PagerState,
         places: &[usize],
         screen: &mut Buffer,
     ) -> Mem<()>
-        requires wide { 12 ≤ width }
-        requires high { 5 ≤ height }
-        requires place { IsPlace (length self.now) state.selected }
-        requires places { HavePlaces self.now width state.selected places.now }
-        ensures { OnOk result (IsDrawn (pager_layers (record { width = width; height = height; entries = self.now; state = state }))
-            (page_area width height) screen.new) }
+        requires place { SelectsEntry (length self.now) state.selected }
+        requires places { HavePlaces self.now size.width state.selected places.now }
+        ensures { OnOk result (IsBlankUnder (pager_layers (record { width = size.width; height = size.height; entries = self.now; state = state }))
+            (page_area size.width size.height) screen.new) }
     {
-        draw_screen(
-            alloc,
-            &self.titles,
-            &self.entries,
-            width,
-            height,
-            state,
-            places,
-            screen,
-        )
+        wipe_page(alloc, size, screen)?;
+        draw_titles(alloc, &self.titles, size, state, screen)?;
+        let body = self.body(state.selected);
+        draw_body(alloc, body, places, state.line, size, screen)?;
+        let most = greatest_line(places.len(), size.height - 3);
+        draw_bar(alloc, most, state.line, size, screen)?;
+        draw_place(alloc, state.selected, self.len(), size, screen)?;
+        // The shape of the rows is told by their count.
+        let _height = screen.height();
+        Ok(())
     }
 }

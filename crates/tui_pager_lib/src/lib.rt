@@ -11,6 +11,7 @@ mod making;
 pub mod pager;
 pub mod pager_error;
 mod shown;
+pub mod size;
 pub mod state;
 mod steps;
 
@@ -19,4 +20,5 @@ pub use key::Key;
 pub use laws::pager_laws;
 pub use pager::Pager;
 pub use pager_error::PagerError;
+pub use size::PagerSize;
 pub use state::PagerState;

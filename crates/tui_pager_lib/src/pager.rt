@@ -3,22 +3,18 @@
 ghost use Rattle.std.specs.Prelude.{◌≡◌, ◌↔◌, ◌⊎◌, ◌<◌, Err, IfOk, OnErr, OnOk, map};
 ghost use Rattle.tui_pager_lib.specs.Entry.{entry_data};
 ghost use Rattle.tui_pager_lib.specs.Laws.{IsSoundPager, SeesSelected, after_call, pager_of, press, resize};
-ghost use Rattle.tui_pager_lib.specs.Screen.{IsDrawn, page_area, pager_layers};
+ghost use Rattle.tui_pager_lib.specs.Screen.{IsBlankUnder, page_area, pager_layers};
 
 use crate::contents::Contents;
 use crate::entry::Entry;
 use crate::key::Key;
 use crate::pager_error::PagerError;
 use crate::shown::{Shown, started};
+use crate::size::PagerSize;
 use crate::state::PagerState;
 use std::alloc::Global;
 use std::marker::Model;
 use tui_cells::{Buffer, Mem};
-
-/// The least size.
-const LEAST_WIDTH: u16 = 12;
-
-const LEAST_HEIGHT: u16 = 5;
 
 /// Entries on a screen: at the left the list of their titles, of which one is selected, at the right its body, in lines of the
 /// width that there is, with a bar, and in the last row the selected place and how many entries there are. Keys move the selection
@@ -69,11 +65,18 @@ impl<'a> Pager<'a> {
         ensures small { (result ≡ Err PagerError.TooSmall) ↔ (width < 12) ⊎ (height < 5) }
         ensures ok { IfOk result (λ pager. pager ≡ pager_of (map entry_data entries.entry.items) width height) }
     {
-        if width < LEAST_WIDTH || height < LEAST_HEIGHT {
-            return Err(PagerError::TooSmall);
+        match PagerSize::new(width, height) {
+            Some(size) => Ok(Pager::with_size(alloc, size, entries)?),
+            None => Err(PagerError::TooSmall),
         }
+    }
+
+    /// The same on a screen of a size, which has room. `NoMemory` as above.
+    pub fn with_size(alloc: Global, size: PagerSize, entries: Vec<Entry<'a>>) -> Mem<Pager<'a>>
+        ensures { IfOk result (λ pager. pager ≡ pager_of (map entry_data entries.entry.items) size.width size.height) }
+    {
         let contents = Contents::new(alloc, entries)?;
-        let shown = started(alloc, &contents, width, height)?;
+        let shown = started(alloc, &contents, size)?;
         Ok(Pager {
             alloc,
             contents,
@@ -96,12 +99,19 @@ impl<'a> Pager<'a> {
         ensures ok { OnOk result (self.new ≡ after_call self.old (resize width height)) }
         ensures err { OnErr result (self.new ≡ self.old) }
     {
-        if width < LEAST_WIDTH || height < LEAST_HEIGHT {
-            return Err(PagerError::TooSmall);
+        match PagerSize::new(width, height) {
+            Some(size) => Ok(self.take_size(size)?),
+            None => Err(PagerError::TooSmall),
         }
+    }
+
+    /// Takes another size, as `resize` does. At `NoMemory` the size, the state and the screen are as before.
+    pub fn take_size(&mut self, size: PagerSize) -> Mem<()>
+        ensures ok { OnOk result (self.new ≡ after_call self.old (resize size.width size.height)) }
+        ensures err { OnErr result (self.new ≡ self.old) }
+    {
         let alloc = self.alloc;
-        self.shown.take_size(alloc, &self.contents, width, height)?;
-        Ok(())
+        self.shown.take_size(alloc, &self.contents, size)
     }
 
     /// What is selected, and what is shown of the list and of the body. A selected entry whose title has at most as many lines as the
@@ -116,7 +126,7 @@ impl<'a> Pager<'a> {
 
     /// The screen, at the origin: each cell is the blank one under the strokes of the list, of the body, of its bar and of the place.
     pub fn screen(&self) -> &Buffer
-        ensures { IsDrawn (pager_layers self.now) (page_area self.now.width self.now.height) result.now }
+        ensures { IsBlankUnder (pager_layers self.now) (page_area self.now.width self.now.height) result.now }
     {
         &self.shown.screen
     }

@@ -1,7 +1,7 @@
 //! What a pager shows, and the steps to what it shows next.
 
-ghost use Rattle.std.specs.Prelude.{◌≡◌, ℕ, ◌≤◌, ◌-◌, ◌==◌, if◌then◌else◌, IfOk, None, OnErr, OnOk, Some, length, min, true};
-ghost use Rattle.tui_pager_lib.specs.Laws.{IsPlace, IsSoundPager, after_call, pager_of, press, resize};
+ghost use Rattle.std.specs.Prelude.{◌≡◌, ◌==◌, if◌then◌else◌, IfOk, None, OnErr, OnOk, Some, true};
+ghost use Rattle.tui_pager_lib.specs.Laws.{SelectsEntry, IsSoundPager, after_call, pager_of, press, resize};
 ghost use Rattle.tui_pager_lib.specs.Lines.{HavePlaces};
 ghost use Rattle.tui_pager_lib.specs.Pager.{PagerData};
 ghost use Rattle.tui_pager_lib.specs.Screen.{body_lines, sizes_of};
@@ -10,6 +10,7 @@ ghost use Rattle.tui_pager_lib.specs.Steps.{lines_at, pressed, resized};
 
 use crate::contents::Contents;
 use crate::key::Key;
+use crate::size::PagerSize;
 use crate::state::PagerState;
 use crate::steps::{greatest_line, moved};
 use std::alloc::Global;
@@ -20,15 +21,14 @@ use tui_cells::{Buffer, Mem, Rect};
 /// one of any size: what is shown next is drawn there, and the two change places.
 #[derive(Drop)]
 pub(crate) struct Shown {
-    pub(crate) width: u16,
-    pub(crate) height: u16,
+    pub(crate) size: PagerSize,
     pub(crate) state: PagerState,
     pub(crate) places: Vec<usize>,
     pub(crate) screen: Buffer,
     spare: Buffer,
 }
 
-/// The first of so many entries, if there is one.
+/// The first of `count` entries, if there is one.
 fn first_place(count: usize) -> Option<usize>
     ensures { result ≡ (if count == 0 then None else Some 0) }
 {
@@ -36,11 +36,9 @@ fn first_place(count: usize) -> Option<usize>
 }
 
 /// The start.
-pub(crate) fn started(alloc: Global, contents: &Contents<'_>, width: u16, height: u16) -> Mem<Shown>
-    requires wide { 12 ≤ width }
-    requires high { 5 ≤ height }
+pub(crate) fn started(alloc: Global, contents: &Contents<'_>, size: PagerSize) -> Mem<Shown>
     ensures up_to_date { IfOk result (IsUpToDate contents.now) }
-    ensures is { IfOk result (λ shown. pager_data contents.now shown ≡ pager_of contents.now width height) }
+    ensures is { IfOk result (λ shown. pager_data contents.now shown ≡ pager_of contents.now size.width size.height) }
 {
     let count = contents.len();
     let selected = first_place(count);
@@ -49,29 +47,28 @@ pub(crate) fn started(alloc: Global, contents: &Contents<'_>, width: u16, height
         offset: 0,
         line: 0,
     };
-    let state = contents.follow(height - 3, first);
-    let places = contents.places(alloc, width, state.selected)?;
+    let state = contents.follow(size.height - 3, first);
+    let places = contents.places(alloc, size, state.selected)?;
     // The first screen is drawn as every other one, on the spare one, so that a pager begins with two that have no cells.
     let screen = Buffer::empty(alloc, Rect::ZERO)?;
     let spare = Buffer::empty(alloc, Rect::ZERO)?;
     let mut shown = Shown {
-        width,
-        height,
+        size,
         state,
         places,
         screen,
         spare,
     };
-    shown.redraw(alloc, contents, height, state)?;
+    shown.redraw(alloc, contents, size, state)?;
     Ok(shown)
 }
 
-/// A state on a screen of another size, where the selected body has so many lines: the line is cut where the body ends earlier.
-fn cut(contents: &Contents<'_>, height: u16, lines: usize, state: PagerState) -> PagerState
-    requires { 5 ≤ height }
-    ensures { (width : ℕ) → lines ≡ lines_at (body_lines contents.now width) state.selected → result ≡ resized (sizes_of contents.now width height) state }
+/// A state on a screen of another size, where the selected body has `lines` lines: the line is cut where the body ends earlier.
+fn cut(contents: &Contents<'_>, size: PagerSize, lines: usize, state: PagerState) -> PagerState
+    requires { lines ≡ lines_at (body_lines contents.now size.width) state.selected }
+    ensures { result ≡ resized (sizes_of contents.now size.width size.height) state }
 {
-    let rows = height - 3;
+    let rows = size.height - 3;
     let most = greatest_line(lines, rows);
     let line = state.line.min(most);
     contents.follow(rows, PagerState { line, ..state })
@@ -87,10 +84,10 @@ impl Shown {
     {
         let state = self.after_key(contents, key);
         if is_same(state.selected, self.state.selected) {
-            return self.redraw(alloc, contents, self.height, state);
+            return self.redraw(alloc, contents, self.size, state);
         }
-        let places = contents.places(alloc, self.width, state.selected)?;
-        self.show(alloc, contents, self.width, self.height, state, places)
+        let places = contents.places(alloc, self.size, state.selected)?;
+        self.show(alloc, contents, self.size, state, places)
     }
 
     /// Takes another size. At `NoMemory` all that is shown is as before.
@@ -98,31 +95,28 @@ impl Shown {
         &mut self,
         alloc: Global,
         contents: &Contents<'_>,
-        width: u16,
-        height: u16,
+        size: PagerSize,
     ) -> Mem<()>
-        requires wide { 12 ≤ width }
-        requires high { 5 ≤ height }
-        requires up_to_date { IsUpToDate contents.now self.old }
+        requires { IsUpToDate contents.now self.old }
         ensures up_to_date { OnOk result (IsUpToDate contents.now self.new) }
-        ensures is { OnOk result (pager_data contents.now self.new ≡ after_call (pager_data contents.now self.old) (resize width height)) }
+        ensures is { OnOk result (pager_data contents.now self.new ≡ after_call (pager_data contents.now self.old) (resize size.width size.height)) }
         ensures err { OnErr result (IsKept self.old self.new) }
     {
-        if width == self.width {
-            let state = cut(contents, height, self.places.len(), self.state);
-            return self.redraw(alloc, contents, height, state);
+        if size.width == self.size.width {
+            let state = cut(contents, size, self.places.len(), self.state);
+            return self.redraw(alloc, contents, size, state);
         }
-        let places = contents.places(alloc, width, self.state.selected)?;
-        let state = cut(contents, height, places.len(), self.state);
-        self.show(alloc, contents, width, height, state, places)
+        let places = contents.places(alloc, size, self.state.selected)?;
+        let state = cut(contents, size, places.len(), self.state);
+        self.show(alloc, contents, size, state, places)
     }
 
     /// The state after a key.
     fn after_key(&self, contents: &Contents<'_>, key: Key) -> PagerState
         requires { IsUpToDate contents.now self.now }
-        ensures is { result ≡ pressed (sizes_of contents.now self.now.width self.now.height) key self.now.state }
+        ensures is { result ≡ pressed (sizes_of contents.now self.now.size.width self.now.size.height) key self.now.state }
     {
-        let rows = self.height - 3;
+        let rows = self.size.height - 3;
         let most = greatest_line(self.places.len(), rows);
         let count = contents.len();
         let next = moved(rows, count, most, key, self.state);
@@ -135,21 +129,18 @@ impl Shown {
         &mut self,
         alloc: Global,
         contents: &Contents<'_>,
-        height: u16,
+        size: PagerSize,
         state: PagerState,
     ) -> Mem<()>
-        requires wide { 12 ≤ self.old.width }
-        requires high { 5 ≤ height }
-        requires sound { IsSoundPager (record { width = self.old.width; height = height; entries = contents.now; state = state }) }
-        requires places { HavePlaces contents.now self.old.width state.selected self.old.places.items }
+        requires sound { IsSoundPager (record { width = size.width; height = size.height; entries = contents.now; state = state }) }
+        requires places { HavePlaces contents.now size.width state.selected self.old.places.items }
         ensures up_to_date { OnOk result (IsUpToDate contents.now self.new) }
         ensures is { OnOk result (pager_data contents.now self.new
-            ≡ record { width = self.old.width; height = height; entries = contents.now; state = state }) }
+            ≡ record { width = size.width; height = size.height; entries = contents.now; state = state }) }
         ensures err { OnErr result (IsKept self.old self.new) }
     {
-        let width = self.width;
-        contents.draw(alloc, width, height, state, &self.places, &mut self.spare)?;
-        self.height = height;
+        contents.draw(alloc, size, state, &self.places, &mut self.spare)?;
+        self.size = size;
         self.state = state;
         mem::swap(&mut self.screen, &mut self.spare);
         Ok(())
@@ -161,22 +152,19 @@ impl Shown {
         &mut self,
         alloc: Global,
         contents: &Contents<'_>,
-        width: u16,
-        height: u16,
+        size: PagerSize,
         state: PagerState,
         places: Vec<usize>,
     ) -> Mem<()>
-        requires wide { 12 ≤ width }
-        requires high { 5 ≤ height }
-        requires sound { IsSoundPager (record { width = width; height = height; entries = contents.now; state = state }) }
-        requires places { HavePlaces contents.now width state.selected places.items }
+        requires sound { IsSoundPager (record { width = size.width; height = size.height; entries = contents.now; state = state }) }
+        requires places { HavePlaces contents.now size.width state.selected places.items }
         ensures up_to_date { OnOk result (IsUpToDate contents.now self.new) }
-        ensures is { OnOk result (pager_data contents.now self.new ≡ record { width = width; height = height; entries = contents.now; state = state }) }
+        ensures is { OnOk result (pager_data contents.now self.new
+            ≡ record { width = size.width; height = size.height; entries = contents.now; state = state }) }
         ensures err { OnErr result (IsKept self.old self.new) }
     {
-        contents.draw(alloc, width, height, state, &places, &mut self.spare)?;
-        self.width = width;
-        self.height = height;
+        contents.draw(alloc, size, state, &places, &mut self.spare)?;
+        self.size = size;
         self.state = state;
         self.places = places;
         mem::swap(&mut self.screen, &mut self.spare);

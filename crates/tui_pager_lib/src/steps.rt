@@ -8,7 +8,7 @@ use crate::state::PagerState;
 use tui_cells::FARTHEST_EDGE;
 use tui_layout::{Sums, window_of};
 
-/// The greatest line that a body of so many lines may begin with.
+/// The greatest line that a body of `lines` lines may begin with.
 pub(crate) fn greatest_line(lines: usize, rows: u16) -> u16
     ensures { result ≡ most_in rows lines }
 {

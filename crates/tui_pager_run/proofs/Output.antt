@@ -1,6 +1,6 @@
 -- An output is one.
 use Rattle.std.proofs.Common.{◌≡◌, ℕ, List, [], ◌++◌, sym, ap, ◌∙◌}
-use Rattle.tui_port.specs.Laws.{PrintIsUnique}
+use Rattle.tui_print.specs.Laws.{PrintIsUnique}
 use Rattle.tui_pager_lib.specs.Laws.{ScreenIsOne}
 use Rattle.tui_pager_run.specs.Laws.{OutputIsOne}
 use Rattle.tui_pager_run.specs.Printed.{key_lines}

@@ -13,12 +13,12 @@ use Rattle.tui_pager_run.specs.declared.bad_input.BadInput.{BadInput}
 use Rattle.tui_pager_run.specs.declared.field.PagerField.{PagerField}
 use Rattle.tui_pager_run.specs.declared.field.PagerField.TheVariants as fields
 use Rattle.tui_pager_run.specs.declared.input.Input.{Input}
-use Rattle.tui_pager_run.specs.declared.size.Size.{Size}
 use Rattle.tui_pager_run.specs.declared.step.Step.{Step}
 use Rattle.tui_pager_run.specs.declared.step.Step.TheVariants as step
 use Rattle.tui_pager_lib.specs.Entry.{EntryData, entry_data}
 use Rattle.tui_pager_lib.specs.Laws.{Call, press, resize}
 use Rattle.tui_pager_lib.specs.declared.key.Key.{Key}
+use Rattle.tui_pager_lib.specs.declared.size.PagerSize.{PagerSize}
 
 -- a field that has to be there
 abbrev pub required : {A : Type 0} → (Data → Option A) → Option ℕ → PagerField → Data → Result A BadInput
@@ -29,7 +29,7 @@ abbrev pub size_of : Data → Option (ℕ × ℕ)
 size_of d = pair_of (within 12 200) (within 5 100) d
 
 -- a size as its columns and rows
-abbrev pub size_data : Size → ℕ × ℕ
+abbrev pub size_data : PagerSize → ℕ × ℕ
 size_data size = (size.width, size.height)
 
 -- the size of the screen, or what is refused of it

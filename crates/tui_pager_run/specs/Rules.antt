@@ -2,7 +2,7 @@
 use Rattle.std.specs.Prelude.{List, [], String}
 use Rattle.std.specs.declared.alloc.Global.{Global}
 use Rattle.tui_program.specs.Endings.{nothing}
-use Rattle.tui_program.specs.Rules.{Reading, Rules, reading_rules}
+use Rattle.tui_program.specs.Rules.{JobRules, Rules, reading_rules}
 use Rattle.tui_program.specs.Words.{AreTexts}
 use Rattle.tui_pager_run.specs.Input.{InputData, input_of}
 use Rattle.tui_pager_run.specs.Printed.{IsWritten}
@@ -15,9 +15,9 @@ abbrev pub Names : PagerCommand → List (String Global) → Type 0
 Names c words = AreTexts [] words
 
 -- what the program does with a value: nothing is written before the last key is done
-abbrev pub pager_reading : PagerCommand → Reading BadInput
-pager_reading c = record { Input = InputData; input_of = input_of; line = refusal_line; due = IsWritten; part = λ input. nothing }
+abbrev pub pager_job : PagerCommand → JobRules BadInput
+pager_job c = record { Input = InputData; input_of = input_of; line = refusal_line; due = IsWritten; part = λ input. nothing }
 
 -- the rules of the one command
 abbrev pub pager_rules : Rules PagerCommand BadInput
-pager_rules = reading_rules Names pager_reading
+pager_rules = reading_rules Names pager_job

@@ -10,8 +10,7 @@ use crate::printing::put_run;
 use crate::run::press_keys;
 use serde_json::Value;
 use std::alloc::Global;
-use tui_json::InputError;
-use tui_port::{Sink, WriteFault};
+use tui_outside::{Sink, WriteFault};
 use tui_program::{Job, Leftovers, Reader, Stop, are_none, put_refused_field};
 
 /// The command of the program: it reads entries and keys, and writes the state behind each key and the last screen.
@@ -33,11 +32,11 @@ impl Reader for PagerCommand {
 }
 
 impl Job for PagerCommand {
-    ghost use Rattle.tui_pager_run.specs.Rules.{pager_reading};
+    ghost use Rattle.tui_pager_run.specs.Rules.{pager_job};
 
     type Refusal = BadInput;
 
-    ghost reading = { pager_reading };
+    ghost job_rules = { pager_job };
 
     fn answer<K: Sink>(
         &self,
@@ -46,11 +45,8 @@ impl Job for PagerCommand {
         sink: &mut K,
         leftovers: Leftovers,
     ) -> Result<(), Stop<BadInput>> {
-        match read_input(alloc, value) {
-            Ok(input) => show(alloc, input, sink, leftovers),
-            Err(InputError::Refused(refusal)) => Err(Stop::Refused(refusal)),
-            Err(InputError::NoMemory) => Err(Stop::NoMemory),
-        }
+        let input = read_input(alloc, value)?;
+        show(alloc, input, sink, leftovers)
     }
 
     fn refuse<K: Sink>(&self, refusal: BadInput, sink: &mut K) -> Result<(), WriteFault> {

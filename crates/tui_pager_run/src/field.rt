@@ -1,7 +1,7 @@
 //! The fields of the input.
 
 use crate::bad_input::BadInput;
-use tui_json::{Fields, InputError};
+use tui_json::Fields;
 
 /// A field of the input in JSON.
 #[derive(Clone, Copy, Debug, PartialEq, Eq)]
@@ -35,28 +35,18 @@ impl PagerField {
 
 impl Fields for PagerField {
     ghost use Rattle.tui_pager_run.specs.Refusals.{bad_input, field_name};
-    ghost use Rattle.tui_json.specs.Refusals.{refused};
-    ghost use Rattle.tui_pager_run.specs.declared.bad_input.BadInput.{BadInput};
 
-    type Error = InputError<BadInput>;
-
-    ghost Refusal = { BadInput };
+    type Refusal = BadInput;
 
     ghost key = { field_name };
 
     ghost refusal = { bad_input };
 
-    ghost refused = { refused };
-
     fn key(&self) -> &'static str {
         self.name()
     }
 
-    fn error(self, at: Option<usize>) -> InputError<BadInput> {
-        InputError::Refused(BadInput { at, field: self })
-    }
-
-    fn no_memory() -> InputError<BadInput> {
-        InputError::NoMemory
+    fn refusal(self, at: Option<usize>) -> BadInput {
+        BadInput { at, field: self }
     }
 }

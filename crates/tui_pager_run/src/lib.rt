@@ -10,7 +10,6 @@ mod laws;
 mod printing;
 mod program;
 mod run;
-mod size;
 mod step;
 
 pub use bad_input::BadInput;

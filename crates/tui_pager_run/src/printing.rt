@@ -2,22 +2,24 @@
 
 ghost use Rattle.std.specs.Prelude.{◌≡◌, ◌<◌, ◌++◌, ℕ, List, [], true};
 ghost use Rattle.tui_pager_run.specs.Printed.{key_line, key_lines};
-ghost use Rattle.tui_port.specs.Causes.{Writes};
-ghost use Rattle.tui_port.specs.Gathers.{Gathers};
-ghost use Rattle.tui_port.specs.Print.{IsPrint};
-ghost use Rattle.tui_pager_lib.specs.Screen.{IsDrawn, page_area, pager_layers};
+ghost use Rattle.tui_outside.specs.Causes.{Writes};
+ghost use Rattle.tui_outside.specs.Gathers.{Gathers};
+ghost use Rattle.tui_print.specs.Print.{IsPrint};
+ghost use Rattle.tui_pager_lib.specs.Screen.{IsBlankUnder, page_area, pager_layers};
 ghost use Rattle.tui_cells.specs.Buffer.{Screen};
 
 use crate::run::Run;
 use tui_cells::Buffer;
+use tui_outside::{Print, Sink, WriteFault};
 use tui_pager_lib::PagerState;
-use tui_port::{Print, Sink, WriteFault};
+use tui_print::put_runs;
+use tui_rows::put_rows;
 
 /// Writes the line of each state, and the print of the last screen. `WriteFault`: the sink has taken the first bytes, but not all
 /// of them. Takes no memory.
 pub(crate) fn put_run<K: Sink>(run: &Run<'_>, sink: &mut K) -> Result<(), WriteFault>
     ensures { (screen : Screen) × (text : List ℕ)
-        × IsDrawn (pager_layers run.now.pager) (page_area run.now.pager.width run.now.pager.height) screen
+        × IsBlankUnder (pager_layers run.now.pager) (page_area run.now.pager.width run.now.pager.height) screen
         × IsPrint screen [] text
         × Writes (K.told sink.old) (K.told sink.new) result (key_lines 0 run.now.states.items ++ text) }
 {
@@ -56,6 +58,6 @@ fn add_screen<K: Sink>(print: &mut Print, sink: &mut K, screen: &Buffer)
     ensures { (text : List ℕ) × IsPrint screen.now [] text
         × Gathers (K.told sink.old) (K.told sink.new) print.old print.new text }
 {
-    print.rows(sink, screen);
-    print.runs(sink, screen);
+    put_rows(print, screen, sink);
+    put_runs(print, screen, sink);
 }

@@ -1,6 +1,6 @@
 //! A whole run, from the words and the bytes that are read to the bytes that are written.
 
-ghost use Rattle.tui_program.specs.Call.{call_of};
+ghost use Rattle.tui_program.specs.Transcript.{transcript_of};
 ghost use Rattle.tui_program.specs.Runs.{IsRun, IsRunFrom};
 ghost use Rattle.tui_pager_run.specs.Ended.{ending_of};
 ghost use Rattle.tui_pager_run.specs.Rules.{pager_rules};
@@ -10,7 +10,7 @@ use crate::ended::PagerEnded;
 use std::alloc::Global;
 use std::env::Args;
 use std::io;
-use tui_port::{Sink, Source};
+use tui_outside::{Sink, Source};
 use tui_program::{Leftovers, run};
 
 /// Reads entries and keys in JSON (docs/PROGRAMS.md) from the source, makes the step of each key in order, and writes the states and
@@ -27,7 +27,7 @@ pub fn run_pager<S: Source, K: Sink>(
     sink: &mut K,
 ) -> PagerEnded
     ensures { IsRun pager_rules words.now
-        (call_of (S.told source.old) (S.told source.new) (K.told sink.old) (K.told sink.new)) (ending_of result) }
+        (transcript_of (S.told source.old) (S.told source.new) (K.told sink.old) (K.told sink.new)) (ending_of result) }
 {
     run::<PagerCommand, S, K>(alloc, words, source, sink, Leftovers::Dropped).into()
 }
@@ -41,7 +41,7 @@ pub fn run_program<S: Source, K: Sink>(
     sink: &mut K,
 ) -> PagerEnded
     ensures { IsRunFrom pager_rules args
-        (call_of (S.told source.old) (S.told source.new) (K.told sink.old) (K.told sink.new)) (ending_of result) }
+        (transcript_of (S.told source.old) (S.told source.new) (K.told sink.old) (K.told sink.new)) (ending_of result) }
 {
     tui_program::run_program::<PagerCommand, S, K>(alloc, args, source, sink).into()
 }

@@ -3,15 +3,13 @@
 ghost use Rattle.std.specs.Prelude.{◌≡◌, IfOk, OnOk, map};
 ghost use Rattle.tui_pager_run.specs.Input.{called, input_data};
 ghost use Rattle.tui_pager_run.specs.States.{first_of, last_of, states_of};
-ghost use Rattle.tui_pager_lib.specs.Entry.{entry_data};
-ghost use Rattle.tui_pager_lib.specs.Laws.{after_call, after_calls, pager_of, resize};
+ghost use Rattle.tui_pager_lib.specs.Laws.{after_call, after_calls};
 
 use crate::input::Input;
-use crate::size::Size;
 use crate::step::Step;
 use std::alloc::Global;
-use tui_cells::{Mem, NoMemory};
-use tui_pager_lib::{Entry, Pager, PagerError, PagerState};
+use tui_cells::Mem;
+use tui_pager_lib::{Pager, PagerState};
 
 /// A pager behind all keys, and its states: the one at the start, and the one behind each key.
 #[derive(Drop)]
@@ -30,20 +28,9 @@ pub(crate) fn press_keys<'v>(alloc: Global, input: Input<'v>) -> Mem<Run<'v>>
         entries,
         steps,
     } = input;
-    let mut pager = started(alloc, size, entries)?;
+    let mut pager = Pager::with_size(alloc, size, entries)?;
     let states = step_through(alloc, &mut pager, &steps)?;
     Ok(Run { pager, states })
-}
-
-/// A pager at its start.
-fn started<'v>(alloc: Global, size: Size, entries: Vec<Entry<'v>>) -> Mem<Pager<'v>>
-    ensures { IfOk result (λ pager. pager ≡ pager_of (map entry_data entries.entry.items) size.width size.height) }
-{
-    match Pager::new(alloc, size.width, size.height, entries) {
-        Ok(pager) => Ok(pager),
-        Err(PagerError::NoMemory) => Err(NoMemory),
-        Err(PagerError::TooSmall) => unreachable!(),
-    }
 }
 
 /// Makes the steps in order, and answers the state at the start and behind each of them.
@@ -65,16 +52,6 @@ fn make(pager: &mut Pager<'_>, step: &Step) -> Mem<()>
 {
     match step {
         Step::Press(key) => pager.key(*key),
-        Step::Resize(size) => resize(pager, size),
-    }
-}
-
-fn resize(pager: &mut Pager<'_>, size: &Size) -> Mem<()>
-    ensures { OnOk result (pager.new ≡ after_call pager.old (resize size.now.width size.now.height)) }
-{
-    match pager.resize(size.width, size.height) {
-        Ok(()) => Ok(()),
-        Err(PagerError::NoMemory) => Err(NoMemory),
-        Err(PagerError::TooSmall) => unreachable!(),
+        Step::Resize(size) => pager.take_size(*size),
     }
 }

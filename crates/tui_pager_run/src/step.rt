@@ -4,17 +4,16 @@ ghost use Rattle.tui_pager_run.specs.Keys.{keys};
 
 use crate::bad_input::BadInput;
 use crate::field::PagerField;
-use crate::size::Size;
 use serde_json::Value;
 use std::alloc::Global;
-use tui_json::{Fields, InputError, Kind, KindError, Named, Numbered, Within, by_name};
-use tui_pager_lib::Key;
+use tui_json::{InputError, Kind, KindError, Named, Numbered, Within, by_name, error_at};
+use tui_pager_lib::{Key, PagerSize};
 
 /// One of the keys of an input: a key by its name, or another size of the screen.
 #[derive(Clone, Copy)]
 pub(crate) enum Step {
     Press(Key),
-    Resize(Size),
+    Resize(PagerSize),
 }
 
 impl Named<PagerField> for Key {
@@ -25,7 +24,7 @@ impl Named<PagerField> for Key {
     ghost reads = { reads_named keys };
 }
 
-impl<'v> Kind<'v, PagerField> for Size {
+impl<'v> Kind<'v, PagerField> for PagerSize {
     ghost use Rattle.std.specs.Prelude.{ℕ};
     ghost use Rattle.tui_pager_run.specs.Input.{size_of};
 
@@ -35,11 +34,11 @@ impl<'v> Kind<'v, PagerField> for Size {
 
     ghost kind = { size_of };
 
-    fn read(alloc: Global, value: &'v Value) -> Result<Size, KindError> {
+    fn read(alloc: Global, value: &'v Value) -> Result<PagerSize, KindError> {
         let sides = <(Within<12, 200>, Within<5, 100>) as Kind<'v, PagerField>>::read(
             alloc, value,
         )?;
-        Ok(Size {
+        Ok(PagerSize {
             width: sides.0.0,
             height: sides.1.0,
         })
@@ -59,38 +58,32 @@ impl<'v> Kind<'v, PagerField> for Step {
     fn read(alloc: Global, value: &'v Value) -> Result<Step, KindError> {
         match by_name::<Key, PagerField>(value) {
             Some(key) => Ok(Step::Press(key)),
-            None => Ok(Step::Resize(<Size as Kind<'v, PagerField>>::read(alloc, value)?)),
+            None => Ok(Step::Resize(<PagerSize as Kind<'v, PagerField>>::read(alloc, value)?)),
         }
     }
 }
 
-impl<'v> Numbered<'v> for Step {
+impl<'v> Numbered<'v, PagerField> for Step {
     ghost use Rattle.tui_pager_run.specs.Input.{called, key_of};
-    ghost use Rattle.tui_json.specs.Refusals.{refused};
-    ghost use Rattle.tui_pager_run.specs.declared.bad_input.BadInput.{BadInput};
     ghost use Rattle.tui_pager_lib.specs.Laws.{Call};
 
-    type Error = InputError<BadInput>;
-
-    ghost Refusal = { BadInput };
-
-    ghost refused = { refused };
+    type Known = ();
 
     ghost Seen = { Call };
 
     ghost seen = { called };
 
-    ghost tests = { key_of };
+    ghost tests = { λ known. key_of };
 
-    fn read(alloc: Global, number: usize, value: &'v Value) -> Result<Step, InputError<BadInput>> {
+    fn read(
+        alloc: Global,
+        _known: (),
+        number: usize,
+        value: &'v Value,
+    ) -> Result<Step, InputError<BadInput>> {
         match <Step as Kind<'v, PagerField>>::read(alloc, value) {
             Ok(step) => Ok(step),
-            Err(KindError::WrongKind) => Err(PagerField::Keys.error(Some(number))),
-            Err(KindError::NoMemory) => Err(InputError::NoMemory),
+            Err(why) => Err(error_at(PagerField::Keys, Some(number), why)),
         }
-    }
-
-    fn no_memory() -> InputError<BadInput> {
-        InputError::NoMemory
     }
 }

@@ -8,7 +8,7 @@ use Rattle.tui_cells.specs.declared.rect.Rect.{Rect}
 use Rattle.tui_cells.proofs.Painting.{Painted-then}
 use Rattle.tui_layout.specs.declared.segment.Segment.{Segment}
 use Rattle.tui_pages_lib.specs.Report.{ColumnData, ReportData, places_of}
-use Rattle.tui_pages_lib.specs.Strokes.{body_layers, drawn_in, head_layers, names_layers, number_paragraph, page_area, page_layers, pieces_layers, plain}
+use Rattle.tui_pages_lib.specs.Strokes.{body_layers, drawn_in, head_layers, names_layers, number_of, page_area, page_layers, pieces_layers, plain, right_layers}
 use Rattle.tui_pages_lib.specs.declared.piece.Piece.{Piece}
 
 -- a page that is read
@@ -39,7 +39,7 @@ pub body_drawn : {T E : Type 0} (result : Result T E) (r : ReportData) (places :
     (page last : Rect) (pieces : List Piece) (a b c : Screen) → page ≡ page_area r → places ≡ places_of r.width r.columns → records ≡ r.records →
     last ≡ rows_from page (r.height - 1) 1 → at < length r.pages → slice_get r.pages at ≡ Some pieces → count ≡ length r.pages →
     Painted (pieces_layers a.area page places records 2 pieces) a b →
-    OnOk result (Painted (drawn_in b.area last (number_paragraph at count)) b c) → OnOk result (Painted (body_layers r at a.area) a c)
+    OnOk result (Painted (right_layers b.area last (number_of at count)) b c) → OnOk result (Painted (body_layers r at a.area) a c)
 unfolding body_layers
 body_drawn (Err x) r places records at count page last pieces a b c pg pl rs l h get n ps number = tt
 body_drawn (Ok x) r places records at count page last pieces a b c pg pl rs l h get n ps number =
@@ -49,10 +49,10 @@ body_drawn (Ok x) r places records at count page last pieces a b c pg pl rs l h 
     (subst (λ (R : Rect). Painted (pieces_layers a.area R there r.records 2 pieces) a b) pg
     (subst (λ ks. Painted (pieces_layers a.area page ks r.records 2 pieces) a b) pl
     (subst (λ ks. Painted (pieces_layers a.area page places ks 2 pieces) a b) rs ps))) in
-    let u : Painted (drawn_in a.area (rows_from (page_area r) (r.height - 1) 1) (number_paragraph at (length r.pages))) b c =
-    subst (λ k. Painted (drawn_in a.area (rows_from (page_area r) (r.height - 1) 1) (number_paragraph at k)) b c) n
-    (subst (λ (R : Rect). Painted (drawn_in a.area R (number_paragraph at count)) b c) (l ∙ ap (λ g. rows_from g (r.height - 1) 1) pg)
-    (subst (λ (R : Rect). Painted (drawn_in R last (number_paragraph at count)) b c) ps.area number)) in
+    let u : Painted (right_layers a.area (rows_from (page_area r) (r.height - 1) 1) (number_of at (length r.pages))) b c =
+    subst (λ k. Painted (right_layers a.area (rows_from (page_area r) (r.height - 1) 1) (number_of at k)) b c) n
+    (subst (λ (R : Rect). Painted (right_layers a.area R (number_of at count)) b c) (l ∙ ap (λ g. rows_from g (r.height - 1) 1) pg)
+    (subst (λ (R : Rect). Painted (right_layers R last (number_of at count)) b c) ps.area number)) in
     Painted-then t u
 
 pub page_drawn : {T E : Type 0} (result : Result T E) (r : ReportData) (at : ℕ) (a b c : Screen) → Painted (head_layers r a.area) a b →

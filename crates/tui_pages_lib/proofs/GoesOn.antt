@@ -4,7 +4,7 @@ use Rattle.std.specs.Str.{IsCharBoundary, IsUtf8}
 use Rattle.std.proofs.Math.Seq.{drop-append_seam}
 use Rattle.std.proofs.lemmas.List.{append_assoc, length-append, take-append-drop}
 use Rattle.std.proofs.lemmas.Str.{IsCharBoundary-from_drop, IsCharBoundary-start}
-use Rattle.tui_pages_lib.specs.Starts.{GoesOn, cell_lines}
+use Rattle.tui_pages_lib.specs.Starts.{GoesOnFrom, cell_lines}
 
 drop_none : {A : Type 0} (n : ℕ) → drop {A = A} n [] ≡ []
 drop_none zero = refl
@@ -19,9 +19,9 @@ drop_twice (suc n) m (x ∷ xs) = let e : suc n + m ≡ suc (n + m) = omega arit
 pub no_byte : (cell : List ℕ) (far : ℕ) → length cell < far → (IsCharBoundary cell far → ⊥)
 no_byte cell far h b = absurd (omega (arith, b.0))
 
--- a cell without further lines has none so many lines further
+-- a cell without further lines has none further on
 pub nowhere_more : (width line more start far : ℕ) (cell : List ℕ) → (IsCharBoundary cell start → ⊥) → (IsCharBoundary cell far → ⊥) →
-    GoesOn width line cell start → GoesOn width (line + more) cell far
+    GoesOnFrom width line cell start → GoesOnFrom width (line + more) cell far
 nowhere_more width line more start far cell none away g = record {
   lines = λ b. absurd (away b);
   none = λ _. drop_twice line more (cell_lines width cell) ∙ (ap (drop more) (g.none none) ∙ drop_none more);
@@ -29,7 +29,7 @@ nowhere_more width line more start far cell none away g = record {
 
 -- nor one whose rest has no further lines
 pub none_more : (width line more start far : ℕ) (cell rest : List ℕ) → IsCharBoundary cell start → rest ≡ drop start cell →
-    (IsCharBoundary cell far → ⊥) → drop more (cell_lines width rest) ≡ [] → GoesOn width line cell start → GoesOn width (line + more) cell far
+    (IsCharBoundary cell far → ⊥) → drop more (cell_lines width rest) ≡ [] → GoesOnFrom width line cell start → GoesOnFrom width (line + more) cell far
 none_more width line more start far cell rest some is away ends g = record {
   lines = λ b. absurd (away b);
   none = λ _. drop_twice line more (cell_lines width cell) ∙ (ap (drop more) (sym (g.lines some)) ∙ (ap (λ t. drop more (cell_lines width t)) (sym is) ∙ ends));
@@ -52,7 +52,7 @@ left_whole cell rest left front start is whole =
 
 pub moved_more : (width line more start further : ℕ) (cell rest left : List ℕ) → IsCharBoundary cell start → rest ≡ drop start cell →
     drop further cell ≡ left → IsCharBoundary cell further → cell_lines width left ≡ drop more (cell_lines width rest) →
-    GoesOn width line cell start → GoesOn width (line + more) cell further
+    GoesOnFrom width line cell start → GoesOnFrom width (line + more) cell further
 moved_more width line more start further cell rest left some is there begins lines g =
     record {
       lines = λ _. ap (cell_lines width) there ∙ (lines ∙ (ap (λ t. drop more (cell_lines width t)) is ∙ (ap (drop more) (g.lines some)
@@ -61,7 +61,7 @@ moved_more width line more start further cell rest left some is there begins lin
     }
 
 -- at its beginning a cell goes on with its first line
-pub begins : (width : ℕ) (cell : List ℕ) → IsUtf8 cell → GoesOn width 0 cell 0
+pub begins : (width : ℕ) (cell : List ℕ) → IsUtf8 cell → GoesOnFrom width 0 cell 0
 begins width cell u = record {
   lines = λ _. refl;
   none = λ away. absurd (away (IsCharBoundary-start cell u));
@@ -69,7 +69,7 @@ begins width cell u = record {
 
 -- and so it does where nothing else is known
 pub goes_on_from : (width line start : ℕ) (cell : List ℕ) → IsUtf8 cell → 0 < width →
-    (line ≡ 0) × (start ≡ 0) ⊎ (0 < width → GoesOn width line cell start) → GoesOn width line cell start
+    (line ≡ 0) × (start ≡ 0) ⊎ (0 < width → GoesOnFrom width line cell start) → GoesOnFrom width line cell start
 goes_on_from width line start cell u wide (inl (l, s)) =
-    subst (λ t. GoesOn width t cell start) (sym l) (subst (λ t. GoesOn width 0 cell t) (sym s) (begins width cell u))
+    subst (λ t. GoesOnFrom width t cell start) (sym l) (subst (λ t. GoesOnFrom width 0 cell t) (sym s) (begins width cell u))
 goes_on_from width line start cell u wide (inr g) = g wide

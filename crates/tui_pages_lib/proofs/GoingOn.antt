@@ -1,8 +1,8 @@
 -- The pieces that go on with a record, and which of them one is.
-use Rattle.std.proofs.Common.{Option, ◌≡◌, ℕ, zero, suc, ◌+◌, ◌-◌, ◌<◌, ◌≤◌, List, [], ◌∷◌, ◌++◌, length, get_or, take, drop, Some, refl, sym, ap, ◌∙◌, subst, arith, inl, inr}
+use Rattle.std.proofs.Common.{Option, ◌≡◌, ℕ, zero, suc, ◌+◌, ◌-◌, ◌<◌, List, [], ◌∷◌, ◌++◌, length, get_or, take, drop, Some, refl, sym, ap, ◌∙◌, subst, arith, inl, inr}
 use Rattle.std.specs.Prelude.{slice_get, slice_index_or}
 use Rattle.std.proofs.lemmas.Bool.{cases_lt, cond-true, cond-false}
-use Rattle.std.proofs.lemmas.List.{drop_more, length-append, take-append-drop, take_all, take_more}
+use Rattle.std.proofs.lemmas.List.{drop_more, length-append, take-append-drop, take_more}
 use Rattle.std.proofs.lemmas.List.Elements.{filter-append, recursion_from_All}
 use Rattle.std.proofs.lemmas.Option.{slice_get_within}
 use Rattle.tui_layout.specs.declared.segment.Segment.{Segment}
@@ -59,9 +59,6 @@ module _ (ps : List Piece) (at : ℕ) (d : Piece) (h : at < length ps) where
 
   pub no_more : p.from ≡ 0 → length (going_on (take (at + 1) ps)) ≡ length before
   no_more off = omega (arith, ap length (step ∙ ap (λ qs. before ++ qs) (going_tail p [] off)), length-append before [])
-
-pub all_going : (ps : List Piece) (at : ℕ) → length ps ≤ at → length (going_on (take at ps)) ≡ length (going_on ps)
-all_going ps at h = ap (λ qs. length (going_on qs)) (take_all at ps h)
 
 -- Of the pieces before one that goes on, the first one of each record up to its own does not. `first` is 1 where the first of these pieces
 -- begins its record, and else 0.

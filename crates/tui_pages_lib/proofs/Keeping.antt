@@ -224,7 +224,7 @@ all_pieces-parts start [] pieces e = sym (drop_past start pieces (omega (arith, 
 all_pieces-parts start (stop ∷ ends) pieces e =
     ap (λ ps. slice_range pieces start stop ++ ps) (all_pieces-parts stop ends pieces e.1) ∙ sym (drop_split pieces start stop e.0)
 
--- so many pieces stand before a page
+-- the pieces before a page are those of the pages before it
 before_at : (start last : ℕ) (ends : List ℕ) (pieces : List Piece) (at : ℕ) → EndAt start ends last → last ≤ length pieces → at < length ends
     → get_or (start ∷ ends) at 0 ≡ start + pieces_before (parts_of start ends pieces) at
 before_at start last [] pieces at e h n = absurd (omega arith)

@@ -10,7 +10,7 @@ use Rattle.std.proofs.lemmas.Nat.{div-mul-add, mod-mul-add}
 use Rattle.std.proofs.lemmas.Option.{get_or_from_slice_get, slice_get_within}
 use Rattle.tui_layout.specs.declared.segment.Segment.{Segment}
 use Rattle.tui_pages_lib.specs.Report.{cells_of}
-use Rattle.tui_pages_lib.specs.Starts.{ArePartFrom, GoesOn, HaveRows, HaveStarts, IsBegun, IsLast, RowStarts, StartsAt, cell_at, going_on}
+use Rattle.tui_pages_lib.specs.Starts.{ArePartFrom, GoesOnFrom, HaveRows, HaveStarts, IsBegun, IsLast, RowStarts, StartsAt, cell_at, going_on}
 use Rattle.tui_pages_lib.specs.declared.piece.Piece.{Piece}
 use Rattle.tui_pages_lib.specs.declared.records.Record.{Record}
 
@@ -38,33 +38,33 @@ module _ (places : List Segment) (records : List (List (List ℕ))) (pieces : Li
 
   -- a place that is known of the piece before, or a beginning
   begun : (piece : Piece) (before : Option Piece) (cell : List ℕ) (width start line : ℕ) → 0 < n → HaveStarts places records pieces known →
-      IsLast pieces (k / n) before → cell_at records piece.place (k % n) ≡ Some cell → GoesOn width 0 cell 0 → (place : Segment) →
+      IsLast pieces (k / n) before → cell_at records piece.place (k % n) ≡ Some cell → GoesOnFrom width 0 cell 0 → (place : Segment) →
       slice_get places (k % n) ≡ Some place → place.width ≡ width → 0 < width → IsBegun before n known piece.place start line →
-      GoesOn width line cell start
+      GoesOnFrom width line cell start
   begun piece before cell width start line some have last there zero_at place column same wide (inl (s, l)) =
-      subst (λ t. GoesOn width t cell start) (sym l) (subst (λ t. GoesOn width 0 cell t) (sym s) zero_at)
+      subst (λ t. GoesOnFrom width t cell start) (sym l) (subst (λ t. GoesOnFrom width 0 cell t) (sym s) zero_at)
   begun piece before cell width start line some have last there zero_at place column same wide (inr (h, b, is, record_is, line_is, start_is)) =
       let at = div_before k n some h in
       let i = mod_before k n h in
       let found = have (k - n) b (omega arith) (ap (slice_get (going_on pieces)) at ∙ last b is) place cell (ap (slice_get places) i ∙ column)
       (ap (cell_at records b.place) i ∙ (ap (λ t. cell_at records t (k % n)) record_is ∙ there)) (subst (λ t. 0 < t) (sym same) wide) in
-      subst (λ t. GoesOn width line cell t) start_is (subst (λ t. GoesOn width t cell (slice_index known (k - n))) line_is
-      (subst (λ t. GoesOn t b.from cell (slice_index known (k - n))) same found))
+      subst (λ t. GoesOnFrom width line cell t) start_is (subst (λ t. GoesOnFrom width t cell (slice_index known (k - n))) line_is
+      (subst (λ t. GoesOnFrom t b.from cell (slice_index known (k - n))) same found))
 
   pub next_starts : (piece : Piece) (before : Option Piece) (cell : List ℕ) (d : Segment) (start line result : ℕ) → 0 < n →
       HaveStarts places records pieces known → IsLast pieces (k / n) before → cell_at records piece.place (k % n) ≡ Some cell →
-      GoesOn (get_or places (k % n) d).width 0 cell 0 → line ≤ piece.from → IsBegun before n known piece.place start line →
-      ((from : ℕ) → GoesOn (get_or places (k % n) d).width from cell start → GoesOn (get_or places (k % n) d).width (from + (piece.from - line)) cell result) →
+      GoesOnFrom (get_or places (k % n) d).width 0 cell 0 → line ≤ piece.from → IsBegun before n known piece.place start line →
+      ((from : ℕ) → GoesOnFrom (get_or places (k % n) d).width from cell start → GoesOnFrom (get_or places (k % n) d).width (from + (piece.from - line)) cell result) →
       StartsAt places records piece (k % n) result
   next_starts piece before cell d start line result some have last there zero_at less from moved place c column there_c wide =
       let width = (get_or places (k % n) d).width in
       let same : width ≡ place.width = ap (λ (s : Segment). s.width) (get_or_from_slice_get places (k % n) place d column) in
       let cells : cell ≡ c = some_is cell c (cell_at records piece.place (k % n)) there there_c in
-      let found : GoesOn width (line + (piece.from - line)) cell result =
+      let found : GoesOnFrom width (line + (piece.from - line)) cell result =
       moved line (begun piece before cell width start line some have last there zero_at place column (sym same) (subst (λ t. 0 < t) (sym same) wide) from) in
       let all : line + (piece.from - line) ≡ piece.from = omega arith in
-      subst (λ t. GoesOn t piece.from c result) same (subst (λ t. GoesOn width piece.from t result) cells
-      (subst (λ t. GoesOn width t cell result) all found))
+      subst (λ t. GoesOnFrom t piece.from c result) same (subst (λ t. GoesOnFrom width piece.from t result) cells
+      (subst (λ t. GoesOnFrom width t cell result) all found))
 
   -- a column without a width has no cells
   pub no_width : (piece : Piece) (d : Segment) (result : ℕ) → (get_or places (k % n) d).width ≡ 0 → StartsAt places records piece (k % n) result
@@ -94,7 +94,7 @@ have_more places records pieces piece known more next have there here e k p h is
     get_or-at : List ℕ → ℕ → ℕ
     get_or-at xs j = get_or xs j 0
 
--- so many rows are known, and some cells of the next one
+-- `count` rows are known, and some cells of the next one
 abbrev pub HaveCells : List Segment → List (List (List ℕ)) → List Piece → ℕ → ℕ → List ℕ → Type 0
 HaveCells places records pieces count i starts =
     HaveStarts places records pieces starts × (length starts ≡ count * length places + i)
@@ -145,7 +145,7 @@ page_row places records pieces starts row count p have here known i place cell s
     let column_is : (count * n + i) % n ≡ i = mod-mul-add count n i column in
     let found = have (count * n + i) p k.0 (ap (slice_get (going_on pieces)) at_is ∙ here) place cell (ap (slice_get places) column_is ∙ ep)
     (ap (cell_at records p.place) column_is ∙ cell_there records p.place i cell ec) wide in
-    subst (λ t. GoesOn place.width p.from cell t) (sym k.1 ∙ get_or_from_slice_get row i start 0 es) found
+    subst (λ t. GoesOnFrom place.width p.from cell t) (sym k.1 ∙ get_or_from_slice_get row i start 0 es) found
 
 -- the same of what was read of them
 pub page_row_read : (places given : List Segment) (records rs : List Record) (pieces : List Piece) (starts read row : List ℕ) (count columns : ℕ) (p : Piece) →

@@ -12,7 +12,7 @@ use Rattle.tui_pages_lib.specs.declared.piece.Piece.{Piece}
 use Rattle.tui_pages_lib.specs.declared.records.Record.{Record}
 use Rattle.tui_pages_lib.proofs.Measured.{IsLow, all_low, first_of, heights_some, not_cut}
 use Rattle.tui_pages_lib.proofs.OnePages.{pages_are_one, pages_are_fewest}
-use Rattle.tui_text.specs.Width.{saturated}
+use Rattle.tui_clusters.specs.Width.{saturated}
 
 -- the heights, as the code has them
 abbrev Counted : ℕ → List ColumnData → List (List (List ℕ)) → List ℕ → Type 0

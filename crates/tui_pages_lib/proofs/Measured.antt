@@ -14,10 +14,10 @@ use Rattle.tui_para.specs.Lines.{GlyphLine}
 use Rattle.tui_para.specs.Paragraph.{ParagraphData, block_rows}
 use Rattle.tui_para.specs.Wrapped.{IsTheOne}
 use Rattle.tui_para.specs.WrappedText.{WrappedText, wrap_text}
-use Rattle.tui_pages_lib.specs.Heights.{IsFirstTooTall, heights_of, line_count, most_lines, record_height}
+use Rattle.tui_pages_lib.specs.Heights.{IsFirstTooTall, heights_of, cell_height, most_lines, record_height}
 use Rattle.tui_pages_lib.specs.Strokes.{cell_from}
 use Rattle.tui_text.specs.Text.{raw_text}
-use Rattle.tui_text.specs.Width.{saturated}
+use Rattle.tui_clusters.specs.Width.{saturated}
 use Rattle.tui_text.specs.declared.alignment.Alignment.TheVariants.{Left}
 
 zero_test : (w : ℕ) → w ≡ 0 → (w == 0) ≡ true
@@ -34,7 +34,7 @@ CountsWrapped w count p =
 
 pub counted : {E : Type 0} (w : ℕ) (count : Result ℕ E) (p : ParagraphData) (cell : List ℕ) → p ≡ cell_from 0 cell →
     (0 < w → IsTheOne (WrappedText w (at_blanks true) Left (raw_text cell)) (wrap_text w (at_blanks true) Left (raw_text cell))) →
-    (w ≡ 0 → count ≡ Ok 0) → (0 < w → CountsWrapped w count p) → IfOk count (λ n. n ≡ saturated (line_count w cell))
+    (w ≡ 0 → count ≡ Ok 0) → (0 < w → CountsWrapped w count p) → IfOk count (λ n. n ≡ saturated (cell_height w cell))
 counted w count p cell is once none wrapped =
     let lines = wrap_text w (at_blanks true) Left (raw_text cell) in
     elim (cases_lt 0 w) [
@@ -55,15 +55,15 @@ greatest_cut f n (x ∷ xs) =
 
 -- the cells' lines, each number cut
 abbrev pub cut_counts : List Segment → List (List ℕ) → List ℕ
-cut_counts places cells = map (λ (place, cell). saturated (line_count place.width cell)) (zip places cells)
+cut_counts places cells = map (λ (place, cell). saturated (cell_height place.width cell)) (zip places cells)
 
 pub height_begun : (places : List Segment) (cells : List (List ℕ)) → fold max 1 (cut_counts places cells) ≡ saturated (record_height places cells)
-height_begun places cells = greatest_cut (λ (place, cell). line_count place.width cell) 1 (zip places cells)
+height_begun places cells = greatest_cut (λ (place, cell). cell_height place.width cell) 1 (zip places cells)
 
 -- one cell more, and none
 pub height_more : {X : Type 0} (text : X → List ℕ) (places : List Segment) (cells : List X) (i n now next count : ℕ) (p : Segment) (c : X)
     (total : ℕ) → n ≡ min (length places) (length cells) → i < n →
-    count ≡ saturated (line_count (get_or places i p).width (text (get_or cells i c))) → next ≡ max now count →
+    count ≡ saturated (cell_height (get_or places i p).width (text (get_or cells i c))) → next ≡ max now count →
     fold max now (cut_counts (drop i places) (drop i (map text cells))) ≡ total →
     fold max next (cut_counts (drop (i + 1) places) (drop (i + 1) (map text cells))) ≡ total
 height_more text places cells i n now next count p c total end h counts e so_far =
@@ -166,7 +166,7 @@ fold_some n (x ∷ xs) h = fold_some (max n x) xs (omega arith)
 heights_above : (places : List Segment) (records : List (List (List ℕ))) → AllByRecursion (λ height. 0 < height) (heights_of places records)
 heights_above places [] = tt
 heights_above places (cells ∷ records) =
-    (fold_some 1 (map (λ (place, cell). line_count place.width cell) (zip places cells)) (omega arith), heights_above places records)
+    (fold_some 1 (map (λ (place, cell). cell_height place.width cell) (zip places cells)) (omega arith), heights_above places records)
 
 pub heights_some : (places : List Segment) (records : List (List (List ℕ))) → All (λ height. 0 < height) (heights_of places records)
 heights_some places records = All-from_recursion (λ height. 0 < height) (heights_of places records) (heights_above places records)

@@ -13,7 +13,7 @@ use Rattle.tui_para.specs.Rendering.{paragraph_layers}
 use Rattle.tui_para.specs.Strokes.{glyph_lines_layers}
 use Rattle.tui_line_places.proofs.RestLayers.{part_layers, rest_layers}
 use Rattle.tui_line_places.specs.Parts.{HaveSameLines}
-use Rattle.tui_pages_lib.specs.Starts.{GoesOn, cell_lines}
+use Rattle.tui_pages_lib.specs.Starts.{GoesOnFrom, cell_lines}
 use Rattle.tui_pages_lib.specs.Strokes.{cell_from, drawn_in}
 use Rattle.tui_text.specs.Text.{empty_text}
 use Rattle.tui_text.specs.declared.alignment.Alignment.TheVariants.{Left}
@@ -26,7 +26,7 @@ none_layers line cell clip e = ap (λ lines. stroke (covers clip) (dress no_styl
 
 -- a first part of the rest of a cell shows what the cell shows from that line on
 pub rest_drawn : {T E : Type 0} (result : Result T E) (line start : ℕ) (cell rest shown : List ℕ) (clip area : Rect) (a b : Screen) →
-    clip ≡ intersection_of area a.area → GoesOn clip.width line cell start → IsCharBoundary cell start → rest ≡ drop start cell →
+    clip ≡ intersection_of area a.area → GoesOnFrom clip.width line cell start → IsCharBoundary cell start → rest ≡ drop start cell →
     HaveSameLines clip.width true clip.height rest shown →
     OnOk result (Painted (drawn_in a.area area (cell_from 0 shown)) a b) → OnOk result (Painted (drawn_in a.area area (cell_from line cell)) a b)
 unfolding Rattle.tui_pages_lib.specs.Strokes.drawn_in
@@ -39,7 +39,7 @@ rest_drawn result line start cell rest shown clip area a b at g some is same ok 
     (subst (λ (c : Rect). OnOk result (Painted (paragraph_layers (cell_from 0 shown) c) a b)) (sym at) ok))
 
 pub none_drawn : {T E : Type 0} (result : Result T E) (line start : ℕ) (cell : List ℕ) (clip area : Rect) (a b : Screen) →
-    clip ≡ intersection_of area a.area → GoesOn clip.width line cell start → (IsCharBoundary cell start → ⊥) →
+    clip ≡ intersection_of area a.area → GoesOnFrom clip.width line cell start → (IsCharBoundary cell start → ⊥) →
     OnOk result (Painted (drawn_in a.area area (paragraph_of empty_text)) a b) → OnOk result (Painted (drawn_in a.area area (cell_from line cell)) a b)
 unfolding Rattle.tui_pages_lib.specs.Strokes.drawn_in
 none_drawn result line start cell clip area a b at g none ok =

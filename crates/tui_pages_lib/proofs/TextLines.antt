@@ -1,12 +1,12 @@
 -- Text lines with which a text begins have its first lines.
 use Rattle.std.proofs.Common.{◌≡◌, ℕ, suc, ◌+◌, ◌==◌, ◌<◌, ◌≤◌, Bool, true, cond, List, [], ◌∷◌, ◌++◌, length, map, take, refl, sym, ap, ◌∙◌, arith, ⊎_elim}
-use Rattle.std.specs.List.{flat_map, onto_first, slice_split}
+use Rattle.std.specs.List.{flat_map, onto_first}
 use Rattle.std.specs.Str.Lines.{lines, lines_of_parts, strip_carriage_return}
 use Rattle.std.proofs.lemmas.Bool.{cases_Bool, cond-false, cond-true}
 use Rattle.std.proofs.lemmas.Grind.{flat_map-append}
 use Rattle.std.proofs.lemmas.List.{append_assoc, length-append, length-map, map-append, take-append-le}
 use Rattle.tui_cells.specs.declared.style.Style.{Style}
-use Rattle.tui_para.specs.Hyphens.{Wrapped, at_blanks, glyph_rule, with_cuts, wrap}
+use Rattle.tui_para.specs.Hyphens.{Wrapped, at_blanks, glyph_rule, with_splits, wrap}
 use Rattle.tui_para.specs.Lines.{GlyphLine, glyph_line}
 use Rattle.tui_para.specs.Wrapped.{WrapsKept, not_wider}
 use Rattle.tui_para.specs.WrappedText.{text_glyph_line}
@@ -84,14 +84,14 @@ newlines_ended (b ∷ front) =
 
 -- graphemes are wrapped into a line at least
 pub some_line : (w : ℕ) (way : Wrap) (glyphs : List Glyph) (lines : List (List Glyph)) → Wrapped w way glyphs lines → 0 < length lines
-some_line w way glyphs lines (cut, wraps, e) =
-    let n = by_case cut wraps in
-    let size = length-map cut (map (λ p. p.0)) in
+some_line w way glyphs lines (split, wraps, e) =
+    let n = by_case split wraps in
+    let size = length-map split (map (λ p. p.0)) in
     omega (arith, ap length e)
   where
-    by_case : (cut : List (List (Glyph × Bool))) → WrapsKept (glyph_rule w way) (with_cuts way.hyphens [] (not_wider glyph_width w glyphs)) cut → 0 < length cut
+    by_case : (split : List (List (Glyph × Bool))) → WrapsKept (glyph_rule w way) (with_splits way.hyphens [] (not_wider glyph_width w glyphs)) split → 0 < length split
     by_case [] h = ⊎_elim (λ e. absurd (let l = ap length e.1 in omega arith)) (λ h. absurd (h.0 h.1)) h
-    by_case (line ∷ cut) h = omega arith
+    by_case (line ∷ split) h = omega arith
 
 module _ (w : ℕ) (some : (glyphs : List Glyph) → 0 < length (wrap w (at_blanks true) glyphs)) (style : Style) (alignment : Alignment) where
   abbrev cut : GlyphLine → List GlyphLine

@@ -7,12 +7,12 @@ use Rattle.tui_text.specs.Text.{raw_text}
 use Rattle.tui_text.specs.declared.alignment.Alignment.TheVariants.{Left}
 
 -- the lines into which a text is wrapped at a width, without the blanks at which they break; at width 0 it has none
-abbrev pub line_count : ℕ → List ℕ → ℕ
-line_count width text = if width == 0 then 0 else length (wrap_text width (at_blanks true) Left (raw_text text))
+abbrev pub cell_height : ℕ → List ℕ → ℕ
+cell_height width text = if width == 0 then 0 else length (wrap_text width (at_blanks true) Left (raw_text text))
 
 -- the greatest number of lines of the cells in their columns, at least 1; a cell past the columns has none
 abbrev pub record_height : List Segment → List (List ℕ) → ℕ
-record_height places cells = fold max 1 (map (λ (place, cell). line_count place.width cell) (zip places cells))
+record_height places cells = fold max 1 (map (λ (place, cell). cell_height place.width cell) (zip places cells))
 
 -- the heights of all records
 abbrev pub heights_of : List Segment → List (List (List ℕ)) → List ℕ

@@ -1,8 +1,11 @@
 -- Laws of pages.
-use Rattle.std.specs.Prelude.{ℕ, ◌≡◌, ◌<◌, ◌≤◌, List, length, All}
+use Rattle.std.specs.Prelude.{ℕ, ◌≡◌, ◌<◌, ◌≤◌, ◌^◌, true, List, length, All}
+use Rattle.std.specs.List.{list_all}
 use Rattle.tui_pages_lib.specs.Pages.{ArePages, KeepWhole}
 use Rattle.tui_pages_lib.specs.Filling.{pages_of}
+use Rattle.tui_pages_lib.specs.Strokes.{number_of}
 use Rattle.tui_pages_lib.specs.declared.piece.Piece.{Piece}
+use Rattle.tui_clusters.specs.Printable.{is_printable}
 
 -- exactly one list of pages is theirs
 abbrev pub PagesAreOne : Type 0
@@ -17,3 +20,7 @@ PagesAreFewest =
     (heights : List ℕ) (room : ℕ) (pages others : List (List Piece)) → 0 < length heights →
     All (λ height. 0 < height) heights → All (λ height. height ≤ room) heights →
     ArePages heights room pages → KeepWhole heights room others → length pages ≤ length others
+
+-- a page's number has one column a byte, so that it ends at the right edge where it is set to
+abbrev pub NumbersAreColumns : Type 0
+NumbersAreColumns = (at count : ℕ) → at < count → count < 2 ^ 64 → list_all is_printable (number_of at count) ≡ true

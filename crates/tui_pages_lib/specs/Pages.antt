@@ -1,4 +1,4 @@
--- Records of so many lines, cut into pages of `room` lines. A list of heights stands for the records.
+-- Records, each of a number of lines, cut into pages of `room` lines. A list of heights stands for the records.
 use Rattle.std.specs.Prelude.{ℕ, ◌≡◌, ◌+◌, ◌-◌, ◌<◌, ◌≤◌, ⊤, List, [], ◌∷◌, length, map, sum_by, flat_map, drop, slice_index, All}
 use Rattle.std.specs.List.{AllAdjacentBelow, range_with_len}
 use Rattle.tui_pages_lib.specs.declared.piece.Piece.{Piece}

@@ -6,7 +6,7 @@ use Rattle.tui_line_places.specs.Parts.{EndsInNewline}
 abbrev pub newlines : List ℕ → List ℕ
 newlines text = filter (λ b. b == 10) text
 
--- at least so many text lines, the last one ended too
+-- at least `lines` text lines, the last one ended too
 pub record AreTextLines (lines : ℕ) (text : List ℕ) : Type 0 where
   pub ended : EndsInNewline text
   pub many : lines ≤ length (newlines text)

@@ -40,7 +40,7 @@ cell_lines width cell = wrap_text width (at_blanks true) Left (raw_text cell)
 
 -- From this byte on a cell goes on with a line: what stands there is wrapped into the lines that are left. Where no character begins
 -- at the byte, no line is left.
-pub record GoesOn (width line : ℕ) (cell : List ℕ) (start : ℕ) : Type 0 where
+pub record GoesOnFrom (width line : ℕ) (cell : List ℕ) (start : ℕ) : Type 0 where
   pub lines : IsCharBoundary cell start → cell_lines width (drop start cell) ≡ drop line (cell_lines width cell)
   pub none : (IsCharBoundary cell start → ⊥) → drop line (cell_lines width cell) ≡ []
 
@@ -60,7 +60,7 @@ cell_at records place i = option_and_then (λ cells. slice_get cells i) (slice_g
 abbrev pub StartsAt : List Segment → List (List (List ℕ)) → Piece → ℕ → ℕ → Type 0
 StartsAt places records piece i start =
     (place : Segment) (cell : List ℕ) → slice_get places i ≡ Some place → cell_at records piece.place i ≡ Some cell →
-    0 < place.width → GoesOn place.width piece.from cell start
+    0 < place.width → GoesOnFrom place.width piece.from cell start
 
 -- from these bytes on those of the pieces do that go on, piece by piece and column by column
 abbrev pub HaveStarts : List Segment → List (List (List ℕ)) → List Piece → List ℕ → Type 0
@@ -68,12 +68,12 @@ HaveStarts places records pieces starts =
     (k : ℕ) (piece : Piece) → k < length starts → slice_get (going_on pieces) (k / length places) ≡ Some piece →
     StartsAt places records piece (k % length places) (slice_index starts k)
 
--- they are those of the first so many
+-- they are those of the first `count` pieces that go on
 pub record HaveRows (places : List Segment) (records : List (List (List ℕ))) (pieces : List Piece) (count : ℕ) (starts : List ℕ) : Type 0 where
   pub known : HaveStarts places records pieces starts
   pub size : length starts ≡ count * length places
 
--- one, if there is one, is the last of the first so many pieces that go on
+-- one, if there is one, is the last of the first `count` pieces that go on
 abbrev pub IsLast : List Piece → ℕ → Option Piece → Type 0
 IsLast pieces count before = (b : Piece) → before ≡ Some b → slice_get (going_on pieces) (count - 1) ≡ Some b
 
@@ -93,4 +93,4 @@ ArePartFrom from starts row =
 abbrev pub RowStarts : ℕ → List Segment → List (List ℕ) → List ℕ → Type 0
 RowStarts line places cells starts =
     (i : ℕ) (place : Segment) (cell : List ℕ) (start : ℕ) → slice_get places i ≡ Some place → slice_get cells i ≡ Some cell →
-    slice_get starts i ≡ Some start → 0 < place.width → GoesOn place.width line cell start
+    slice_get starts i ≡ Some start → 0 < place.width → GoesOnFrom place.width line cell start

@@ -1,7 +1,8 @@
 -- The strokes of a page.
-use Rattle.std.specs.Prelude.{ℕ, ◌+◌, ◌-◌, ◌<◌, ◌≤◌, List, [], ◌∷◌, ◌++◌, length, true, Some, flat_map, zip, slice_index_or, codes, decimal}
+use Rattle.std.specs.Prelude.{ℕ, ◌+◌, ◌-◌, ◌<◌, ◌≤◌, List, [], ◌∷◌, ◌++◌, length, min, true, Some, flat_map, zip, slice_index_or, codes, decimal}
 use Rattle.tui_cells.specs.Layers.{Layer}
-use Rattle.tui_cells.specs.Rect.{area_of, columns_from, intersection_of, rows_from}
+use Rattle.tui_cells.specs.Rect.{area_of, columns_from, intersection_of, right_of, rows_from}
+use Rattle.tui_cells.specs.Style.{no_style}
 use Rattle.tui_cells.specs.declared.rect.Rect.{Rect}
 use Rattle.tui_layout.specs.declared.segment.Segment.{Segment}
 use Rattle.tui_para.specs.Hyphens.{at_blanks}
@@ -11,8 +12,8 @@ use Rattle.tui_pages_lib.specs.Heights.{most_lines}
 use Rattle.tui_pages_lib.specs.Pages.{size_of}
 use Rattle.tui_pages_lib.specs.Report.{ColumnData, ReportData, places_of}
 use Rattle.tui_pages_lib.specs.declared.piece.Piece.{Piece}
+use Rattle.tui_text.specs.Setting.{set_layers, styled_text}
 use Rattle.tui_text.specs.Text.{raw_text}
-use Rattle.tui_text.specs.declared.alignment.Alignment.TheVariants.{Right}
 
 -- a text, not wrapped
 abbrev pub plain : List ℕ → ParagraphData
@@ -26,17 +27,16 @@ cell_from line cell = record (plain cell) { wrap = Some (at_blanks true); scroll
 abbrev pub number_of : ℕ → ℕ → List ℕ
 number_of at count = decimal (at + 1) ++ (codes "/" ++ decimal count)
 
--- a text at the right
-abbrev pub right_paragraph : List ℕ → ParagraphData
-right_paragraph text = record (plain text) { alignment = Right }
-
--- the number of a page, at the right
-abbrev pub number_paragraph : ℕ → ℕ → ParagraphData
-number_paragraph at count = right_paragraph (number_of at count)
-
 -- a paragraph in an area, as far as a buffer that takes up the other area has it
 unfoldable pub drawn_in : Rect → Rect → ParagraphData → List Layer
 drawn_in buffer area p = paragraph_layers p (intersection_of area buffer)
+
+-- a text of one column a byte in the first row of such an area, so that it ends at the right edge or is cut there
+unfoldable pub right_layers : Rect → Rect → List ℕ → List Layer
+right_layers buffer area text =
+    let clip = intersection_of area buffer in
+    let room = min clip.width (length text) in
+    set_layers clip (record { x = right_of clip - room; y = clip.y }) (styled_text text no_style) room
 
 -- one thing in each column, side by side in the same rows
 unfoldable pub side_by_side : {X : Type 0} → (Rect → X → List Layer) → Rect → List Segment → List X → List Layer
@@ -58,7 +58,7 @@ pieces_layers buffer page places records row (p ∷ ps) =
     cells_layers p.from buffer (rows_from page row (size_of p)) places (slice_index_or records p.place []) ++
     pieces_layers buffer page places records (row + size_of p) ps
 
--- a piece of one of so many records, which has a line, and none past the most that a record has
+-- a piece of one of `count` records, which has a line, and none past the most that a record has
 pub record IsDrawable (count : ℕ) (p : Piece) : Type 0 where
   pub place : p.place < count
   pub some : p.from < p.to
@@ -87,7 +87,7 @@ unfoldable pub body_layers : ReportData → ℕ → Rect → List Layer
 body_layers r at buffer =
     let page = page_area r in
     pieces_layers buffer page (places_of r.width r.columns) r.records 2 (slice_index_or r.pages at []) ++
-    drawn_in buffer (rows_from page (r.height - 1) 1) (number_paragraph at (length r.pages))
+    right_layers buffer (rows_from page (r.height - 1) 1) (number_of at (length r.pages))
 
 -- all of a page
 unfoldable pub page_layers : ReportData → ℕ → Rect → List Layer

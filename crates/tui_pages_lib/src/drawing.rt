@@ -1,13 +1,12 @@
 //! What stands on a page.
 
-ghost use Rattle.std.specs.List.{list_all};
-ghost use Rattle.std.specs.Prelude.{◌≡◌, ◌+◌, ◌-◌, ◌<◌, ◌≤◌, ◌⊎◌, [], All, IfSome, None, OnOk, Some, length, map, slice_get, slice_index_or, true};
+ghost use Rattle.std.specs.Prelude.{◌≡◌, ◌+◌, ◌-◌, ◌<◌, ◌≤◌, ◌⊎◌, [], All, IfSome, None, OnOk, Some, length, map, slice_get, slice_index_or};
 ghost use Rattle.tui_cells.specs.Layers.{KeptOutside, Painted};
 ghost use Rattle.tui_cells.specs.Rect.{covers, intersection_of, rows_from};
 ghost use Rattle.tui_para.specs.Paragraph.{paragraph_data};
 ghost use Rattle.tui_pages_lib.specs.Pages.{lines_on};
 ghost use Rattle.tui_pages_lib.specs.Report.{cells_of, column_data};
-ghost use Rattle.tui_pages_lib.specs.Starts.{GoesOn, RowStarts};
+ghost use Rattle.tui_pages_lib.specs.Starts.{GoesOnFrom, RowStarts};
 ghost use Rattle.tui_pages_lib.specs.declared.piece.Piece.{Piece};
 ghost use Rattle.tui_pages_lib.specs.Strokes.{
   IsDrawable,
@@ -15,12 +14,11 @@ ghost use Rattle.tui_pages_lib.specs.Strokes.{
   cells_layers,
   drawn_in,
   names_layers,
-  number_paragraph,
+  number_of,
   pieces_layers,
   plain,
-  right_paragraph,
+  right_layers,
 };
-ghost use Rattle.tui_text.specs.Part.{is_printable};
 
 use crate::column::Column;
 use crate::measuring::cell_paragraph;
@@ -96,7 +94,7 @@ fn draw_from(
     buf: &mut Buffer,
 ) -> Mem<()>
     requires wide { 0 < clip.width }
-    requires goes_on { GoesOn clip.width line cell.now from.start }
+    requires goes_on { GoesOnFrom clip.width line cell.now from.start }
     requires clip { clip ≡ intersection_of area buf.old.area }
     ensures ok { OnOk result (Painted (drawn_in buf.old.area area (cell_from line cell.now)) buf.old buf.new) }
     ensures kept { KeptOutside (covers area) buf.old buf.new }
@@ -122,7 +120,7 @@ fn draw_rest(
     area: Rect,
     buf: &mut Buffer,
 ) -> Mem<()>
-    requires { IfSome from (λ r. (line ≡ 0) × (r.start ≡ 0) ⊎ (0 < width → GoesOn width line cell.now r.start)) }
+    requires { IfSome from (λ r. (line ≡ 0) × (r.start ≡ 0) ⊎ (0 < width → GoesOnFrom width line cell.now r.start)) }
     ensures ok { OnOk result (Painted (drawn_in buf.old.area area (cell_from line cell.now)) buf.old buf.new) }
     ensures kept { KeptOutside (covers area) buf.old buf.new }
 {
@@ -147,7 +145,7 @@ pub(crate) fn draw_number(
     buf: &mut Buffer,
 ) -> Mem<()>
     requires { at < count }
-    ensures ok { OnOk result (Painted (drawn_in buf.old.area area (number_paragraph at count)) buf.old buf.new) }
+    ensures ok { OnOk result (Painted (right_layers buf.old.area area (number_of at count)) buf.old buf.new) }
     ensures kept { KeptOutside (covers area) buf.old buf.new }
 {
     let mut number = String::with_capacity(alloc, MOST_BYTES)?;
@@ -155,11 +153,9 @@ pub(crate) fn draw_number(
     set_right(number.as_str(), area, buf)
 }
 
-/// Printable characters of one byte at the right of an area's first row, as a paragraph would draw them.
+/// Characters of one byte and one column, so that they end at the right edge of an area's first row or are cut there.
 fn set_right(text: &str, area: Rect, buf: &mut Buffer) -> Mem<()>
-    requires printable { list_all is_printable text.now ≡ true }
-    requires some { 0 < length text.now }
-    ensures ok { OnOk result (Painted (drawn_in buf.old.area area (right_paragraph text.now)) buf.old buf.new) }
+    ensures ok { OnOk result (Painted (right_layers buf.old.area area text.now) buf.old buf.new) }
     ensures kept { KeptOutside (covers area) buf.old buf.new }
 {
     let clip = area.intersection(buf.area());

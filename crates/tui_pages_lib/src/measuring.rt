@@ -2,10 +2,10 @@
 
 ghost use Rattle.std.specs.Prelude.{◌≡◌, ◌≤◌, All, IfOk, MatchOption, map};
 ghost use Rattle.tui_para.specs.Paragraph.{paragraph_data};
-ghost use Rattle.tui_pages_lib.specs.Heights.{IsFirstTooTall, heights_of, line_count, most_lines, record_height};
+ghost use Rattle.tui_pages_lib.specs.Heights.{IsFirstTooTall, heights_of, cell_height, most_lines, record_height};
 ghost use Rattle.tui_pages_lib.specs.Report.{cells_of};
 ghost use Rattle.tui_pages_lib.specs.Strokes.{cell_from};
-ghost use Rattle.tui_text.specs.Width.{saturated};
+ghost use Rattle.tui_clusters.specs.Width.{saturated};
 
 use crate::records::Record;
 use std::alloc::Global;
@@ -33,8 +33,8 @@ pub(crate) fn cell_paragraph<'a>(alloc: Global, cell: &'a str, line: u16) -> Mem
 }
 
 /// How many lines a cell has in a column of this width, cut at the greatest number of 64 bits.
-fn line_count(alloc: Global, width: u16, cell: &str) -> Mem<usize>
-    ensures { IfOk result (λ count. count ≡ saturated (line_count width cell.now)) }
+fn cell_height(alloc: Global, width: u16, cell: &str) -> Mem<usize>
+    ensures { IfOk result (λ count. count ≡ saturated (cell_height width cell.now)) }
 {
     text_wraps_exactly_once();
     let paragraph = cell_paragraph(alloc, cell, 0)?;
@@ -48,7 +48,7 @@ fn record_height(alloc: Global, places: &[Segment], entry: &Record<'_>) -> Mem<u
     let cells = entry.cells.as_slice();
     let mut height = 1usize;
     'cells: for i in 0..places.len().min(cells.len()) {
-        let count = line_count(alloc, places[i].width, cells[i])?;
+        let count = cell_height(alloc, places[i].width, cells[i])?;
         height = height.max(count);
     }
     Ok(height)

@@ -1,17 +1,17 @@
 //! What a page is handed of a cell.
 
-ghost use Rattle.std.specs.Prelude.{◌≡◌, ◌<◌, ◌≤◌, [], ◌∷◌, length, take, true};
-ghost use Rattle.tui_line_places.specs.Parts.{EndsInNewline, HaveSameLines};
+ghost use Rattle.std.specs.Prelude.{◌≡◌, ◌<◌, [], ◌∷◌, length, take, true};
+ghost use Rattle.tui_line_places.specs.Parts.{HaveSameLines};
 ghost use Rattle.tui_pages_lib.specs.Shown.{AreTextLines, newlines};
 
-use tui_line_places::first_part;
+use tui_line_places::{Lines, first_part, is_behind_newline};
 use tui_para::wraps_exactly_once;
 
 /// The byte of a newline.
 const NEWLINE: u8 = 10;
 
-/// A first part of a text that has the same first `lines` lines at a width: what stands before byte `near`, where that is so many text
-/// lines, and else one that ends little behind it.
+/// A first part of a text that has the same first `lines` lines at a width: what stands before byte `near`, where that is
+/// `lines` text lines, and else one that ends little behind it.
 pub(crate) fn shown_part(text: &str, width: u16, lines: usize, near: usize) -> &str
     requires { 0 < width }
     ensures { HaveSameLines width true lines text.now result.now }
@@ -22,20 +22,14 @@ pub(crate) fn shown_part(text: &str, width: u16, lines: usize, near: usize) -> &
             return part;
         }
     }
-    first_part(text, width, true, lines, near)
+    first_part(text, Lines { width, trim: true }, lines, near)
 }
 
-/// Whether at least so many text lines stand before a place, and nothing else.
+/// Whether at least `lines` text lines stand before a place, and nothing else.
 fn are_text_lines(bytes: &[u8], place: usize, lines: usize) -> bool
     ensures { result ≡ true → AreTextLines lines (take place bytes.now) }
 {
     is_behind_newline(bytes, place) && lines <= newlines(&bytes[..place])
-}
-
-fn is_behind_newline(bytes: &[u8], place: usize) -> bool
-    ensures { result ≡ true → (place ≤ length bytes.now) × EndsInNewline (take place bytes.now) }
-{
-    0 < place && place <= bytes.len() && bytes[place - 1] == NEWLINE
 }
 
 fn newlines(bytes: &[u8]) -> usize

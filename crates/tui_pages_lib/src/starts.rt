@@ -25,7 +25,7 @@ ghost use Rattle.std.specs.Str.{IsCharBoundary};
 ghost use Rattle.tui_pages_lib.specs.Report.{cells_of};
 ghost use Rattle.tui_pages_lib.specs.Starts.{
   ArePartFrom,
-  GoesOn,
+  GoesOnFrom,
   HaveRows,
   HaveStarts,
   IsBegun,
@@ -41,7 +41,7 @@ use crate::records::Record;
 use std::alloc::Global;
 use tui_cells::Mem;
 use tui_layout::Segment;
-use tui_line_places::from_line;
+use tui_line_places::{Lines, from_line};
 
 /// No byte of a cell: one without further lines goes on here.
 const NOWHERE: usize = usize::MAX;
@@ -55,14 +55,14 @@ fn place_in(cell: &str, rest: &str) -> usize
     cell.len() - rest.len()
 }
 
-/// Where a cell goes on so many lines further.
+/// Where a cell goes on `lines` lines further.
 fn moved_on(cell: &str, start: usize, width: u16, lines: usize) -> usize
-    ensures further { (line : ℕ) → GoesOn width line cell.now start → GoesOn width (line + lines) cell.now result }
-    ensures begins { GoesOn width 0 cell.now 0 }
+    ensures further { (line : ℕ) → GoesOnFrom width line cell.now start → GoesOnFrom width (line + lines) cell.now result }
+    ensures begins { GoesOnFrom width 0 cell.now 0 }
 {
     match cell.split_at_checked(start) {
         None => NOWHERE,
-        Some((_, rest)) => match from_line(rest, width, true, lines) {
+        Some((_, rest)) => match from_line(rest, Lines { width, trim: true }, lines) {
             None => NOWHERE,
             Some(left) => place_in(cell, left),
         },
@@ -169,7 +169,7 @@ pub(crate) fn starts(
     Ok(starts)
 }
 
-/// How many pieces go on before this one, which so many stand before: all but the first of each record up to its own.
+/// How many pieces go on before this one, which `before` stand before: all but the first of each record up to its own.
 fn row_of(piece: Piece, before: usize) -> usize
     ensures { 0 < piece.from → result ≡ before - (piece.place + 1) }
 {
@@ -204,7 +204,7 @@ fn rows(starts: &[usize], from: usize, to: usize, columns: usize) -> &[usize]
     }
 }
 
-/// Where the cells of a piece go on, which so many stand before, if it goes on with its record, and behind that where those of the next
+/// Where the cells of a piece go on, which `before` stand before, if it goes on with its record, and behind that where those of the next
 /// one do, if that goes on with the same one.
 pub(crate) fn starts_from<'a>(
     starts: &'a [usize],

@@ -2,10 +2,10 @@
 use Rattle.std.proofs.Common.{◌≡◌, ℕ, suc, zero, ◌+◌, ◌-◌, ◌<◌, Bool, true, false, cond, List, [], ◌++◌, length, Result, Ok, Err, inr, append_assoc, arith, refl, sym, ap, ap₂, subst, ◌∙◌}
 use Rattle.std.specs.Prelude.{min}
 use Rattle.std.proofs.lemmas.List.{append-nil}
-use Rattle.tui_port.specs.Causes.{Puts, Told}
-use Rattle.tui_port.specs.Gathers.{Gathered, Gathers}
-use Rattle.tui_port.proofs.Gathering.{Gathers-end, Puts-none}
-use Rattle.tui_port.proofs.Outside.{Puts-then}
+use Rattle.tui_outside.specs.Causes.{Puts, PutsPart, Told}
+use Rattle.tui_outside.specs.Gathers.{Gathered, Gathers}
+use Rattle.tui_outside.proofs.Gathering.{Gathers-end, Puts-none}
+use Rattle.tui_outside.proofs.Outside.{Puts-then}
 use Rattle.tui_cells.specs.Rect.{area_of}
 use Rattle.tui_cells.specs.declared.rect.Rect.{Rect}
 use Rattle.tui_pages_lib.specs.Report.{ReportData}
@@ -29,13 +29,13 @@ more r n (suc m) =
     )
 
 -- a fault in the first pages is a fault in all
-pub fault_in : (r : ReportData) (a b : Told) (k n : ℕ) → k < n → Puts a b true false (first_pages r k) → Puts a b true false (first_pages r n)
+pub fault_in : (r : ReportData) (a b : Told) (k n : ℕ) → k < n → PutsPart a b (first_pages r k) → PutsPart a b (first_pages r n)
 fault_in r a b k n lt fault =
     let e : k + (n - k) ≡ n = omega arith in
     let rest = more r k (n - k) in
     let still : Puts b b false false rest.0 = record { sent = (Puts-none b false).sent; cause = refl } in
     let all : first_pages r n ≡ first_pages r k ++ rest.0 = ap (first_pages r) (sym e) ∙ rest.1 in
-    subst (λ (text : List ℕ). Puts a b true false text) (sym all) (Puts-then fault still)
+    subst (λ (text : List ℕ). PutsPart a b text) (sym all) (Puts-then fault still)
 
 abbrev rect_at : ℕ → ℕ → Rect
 rect_at w h = record { x = 0; y = 0; width = w; height = h }

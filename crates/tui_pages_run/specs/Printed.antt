@@ -6,7 +6,7 @@ use Rattle.tui_cells.specs.Cell.{Look, blank}
 use Rattle.tui_cells.specs.Layers.{Layer, layers_at}
 use Rattle.tui_cells.specs.Rect.{covers}
 use Rattle.tui_cells.specs.declared.rect.Rect.{Rect}
-use Rattle.tui_port.specs.Print.{row_line}
+use Rattle.tui_rows.specs.RowLine.{row_line}
 use Rattle.tui_pages_lib.specs.Report.{ReportData}
 use Rattle.tui_pages_lib.specs.Strokes.{body_area, head_layers, page_area, page_layers}
 

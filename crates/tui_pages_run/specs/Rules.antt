@@ -3,7 +3,7 @@ use Rattle.std.specs.Prelude.{◌≡◌, ℕ, List, [], ◌∷◌, codes, String
 use Rattle.std.specs.declared.alloc.Global.{Global}
 use Rattle.tui_pages_lib.specs.Report.{ReportData}
 use Rattle.tui_program.specs.Endings.{nothing}
-use Rattle.tui_program.specs.Rules.{Reading, Rules, reading_rules}
+use Rattle.tui_program.specs.Rules.{JobRules, Rules, reading_rules}
 use Rattle.tui_program.specs.Words.{AreTexts}
 use Rattle.tui_pages_run.specs.Input.{report_in}
 use Rattle.tui_pages_run.specs.Printed.{AreAllPages, AreFewerPages, count_line}
@@ -28,9 +28,9 @@ IsFirst command.Print r text = AreFewerPages r text
 IsFirst command.Count r text = nothing text
 
 -- what a command does with a value
-abbrev pub pages_reading : PagesCommand → Reading PagesRefusal
-pages_reading c = record { Input = ReportData; input_of = report_in; line = refusal_line; due = IsWritten c; part = IsFirst c }
+abbrev pub pages_job : PagesCommand → JobRules PagesRefusal
+pages_job c = record { Input = ReportData; input_of = report_in; line = refusal_line; due = IsWritten c; part = IsFirst c }
 
 -- the rules of all commands
 abbrev pub pages_rules : Rules PagesCommand PagesRefusal
-pages_rules = reading_rules Names pages_reading
+pages_rules = reading_rules Names pages_job

@@ -5,13 +5,12 @@ ghost use Rattle.tui_pages_lib.specs.Strokes.{page_area};
 ghost use Rattle.tui_program.specs.Endings.{AnswersWith, no_refusal};
 ghost use Rattle.tui_pages_run.specs.Rules.{IsFirst, IsWritten};
 
+use crate::paged_report::{PagedReport, read_report};
 use crate::printing::{print_count, print_pages};
-use crate::reading::{Reading, read_report};
 use crate::refusal::{PagesRefusal, put_refusal};
 use serde_json::Value;
 use std::alloc::Global;
-use tui_json::InputError;
-use tui_port::{Sink, WriteFault};
+use tui_outside::{Sink, WriteFault};
 use tui_program::{Job, Leftovers, Reader, Stop, are_none, is_word};
 
 /// A command of the program. Each reads a report.
@@ -40,11 +39,11 @@ impl Reader for PagesCommand {
 }
 
 impl Job for PagesCommand {
-    ghost use Rattle.tui_pages_run.specs.Rules.{pages_reading};
+    ghost use Rattle.tui_pages_run.specs.Rules.{pages_job};
 
     type Refusal = PagesRefusal;
 
-    ghost reading = { pages_reading };
+    ghost job_rules = { pages_job };
 
     fn answer<K: Sink>(
         &self,
@@ -53,15 +52,10 @@ impl Job for PagesCommand {
         sink: &mut K,
         leftovers: Leftovers,
     ) -> Result<(), Stop<PagesRefusal>> {
-        match read_report(alloc, value) {
-            Ok(reading) => {
-                let answer = write(*self, alloc, &reading, sink);
-                leftovers.done_with(reading);
-                answer
-            }
-            Err(InputError::Refused(refusal)) => Err(Stop::Refused(refusal)),
-            Err(InputError::NoMemory) => Err(Stop::NoMemory),
-        }
+        let paged = read_report(alloc, value)?;
+        let answer = write(*self, alloc, &paged, sink);
+        leftovers.done_with(paged);
+        answer
     }
 
     fn refuse<K: Sink>(&self, refusal: PagesRefusal, sink: &mut K) -> Result<(), WriteFault> {
@@ -73,15 +67,15 @@ impl Job for PagesCommand {
 fn write<K: Sink>(
     command: PagesCommand,
     alloc: Global,
-    reading: &Reading<'_>,
+    paged: &PagedReport<'_>,
     sink: &mut K,
 ) -> Result<(), Stop<PagesRefusal>>
-    requires { reading.now.area ≡ page_area reading.now.report }
-    ensures { AnswersWith (IsWritten command reading.now.report) (IsFirst command reading.now.report) no_refusal
+    requires { paged.now.area ≡ page_area paged.now.report }
+    ensures { AnswersWith (IsWritten command paged.now.report) (IsFirst command paged.now.report) no_refusal
         (K.told sink.old) (K.told sink.new) result }
 {
     match command {
-        PagesCommand::Print => print_pages(alloc, reading.area, &reading.report, sink),
-        PagesCommand::Count => print_count(&reading.report, sink),
+        PagesCommand::Print => print_pages(alloc, paged.area, &paged.report, sink),
+        PagesCommand::Count => print_count(&paged.report, sink),
     }
 }

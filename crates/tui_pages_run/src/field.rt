@@ -1,7 +1,7 @@
 //! The fields of the input.
 
 use crate::refusal::PagesRefusal;
-use tui_json::{Fields, InputError};
+use tui_json::Fields;
 
 /// A field of the input in JSON.
 #[derive(Clone, Copy, Debug, PartialEq, Eq)]
@@ -37,28 +37,18 @@ impl ReportField {
 
 impl Fields for ReportField {
     ghost use Rattle.tui_pages_run.specs.Refusals.{bad_input, field_name};
-    ghost use Rattle.tui_json.specs.Refusals.{refused};
-    ghost use Rattle.tui_pages_run.specs.declared.refusal.PagesRefusal.{PagesRefusal};
 
-    type Error = InputError<PagesRefusal>;
-
-    ghost Refusal = { PagesRefusal };
+    type Refusal = PagesRefusal;
 
     ghost key = { field_name };
 
     ghost refusal = { bad_input };
 
-    ghost refused = { refused };
-
     fn key(&self) -> &'static str {
         self.name()
     }
 
-    fn error(self, at: Option<usize>) -> InputError<PagesRefusal> {
-        InputError::Refused(PagesRefusal::BadInput { at, field: self })
-    }
-
-    fn no_memory() -> InputError<PagesRefusal> {
-        InputError::NoMemory
+    fn refusal(self, at: Option<usize>) -> PagesRefusal {
+        PagesRefusal::BadInput { at, field: self }
     }
 }

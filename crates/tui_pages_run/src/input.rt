@@ -1,9 +1,9 @@
 //! The fields of the input.
 
 ghost use Rattle.std.specs.Prelude.{map};
-ghost use Rattle.serde_json.specs.View.{view, items_view};
+ghost use Rattle.serde_json.specs.View.{view};
 ghost use Rattle.tui_json.specs.Kinds.{Reads};
-ghost use Rattle.tui_json.specs.Refusals.{Gives, numbered, refused};
+ghost use Rattle.tui_json.specs.Refusals.{Gives};
 ghost use Rattle.tui_pages_lib.specs.Report.{cells_of, column_data};
 ghost use Rattle.tui_pages_run.specs.Input.{column_of, input_data, input_of, record_of, sheet_data, sheet_of, texts_of};
 
@@ -11,7 +11,9 @@ use crate::field::ReportField;
 use crate::refusal::PagesRefusal;
 use serde_json::Value;
 use std::alloc::Global;
-use tui_json::{Counted, Fields, InputError, Kind, KindError, Within, each, required};
+use tui_json::{
+    Counted, InputError, Kind, KindError, Numbered, Within, each, each_numbered, error_at, required,
+};
 use tui_layout::Constraint;
 use tui_pages_lib::{Column, Record};
 
@@ -38,18 +40,18 @@ pub(crate) fn read_input<'v>(
     alloc: Global,
     value: &'v Value,
 ) -> Result<Input<'v>, InputError<PagesRefusal>>
-    ensures { Gives input_data refused result (input_of (view value.now)) }
+    ensures { Gives input_data result (input_of (view value.now)) }
 {
     let sheet = read_sheet(alloc, value)?;
     let Counted(values): Counted<'v, 1, 32> = required(alloc, None, ReportField::Columns, value)?;
-    let columns = read_columns(alloc, values)?;
+    let columns = each_numbered::<Column<'v>, ReportField>(alloc, (), values)?;
     let Counted(values): Counted<'v, 0, 10000> = required(
         alloc,
         None,
         ReportField::Records,
         value,
     )?;
-    let records = read_records(alloc, values)?;
+    let records = each_numbered::<Record<'v>, ReportField>(alloc, (), values)?;
     Ok(Input {
         sheet,
         columns,
@@ -59,7 +61,7 @@ pub(crate) fn read_input<'v>(
 
 #[tactic(auto, unfolding(crate::specs::Input::sheet_of))]
 fn read_sheet<'v>(alloc: Global, value: &'v Value) -> Result<Sheet<'v>, InputError<PagesRefusal>>
-    ensures { Gives sheet_data refused result (sheet_of (view value.now)) }
+    ensures { Gives sheet_data result (sheet_of (view value.now)) }
 {
     let Within(width): Within<1, 200> = required(alloc, None, ReportField::Width, value)?;
     let Within(height): Within<4, 200> = required(alloc, None, ReportField::Height, value)?;
@@ -71,56 +73,52 @@ fn read_sheet<'v>(alloc: Global, value: &'v Value) -> Result<Sheet<'v>, InputErr
     })
 }
 
-fn read_columns<'v>(
-    alloc: Global,
-    values: &'v [Value],
-) -> Result<Vec<Column<'v>>, InputError<PagesRefusal>>
-    ensures { Gives (λ columns. map column_data columns.items) refused result (numbered column_of 0 (items_view values.now)) }
-{
-    let mut columns = Vec::with_capacity(alloc, values.len())?;
-    for (i, value) in values.iter().enumerate() {
-        columns.push(read_column(alloc, i, value)?)?;
+impl<'v> Numbered<'v, ReportField> for Column<'v> {
+    ghost use Rattle.tui_pages_lib.specs.Report.{ColumnData};
+
+    type Known = ();
+
+    ghost Seen = { ColumnData };
+
+    ghost seen = { column_data };
+
+    ghost tests = { λ known. column_of };
+
+    #[tactic(auto, unfolding(crate::specs::Input::column_of))]
+    fn read(
+        alloc: Global,
+        _known: (),
+        number: usize,
+        value: &'v Value,
+    ) -> Result<Column<'v>, InputError<PagesRefusal>> {
+        let at = Some(number);
+        let name: &'v str = required(alloc, at, ReportField::Name, value)?;
+        let size: Constraint = required(alloc, at, ReportField::Size, value)?;
+        Ok(Column { name, size })
     }
-    Ok(columns)
 }
 
-#[tactic(auto, unfolding(crate::specs::Input::column_of))]
-fn read_column<'v>(
-    alloc: Global,
-    i: usize,
-    value: &'v Value,
-) -> Result<Column<'v>, InputError<PagesRefusal>>
-    ensures { Gives column_data refused result (column_of i (view value.now)) }
-{
-    let name: &'v str = required(alloc, Some(i), ReportField::Name, value)?;
-    let size: Constraint = required(alloc, Some(i), ReportField::Size, value)?;
-    Ok(Column { name, size })
-}
+impl<'v> Numbered<'v, ReportField> for Record<'v> {
+    ghost use Rattle.std.specs.Prelude.{ℕ, List};
 
-fn read_records<'v>(
-    alloc: Global,
-    values: &'v [Value],
-) -> Result<Vec<Record<'v>>, InputError<PagesRefusal>>
-    ensures { Gives (λ records. map cells_of records.items) refused result (numbered record_of 0 (items_view values.now)) }
-{
-    let mut records = Vec::with_capacity(alloc, values.len())?;
-    for (i, value) in values.iter().enumerate() {
-        records.push(read_record(alloc, i, value)?)?;
-    }
-    Ok(records)
-}
+    type Known = ();
 
-fn read_record<'v>(
-    alloc: Global,
-    i: usize,
-    value: &'v Value,
-) -> Result<Record<'v>, InputError<PagesRefusal>>
-    ensures { Gives cells_of refused result (record_of i (view value.now)) }
-{
-    match read_texts(alloc, value) {
-        Ok(cells) => Ok(Record { cells }),
-        Err(KindError::WrongKind) => Err(ReportField::Records.error(Some(i))),
-        Err(KindError::NoMemory) => Err(InputError::NoMemory),
+    ghost Seen = { List (List ℕ) };
+
+    ghost seen = { cells_of };
+
+    ghost tests = { λ known. record_of };
+
+    fn read(
+        alloc: Global,
+        _known: (),
+        number: usize,
+        value: &'v Value,
+    ) -> Result<Record<'v>, InputError<PagesRefusal>> {
+        match read_texts(alloc, value) {
+            Ok(cells) => Ok(Record { cells }),
+            Err(why) => Err(error_at(ReportField::Records, Some(number), why)),
+        }
     }
 }
 

@@ -5,9 +5,9 @@ mod command;
 mod ended;
 mod field;
 mod input;
+mod paged_report;
 mod printing;
 mod program;
-mod reading;
 mod refusal;
 
 pub use command::PagesCommand;

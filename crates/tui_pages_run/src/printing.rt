@@ -1,8 +1,8 @@
 //! The pages as they are written.
 
 ghost use Rattle.std.specs.Prelude.{◌≡◌, ◌<◌, Bool, Err, IfOk, OnOk, if◌then◌else◌, length};
-ghost use Rattle.tui_port.specs.Causes.{Puts, Writes};
-ghost use Rattle.tui_port.specs.Gathers.{Gathers};
+ghost use Rattle.tui_outside.specs.Causes.{Puts, Writes};
+ghost use Rattle.tui_outside.specs.Gathers.{Gathers};
 ghost use Rattle.tui_pages_lib.specs.Strokes.{body_area, page_area};
 ghost use Rattle.tui_program.specs.Endings.{AnswersWith, no_refusal, nothing};
 ghost use Rattle.tui_program.specs.declared.stop.Stop.TheVariants as stop;
@@ -11,9 +11,10 @@ ghost use Rattle.tui_pages_run.specs.Printed.{AreAllPages, AreFewerPages, ShowsH
 use crate::refusal::PagesRefusal;
 use std::alloc::Global;
 use tui_cells::{Buffer, Mem, NoMemory, Rect};
+use tui_outside::{Print, Sink, WriteFault};
 use tui_pages_lib::Report;
-use tui_port::{Print, Sink, WriteFault};
 use tui_program::Stop;
+use tui_rows::put_rows;
 
 /// The rows of the title and the names.
 const HEAD: u16 = 2;
@@ -91,7 +92,7 @@ fn put_page<K: Sink>(print: &mut Print, sink: &mut K, report: &Report<'_>, at: u
     print.text(sink, " ");
     print.number(sink, count);
     print.text(sink, "\n");
-    print.rows(sink, page);
+    put_rows(print, page, sink);
 }
 
 /// Writes how many pages there are.

@@ -1,6 +1,6 @@
 //! A whole run, from the words and the bytes that are read to the bytes that are written.
 
-ghost use Rattle.tui_program.specs.Call.{call_of};
+ghost use Rattle.tui_program.specs.Transcript.{transcript_of};
 ghost use Rattle.tui_program.specs.Runs.{IsRun, IsRunFrom};
 ghost use Rattle.tui_pages_run.specs.Ended.{ending_of};
 ghost use Rattle.tui_pages_run.specs.Rules.{pages_rules};
@@ -10,7 +10,7 @@ use crate::ended::PagesEnded;
 use std::alloc::Global;
 use std::env::Args;
 use std::io;
-use tui_port::{Sink, Source};
+use tui_outside::{Sink, Source};
 use tui_program::{Leftovers, run};
 
 /// Reads a report in JSON (docs/PROGRAMS.md) from the source, and writes its pages to the sink, or with the word `count` how many
@@ -28,7 +28,7 @@ pub fn run_pages<S: Source, K: Sink>(
     sink: &mut K,
 ) -> PagesEnded
     ensures { IsRun pages_rules words.now
-        (call_of (S.told source.old) (S.told source.new) (K.told sink.old) (K.told sink.new)) (ending_of result) }
+        (transcript_of (S.told source.old) (S.told source.new) (K.told sink.old) (K.told sink.new)) (ending_of result) }
 {
     run::<PagesCommand, S, K>(alloc, words, source, sink, Leftovers::Dropped).into()
 }
@@ -42,7 +42,7 @@ pub fn run_program<S: Source, K: Sink>(
     sink: &mut K,
 ) -> PagesEnded
     ensures { IsRunFrom pages_rules args
-        (call_of (S.told source.old) (S.told source.new) (K.told sink.old) (K.told sink.new)) (ending_of result) }
+        (transcript_of (S.told source.old) (S.told source.new) (K.told sink.old) (K.told sink.new)) (ending_of result) }
 {
     tui_program::run_program::<PagesCommand, S, K>(alloc, args, source, sink).into()
 }

@@ -1,11 +1,11 @@
 //! What is refused.
 
-ghost use Rattle.tui_port.specs.Causes.{Writes};
+ghost use Rattle.tui_outside.specs.Causes.{Writes};
 ghost use Rattle.tui_pages_run.specs.Refusals.{refusal_line};
 ghost use Rattle.tui_pages_run.specs.declared.refusal.PagesRefusal.TheVariants as refusals;
 
 use crate::field::ReportField;
-use tui_port::{Print, Sink, WriteFault};
+use tui_outside::{Print, Sink, WriteFault};
 use tui_program::put_refused_field;
 
 /// Why the program makes no pages of an input in JSON.

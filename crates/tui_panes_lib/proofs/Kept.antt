@@ -11,11 +11,11 @@ use Rattle.tui_scene.specs.Item.{PlacedData}
 use Rattle.tui_scene.specs.Scene.{no_widget, placed_at}
 use Rattle.tui_panes_lib.specs.Panes.{AreKept, rects_of}
 use Rattle.tui_panes_lib.specs.Apart.{LieApart}
-use Rattle.tui_panes_lib.specs.Place.{PaneData, placed_of}
-use Rattle.tui_panes_lib.proofs.PartsApart.{lie_apart}
+use Rattle.tui_panes_lib.specs.Place.{PaneData, leaves_in}
+use Rattle.tui_panes_lib.proofs.LeavesApart.{lie_apart}
 
 -- new panes
-pub new_kept : (area : Rect) (pane : PaneData) (rects : List Rect) (marks : List Bool) (leaves : List PlacedData) → leaves ≡ placed_of area pane →
+pub new_kept : (area : Rect) (pane : PaneData) (rects : List Rect) (marks : List Bool) (leaves : List PlacedData) → leaves ≡ leaves_in area pane →
     rects ≡ rects_of leaves → length marks ≡ length rects → AreKept area rects marks leaves
 new_kept area pane rects marks leaves placed is as_many = record {
   rects_are = is;

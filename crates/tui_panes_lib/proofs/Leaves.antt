@@ -17,7 +17,7 @@ use Rattle.tui_scene.proofs.Freshness.{drawn_is_fresh, order_is_free}
 use Rattle.tui_scene.proofs.Running.{Drawn, all_moved, drawn_more, light_at, run_more, stopped}
 use Rattle.tui_panes_lib.specs.Draw.{HaveNoShadow, StoppedAt, in_order}
 use Rattle.tui_panes_lib.specs.Panes.{rects_of}
-use Rattle.tui_panes_lib.proofs.Apart.{areas_set, stand_apart}
+use Rattle.tui_panes_lib.proofs.StandApart.{areas_set, stand_apart}
 use Rattle.tui_panes_lib.specs.Apart.{LieApart}
 use Rattle.tui_panes_lib.proofs.Orders.{all_at, put_once}
 

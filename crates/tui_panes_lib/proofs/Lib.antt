@@ -1,9 +1,9 @@
-pub mod PartsApart
 pub mod Depth
-pub mod Placed
-pub mod Marked
-pub mod Orders
-pub mod Apart
 pub mod Kept
 pub mod Leaves
+pub mod LeavesApart
+pub mod Marked
+pub mod Orders
+pub mod Placed
 pub mod Put
+pub mod StandApart

@@ -7,16 +7,9 @@ use Rattle.std.proofs.lemmas.List.Folds.{Any-from_list_any, list_any_at}
 use Rattle.std.proofs.lemmas.List.{get_or_default, get_or-set_other, get_or-set_same, length-set}
 use Rattle.std.proofs.lemmas.List.Elements.{All-get_or, All-more}
 use Rattle.std.proofs.lemmas.List.Sums.{count_by_more_no, count_by_more_yes, sum_by-take-le}
-use Rattle.std.proofs.lemmas.Bool.{false≢true, cases_Bool, cases_eq, cond-true, cond-false}
-use Rattle.std.proofs.lemmas.Bool.Decides.{nat_tests}
+use Rattle.std.proofs.lemmas.Bool.{false≢true, cases_Bool, cases_eq, cond-true, cond-false, eq-eqb, ne_eqb}
 use Rattle.tui_scene.specs.Redraw.{IsOrder}
 use Rattle.tui_panes_lib.specs.Order.{AreMarked}
-
-eq_test : (a b : ℕ) → a ≡ b → (a == b) ≡ true
-eq_test a b h = grind (arith, nat_tests)
-
-ne_test : (a b : ℕ) → a ≢ b → (a == b) ≡ false
-ne_test a b h = grind (arith, nat_tests)
 
 -- one number more
 pub marked_more : (marks : List Bool) (order : List ℕ) (k leaf : ℕ) → k < length order → leaf ≡ get_or order k 0 → leaf < length marks →
@@ -31,10 +24,10 @@ marked_more marks order k leaf within at below free so_far = record {
     by_place i lt (inl here) =
         let now : get_or (set marks leaf true) i false ≡ true = subst (λ n. get_or (set marks leaf true) n false ≡ true) here (get_or-set_same marks leaf true false below) in
         let was : count_by (λ j. j == i) (take k order) ≡ 0 = so_far.often i lt ∙ cond-false _ _ _ (subst (λ n. get_or marks n false ≡ false) here free) in
-        count_by_more_yes (λ j. j == i) order k 0 within (eq_test (get_or order k 0) i (sym at ∙ here)) ∙ ap (λ n. n + 1) was
+        count_by_more_yes (λ j. j == i) order k 0 within (eq-eqb (get_or order k 0) i (sym at ∙ here)) ∙ ap (λ n. n + 1) was
         ∙ sym (cond-true _ _ _ now)
     by_place i lt (inr other) =
-        count_by_more_no (λ j. j == i) order k 0 within (ne_test (get_or order k 0) i (λ e. other (at ∙ e))) ∙ so_far.often i lt
+        count_by_more_no (λ j. j == i) order k 0 within (ne_eqb (get_or order k 0) i (λ e. other (at ∙ e))) ∙ so_far.often i lt
         ∙ ap (λ b. if b then 1 else 0) (sym (get_or-set_other marks leaf i true false (λ e. other (sym e))))
 
 -- a number without a mark
@@ -48,7 +41,7 @@ pub twice : (marks : List Bool) (order : List ℕ) (n k leaf : ℕ) → k < leng
     get_or marks leaf false ≡ true → AreMarked marks (take k order) → IsOrder n order → ⊥
 twice marks order n k leaf within at below long marked so_far is =
     let was : count_by (λ j. j == leaf) (take k order) ≡ 1 = so_far.often leaf below ∙ cond-true _ _ _ marked in
-    let now = count_by_more_yes (λ j. j == leaf) order k 0 within (eq_test (get_or order k 0) leaf (sym at)) in
+    let now = count_by_more_yes (λ j. j == leaf) order k 0 within (eq-eqb (get_or order k 0) leaf (sym at)) in
     let most = sum_by-take-le (λ j. if j == leaf then 1 else 0) order (k + 1) in
     absurd (omega (arith, was, now, most, is.once leaf (omega arith)))
 

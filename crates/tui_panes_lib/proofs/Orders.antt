@@ -5,15 +5,8 @@ use Rattle.std.specs.Prelude.{◌≢◌, ◌⊎◌, count_by}
 use Rattle.std.proofs.lemmas.List.{get_or_default, get_or-map, get_or-set_other, get_or-set_same, length-map, length-set, same_lists, take-take}
 use Rattle.std.proofs.lemmas.List.Elements.{All-get_or}
 use Rattle.std.proofs.lemmas.List.Sums.{count_by_more_yes, sum_by-cons, sum_by-take-le}
-use Rattle.std.proofs.lemmas.Bool.{cases_eq, cases_lt, cond-false}
-use Rattle.std.proofs.lemmas.Bool.Decides.{nat_tests}
+use Rattle.std.proofs.lemmas.Bool.{cases_eq, cases_lt, cond-false, eq-eqb, ne_eqb}
 use Rattle.tui_scene.specs.Redraw.{IsOrder}
-
-eq_test : (a b : ℕ) → a ≡ b → (a == b) ≡ true
-eq_test a b h = grind (arith, nat_tests)
-
-ne_test : (a b : ℕ) → a ≢ b → (a == b) ≡ false
-ne_test a b h = grind (arith, nat_tests)
 
 -- two places that pass a test count two
 two_counted : (p : ℕ → Bool) (order : List ℕ) (j k : ℕ) → j < k → k < length order → p (get_or order j 0) ≡ true → p (get_or order k 0) ≡ true →
@@ -30,8 +23,8 @@ pub one_place : (n : ℕ) (order : List ℕ) (j k : ℕ) → IsOrder n order →
 one_place n order j k is lt within other same =
     let below : get_or order k 0 < n = All-get_or (λ i. i < n) order k 0 within is.below in
     let once = is.once (get_or order k 0) below in
-    let here = eq_test (get_or order k 0) (get_or order k 0) refl in
-    let there = eq_test (get_or order j 0) (get_or order k 0) same in
+    let here = eq-eqb (get_or order k 0) (get_or order k 0) refl in
+    let there = eq-eqb (get_or order j 0) (get_or order k 0) same in
     elim (cases_lt j k) [
       | inl less ↦ absurd (omega (arith, once, two_counted (λ i. i == get_or order k 0) order j k less within there here))
       | inr ge ↦ absurd (omega (arith, once, two_counted (λ i. i == get_or order k 0) order k j (omega (arith, other)) lt here there))
@@ -71,7 +64,7 @@ stands i (j ∷ order) e =
       | inl here ↦ record { place = 0; within = omega arith; is = here }
       | inr other ↦
           (let counted : count_by (λ k. k == i) (j ∷ order) ≡ 0 + count_by (λ k. k == i) order =
-          sum_by-cons (λ k. if k == i then 1 else 0) j order ∙ ap (λ n. n + count_by (λ k. k == i) order) (cond-false _ _ _ (ne_test j i other)) in
+          sum_by-cons (λ k. if k == i then 1 else 0) j order ∙ ap (λ n. n + count_by (λ k. k == i) order) (cond-false _ _ _ (ne_eqb j i other)) in
           let later = stands i order (omega (arith, counted, e)) in
           let lt = later.within in
           record { place = suc later.place; within = omega arith; is = later.is })

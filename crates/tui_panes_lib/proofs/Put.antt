@@ -16,7 +16,7 @@ use Rattle.tui_scene.proofs.Freshness.{replaced_is_fresh}
 use Rattle.tui_panes_lib.specs.Draw.{HaveNoShadow}
 use Rattle.tui_panes_lib.specs.Panes.{rects_of}
 use Rattle.tui_panes_lib.specs.Replace.{IsRedrawn, put_in, touched}
-use Rattle.tui_panes_lib.proofs.Apart.{areas_set, stand_apart}
+use Rattle.tui_panes_lib.proofs.StandApart.{areas_set, stand_apart}
 use Rattle.tui_panes_lib.specs.Apart.{LieApart}
 
 pub put_back : (old next drawn again : List PlacedData) (at : ℕ) (p was : PlacedData) → next ≡ set old at p → was ≡ placed_at old at →

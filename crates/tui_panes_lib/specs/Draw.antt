@@ -31,6 +31,6 @@ pub record StoppedAt (order : List ℕ) (old new : List PlacedData) (before afte
   pub as_many : length new ≡ length old
 
 -- what an error of a drawing of leaves says
-abbrev pub StoppedBy : List ℕ → List PlacedData → List PlacedData → Screen → Screen → OrderError → Type 0
-StoppedBy order old new before after NotOrder = ⊥
-StoppedBy order old new before after (NoMemory leaf) = StoppedAt order old new before after leaf
+abbrev pub StoppedInOrder : List ℕ → List PlacedData → List PlacedData → Screen → Screen → OrderError → Type 0
+StoppedInOrder order old new before after NotOrder = ⊥
+StoppedInOrder order old new before after (NoMemory leaf) = StoppedAt order old new before after leaf

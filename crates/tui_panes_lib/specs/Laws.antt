@@ -9,11 +9,11 @@ use Rattle.tui_scene.specs.Redraw.{AreReplaced, IsFresh}
 use Rattle.tui_panes_lib.specs.Apart.{LieApart}
 use Rattle.tui_panes_lib.specs.Draw.{HaveNoShadow}
 use Rattle.tui_panes_lib.specs.Panes.{rects_of}
-use Rattle.tui_panes_lib.specs.Place.{PaneData, placed_of}
+use Rattle.tui_panes_lib.specs.Place.{PaneData, leaves_in}
 
 -- the rectangles of the leaves lie in the area, and no two have a position in common: those of each tree, in each area
 abbrev pub PanesLieApart : Type 0
-PanesLieApart = (area : Rect) (pane : PaneData) → LieApart area (map (λ (p : PlacedData). p.area) (placed_of area pane))
+PanesLieApart = (area : Rect) (pane : PaneData) → LieApart area (map (λ (p : PlacedData). p.area) (leaves_in area pane))
 
 -- leaves whose rectangles lie apart and that have no shadow: drawn on a blank buffer and then any of them replaced, any number of
 -- times, they leave the buffer fresh

@@ -3,7 +3,7 @@ use Rattle.std.specs.Prelude.{◌≡◌, Bool, List, length, map}
 use Rattle.tui_cells.specs.declared.rect.Rect.{Rect}
 use Rattle.tui_scene.specs.Item.{PlacedData}
 use Rattle.tui_panes_lib.specs.Apart.{LieApart}
-use Rattle.tui_panes_lib.specs.Place.{PaneData, placed_of}
+use Rattle.tui_panes_lib.specs.Place.{PaneData, leaves_in}
 
 -- their area, and the leaves in order, each with its rectangle
 pub record PanesData : Type 0 where
@@ -12,7 +12,7 @@ pub record PanesData : Type 0 where
 
 -- the leaves of a tree, each where it is placed in the area
 abbrev pub panes_of : Rect → PaneData → PanesData
-panes_of area pane = record { area = area; leaves = placed_of area pane }
+panes_of area pane = record { area = area; leaves = leaves_in area pane }
 
 -- the areas of all leaves
 abbrev pub rects_of : List PlacedData → List Rect

@@ -5,7 +5,7 @@ ghost use Rattle.tui_cells.specs.Layers.{KeptOutside, Painted};
 ghost use Rattle.tui_scene.specs.Item.{IsLightPlaced, placed_after, placed_data};
 ghost use Rattle.tui_scene.specs.Redraw.{IsOrder};
 ghost use Rattle.tui_scene.specs.Scene.{Run, placed_at, scene_layers};
-ghost use Rattle.tui_panes_lib.specs.Draw.{StoppedBy, in_order};
+ghost use Rattle.tui_panes_lib.specs.Draw.{StoppedInOrder, in_order};
 ghost use Rattle.tui_panes_lib.specs.Panes.{rects_of};
 ghost use Rattle.tui_panes_lib.specs.Replace.{IsRedrawn, touched};
 
@@ -26,7 +26,7 @@ pub(crate) fn draw_leaves(
     ensures ok { OnOk result (Painted (scene_layers buf.old.area (in_order order.now scene.old)) buf.old buf.new) }
     ensures states { OnOk result (scene.new ≡ map (placed_after buf.old.area) scene.old) }
     ensures areas { rects_of scene.new ≡ rects_of scene.old }
-    ensures err { IfErr result (StoppedBy order.now scene.old scene.new buf.old buf.new) }
+    ensures err { IfErr result (StoppedInOrder order.now scene.old scene.new buf.old buf.new) }
     ensures light { All (IsLightPlaced buf.old.area) scene.old → IsOk result }
 {
     'leaves: for &at in order {

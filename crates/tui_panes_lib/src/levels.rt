@@ -6,7 +6,7 @@ ghost use Rattle.tui_panes_lib.specs.Pane.{pane_data, parts_of};
 
 use crate::pane::{Pane, Part};
 
-/// Whether a pane has at most so many levels. It goes no deeper than that, whatever the tree.
+/// Whether a pane has at most `limit` levels. It goes no deeper than that, whatever the tree.
 #[cycle(levels)]
 #[tactic(auto, using(crate::proofs::Depth::none_within, crate::proofs::Depth::leaf_within, crate::proofs::Depth::split_within))]
 pub(crate) fn stands_within(pane: &Pane<'_>, limit: u8) -> bool

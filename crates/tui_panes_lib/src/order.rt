@@ -4,8 +4,8 @@ ghost use Rattle.std.specs.Prelude.{◌≡◌, ◌↔◌, IsTrue, All, false, tr
 ghost use Rattle.tui_scene.specs.Redraw.{IsOrder};
 ghost use Rattle.tui_panes_lib.specs.Order.{AreMarked};
 
-/// Whether an order has the number of each mark once and no other. Takes no memory, and so many steps as there are marks and
-/// numbers.
+/// Whether an order has the number of each mark once and no other. Takes no memory, and as many steps as there are
+/// marks and numbers.
 pub(crate) fn is_order(marks: &mut [bool], order: &[usize]) -> bool
     ensures is { IsTrue result ↔ IsOrder (length marks.old) order.now }
     ensures as_many { length marks.new ≡ length marks.old }

@@ -21,7 +21,7 @@ pub(crate) fn areas(alloc: Global, items: &[Placed<'_>]) -> Mem<Vec<Rect>>
     Ok(rects)
 }
 
-/// So many marks.
+/// `count` marks.
 pub(crate) fn marks(alloc: Global, count: usize) -> Mem<Vec<bool>>
     ensures { IfOk result (λ marks. length marks.items ≡ count) }
 {

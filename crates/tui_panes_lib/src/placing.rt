@@ -5,7 +5,7 @@ ghost use Rattle.tui_cells.specs.Rect.{farthest_edge};
 ghost use Rattle.tui_layout.specs.Columns.{columns_of};
 ghost use Rattle.tui_panes_lib.specs.Levels.{levels};
 ghost use Rattle.tui_panes_lib.specs.Pane.{pane_data, sizes_data};
-ghost use Rattle.tui_panes_lib.specs.Place.{near_of, part_of, place_in, placed_of, side_of};
+ghost use Rattle.tui_panes_lib.specs.Place.{near_of, part_of, place_in, leaves_in, side_of};
 ghost use Rattle.tui_panes_lib.specs.declared.error.PanesError.TheVariants.{TooDeep};
 
 use crate::error::PanesError;
@@ -16,7 +16,7 @@ use tui_cells::{Mem, NoMemory, Rect};
 use tui_layout::{Constraint, Direction, Segment, split};
 use tui_scene::{Placed, Scene};
 
-/// The deepest tree that is placed has so many levels.
+/// The levels of the deepest tree that is placed.
 const MOST_LEVELS: u8 = 32;
 
 /// The leaves of a tree of panes in order, each with its rectangle of an area. The area's far edges are cut at 65535 first. A
@@ -24,7 +24,7 @@ const MOST_LEVELS: u8 = 32;
 /// part, as `split` of the layout does, and its parts have these columns. TooDeep exactly where the tree has more than 32 levels,
 /// a lone leaf having one; it is tested first, and takes no memory.
 pub fn scene_in<'v>(alloc: Global, area: Rect, root: Pane<'v>) -> Result<Scene<'v>, PanesError>
-    ensures placed { IfOk result (λ scene. scene ≡ placed_of area (pane_data root.entry)) }
+    ensures placed { IfOk result (λ scene. scene ≡ leaves_in area (pane_data root.entry)) }
     ensures deep { (result ≡ Err TooDeep) ↔ (32 < levels (pane_data root.entry)) }
 {
     if !stands_within(&root, MOST_LEVELS) {

@@ -25,7 +25,7 @@ use Rattle.tui_panes_lib.specs.Place.{PaneData, PartsData, leaf, split, no_parts
 use Rattle.tui_panes_run.specs.Changes.{ChangeData, bad_change, change_in, change_key, changes_in, each_change, in_change, leaf_number}
 use Rattle.tui_panes_run.specs.Counts.{CountsData, no_panes, with_leaf, with_split}
 use Rattle.tui_panes_run.specs.Input.{InputData, input_of, most_below, size_in}
-use Rattle.tui_panes_run.specs.Objects.{object_of}
+use Rattle.tui_json.specs.Objects.{object_of}
 use Rattle.tui_panes_run.specs.Refusals.{bad_pane}
 use Rattle.tui_panes_run.specs.Tree.{Reader, by_parts, leaf_in, lone_in, optional, pane_in, part_in, parts_in, required, shape_in, split_in, values_in}
 use Rattle.tui_panes_run.specs.Widgets.{widget_in}

@@ -14,7 +14,7 @@ use Rattle.tui_panes_lib.specs.Replace.{IsRedrawn, panes_with, put_in}
 use Rattle.tui_panes_run.specs.Changes.{ChangeData}
 use Rattle.tui_panes_run.specs.Input.{InputData}
 use Rattle.tui_panes_run.specs.Order.{numbers_of}
-use Rattle.tui_panes_run.specs.Shown.{AreChanged, IsDrawn, changed, leaves_of, screen_area}
+use Rattle.tui_panes_run.specs.Shown.{AreChanged, ArePanesDrawn, changed, leaves_of, screen_area}
 use Rattle.tui_panes_run.specs.declared.order.Order.{Order}
 
 -- what is still to be changed leads to what all changes lead to
@@ -70,9 +70,9 @@ pub drawn_is : (input : InputData) (order : Order) (placed moved last : PanesDat
     placed ≡ panes_of (screen_area input) input.root → IsFilled (screen_area input) blank first → numbers ≡ numbers_of order (length placed.leaves) →
     Run (in_order numbers placed.leaves) (in_order numbers moved.leaves) first drawn → Draws (in_order numbers placed.leaves) (in_order numbers moved.leaves) first drawn →
     moved ≡ panes_after first.area placed → AreChanged moved.leaves drawn input.changes last.leaves after → IsScreen after →
-    IsDrawn (numbers_of order (length (leaves_of input))) (screen_area input) (leaves_of input) input.changes last.leaves after
+    ArePanesDrawn (numbers_of order (length (leaves_of input))) (screen_area input) (leaves_of input) input.changes last.leaves after
 drawn_is input order placed moved last numbers first drawn after is filled ordered run strokes states changes shape =
-    subst (λ (ls : List PlacedData). IsDrawn (numbers_of order (length ls)) (screen_area input) ls input.changes last.leaves after)
+    subst (λ (ls : List PlacedData). ArePanesDrawn (numbers_of order (length ls)) (screen_area input) ls input.changes last.leaves after)
     (ap (λ (p : PanesData). p.leaves) is) (record {
       first = first;
       blank_first = filled;

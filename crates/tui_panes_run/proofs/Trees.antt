@@ -15,7 +15,7 @@ use Rattle.tui_panes_lib.specs.declared.pane.Pane.{Split}
 use Rattle.tui_panes_lib.specs.declared.pane.Part.{Part}
 use Rattle.tui_panes_lib.proofs.Placed.{split_is}
 use Rattle.tui_panes_run.specs.Counts.{CountsData, with_split}
-use Rattle.tui_panes_run.specs.Objects.{objects_within}
+use Rattle.tui_json.specs.Objects.{objects_within}
 use Rattle.tui_panes_run.specs.Refusals.{bad_pane}
 use Rattle.tui_panes_run.specs.Tree.{Reader, by_parts, lone_in, pane_in, part_in, parts_in, required, shape_in, split_in, values_in}
 use Rattle.tui_panes_run.specs.declared.field.PaneField.TheVariants as fields

@@ -6,7 +6,7 @@ use Rattle.tui_json.specs.Number.{below, u64_of}
 use Rattle.tui_json.specs.Refusals.{◌>>=◌, numbered}
 use Rattle.tui_json.specs.Refusals as tests
 use Rattle.tui_scene.specs.Item.{ItemData, item_data}
-use Rattle.tui_panes_run.specs.Objects.{object_of}
+use Rattle.tui_json.specs.Objects.{object_of}
 use Rattle.tui_panes_run.specs.Refusals.{bad_pane}
 use Rattle.tui_panes_run.specs.Tree.{optional}
 use Rattle.tui_panes_run.specs.Widgets.{widget_in}

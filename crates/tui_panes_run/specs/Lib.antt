@@ -1,5 +1,4 @@
 pub mod Refusals
-pub mod Objects
 pub mod Counts
 pub mod Widgets
 pub mod Tree

@@ -2,7 +2,6 @@
 use Rattle.std.specs.Prelude.{ℕ, List, Option, codes}
 use Rattle.tui_program.specs.FieldLine.{refused_in_scene}
 use Rattle.tui_schema.specs.Field as schema
-use Rattle.tui_schema.specs.declared.field.Field.{Field}
 use Rattle.tui_panes_run.specs.declared.field.PaneField.{PaneField}
 use Rattle.tui_panes_run.specs.declared.field.PaneField.TheVariants as fields
 use Rattle.tui_panes_run.specs.declared.refusal.PanesRefusal.{PanesRefusal}
@@ -25,11 +24,7 @@ field_name fields.Item = codes "item"
 abbrev pub bad_pane : Option ℕ → PaneField → PanesRefusal
 bad_pane pane field = refusals.BadPane pane field
 
--- a field of the widget of a number
-abbrev pub bad_field : Option ℕ → Field → PanesRefusal
-bad_field item field = refusals.BadField item field
-
 -- the line of a refusal
 abbrev pub refusal_line : PanesRefusal → List ℕ
 refusal_line (refusals.BadPane pane field) = refused_in_scene (codes "pane") pane (field_name field)
-refusal_line (refusals.BadField item field) = refused_in_scene (codes "item") item (schema.field_name field)
+refusal_line (refusals.BadField bad) = refused_in_scene (codes "item") bad.item (schema.field_name bad.field)

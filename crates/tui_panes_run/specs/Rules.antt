@@ -3,13 +3,13 @@ use Rattle.std.specs.Prelude.{ℕ, List, [], ◌∷◌, codes, String}
 use Rattle.std.specs.declared.alloc.Global.{Global}
 use Rattle.tui_cells.specs.Rect.{farthest_edge}
 use Rattle.tui_program.specs.Endings.{nothing}
-use Rattle.tui_program.specs.Rules.{Reading, Rules, reading_rules}
+use Rattle.tui_program.specs.Rules.{JobRules, Rules, reading_rules}
 use Rattle.tui_program.specs.Words.{AreTexts, HaveNumbers}
 use Rattle.tui_program.specs.declared.numerals.Numerals.{Numerals}
 use Rattle.tui_panes_run.specs.Found.{IsFound}
 use Rattle.tui_panes_run.specs.Input.{InputData, input_of}
 use Rattle.tui_panes_run.specs.Refusals.{refusal_line}
-use Rattle.tui_panes_run.specs.Shown.{IsShown}
+use Rattle.tui_panes_run.specs.Shown.{ArePanesShown}
 use Rattle.tui_panes_run.specs.declared.command.PanesCommand.{PanesCommand}
 use Rattle.tui_panes_run.specs.declared.command.PanesCommand.TheVariants as command
 use Rattle.tui_panes_run.specs.declared.order.Order.TheVariants as order
@@ -27,12 +27,12 @@ Names (command.At x y) words = HaveNumbers (codes "at") places x y words
 
 -- what a command writes
 abbrev pub IsWritten : PanesCommand → InputData → List ℕ → Type 0
-IsWritten (command.Draw order) input text = IsShown order input text
+IsWritten (command.Draw order) input text = ArePanesShown order input text
 IsWritten (command.At x y) input text = IsFound x y input text
 
 -- what a command does with a value: nothing is written before all is drawn
-abbrev pub panes_reading : PanesCommand → Reading PanesRefusal
-panes_reading c = record { Input = InputData; input_of = input_of; line = refusal_line; due = IsWritten c; part = λ input. nothing }
+abbrev pub panes_job : PanesCommand → JobRules PanesRefusal
+panes_job c = record { Input = InputData; input_of = input_of; line = refusal_line; due = IsWritten c; part = λ input. nothing }
 
 abbrev pub panes_rules : Rules PanesCommand PanesRefusal
-panes_rules = reading_rules Names panes_reading
+panes_rules = reading_rules Names panes_job

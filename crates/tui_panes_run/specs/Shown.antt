@@ -4,13 +4,13 @@ use Rattle.tui_cells.specs.declared.rect.Rect.{Rect}
 use Rattle.tui_cells.specs.Buffer.{IsFilled, IsScreen, Screen}
 use Rattle.tui_cells.specs.Cell.{blank}
 use Rattle.tui_cells.specs.Rect.{area_of}
-use Rattle.tui_port.specs.Print.{IsPrint}
+use Rattle.tui_print.specs.Print.{IsPrint}
 use Rattle.tui_scene.specs.Item.{PlacedData, placed_after}
 use Rattle.tui_scene.specs.Laws.{Draws}
 use Rattle.tui_scene.specs.Scene.{Run, placed_at}
 use Rattle.tui_panes_lib.specs.Draw.{in_order}
 use Rattle.tui_panes_lib.specs.Replace.{IsRedrawn, put_in}
-use Rattle.tui_panes_lib.specs.Place.{placed_of}
+use Rattle.tui_panes_lib.specs.Place.{leaves_in}
 use Rattle.tui_panes_run.specs.Changes.{ChangeData}
 use Rattle.tui_panes_run.specs.Input.{InputData}
 use Rattle.tui_panes_run.specs.Order.{numbers_of}
@@ -22,7 +22,7 @@ screen_area input = area_of 0 0 input.size.width input.size.height
 
 -- the leaves of the tree in their rectangles
 abbrev pub leaves_of : InputData → List PlacedData
-leaves_of input = placed_of (screen_area input) input.root
+leaves_of input = leaves_in (screen_area input) input.root
 
 -- the leaves after a change, whose widget has the state that its drawing leaves
 abbrev pub changed : Rect → List PlacedData → ChangeData → List PlacedData
@@ -36,7 +36,7 @@ AreChanged leaves before (c ∷ cs) last after = (next : Screen)
     × AreChanged (changed before.area leaves c) next cs last after
 
 -- All leaves were drawn in an order on a blank buffer, and then changed.
-pub record IsDrawn (order : List ℕ) (area : Rect) (leaves : List PlacedData) (changes : List ChangeData) (last : List PlacedData)
+pub record ArePanesDrawn (order : List ℕ) (area : Rect) (leaves : List PlacedData) (changes : List ChangeData) (last : List PlacedData)
     (after : Screen) : Type 0 where
   pub first : Screen
   pub blank_first : IsFilled area blank first
@@ -49,8 +49,8 @@ pub record IsDrawn (order : List ℕ) (area : Rect) (leaves : List PlacedData) (
   pub shape : IsScreen after
 
 -- the print of the screen, in which the leaves have the states that they have then
-pub record IsShown (order : Order) (input : InputData) (text : List ℕ) : Type 0 where
+pub record ArePanesShown (order : Order) (input : InputData) (text : List ℕ) : Type 0 where
   pub last : List PlacedData
   pub screen : Screen
-  pub drawn : IsDrawn (numbers_of order (length (leaves_of input))) (screen_area input) (leaves_of input) input.changes last screen
+  pub drawn : ArePanesDrawn (numbers_of order (length (leaves_of input))) (screen_area input) (leaves_of input) input.changes last screen
   pub is_print : IsPrint screen last text

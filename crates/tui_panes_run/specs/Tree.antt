@@ -14,7 +14,7 @@ use Rattle.tui_layout.specs.declared.flex.Flex.TheVariants as flexing
 use Rattle.tui_scene.specs.Item.{ItemData}
 use Rattle.tui_panes_lib.specs.Place.{PaneData, PartsData, leaf, split, no_parts, part}
 use Rattle.tui_panes_run.specs.Counts.{CountsData, most_panes, with_leaf, with_split}
-use Rattle.tui_panes_run.specs.Objects.{object_of, objects_within}
+use Rattle.tui_json.specs.Objects.{object_of, objects_within}
 use Rattle.tui_panes_run.specs.Refusals.{bad_pane, field_name}
 use Rattle.tui_panes_run.specs.Widgets.{widget_in}
 use Rattle.tui_panes_run.specs.declared.field.PaneField.{PaneField}

@@ -1,19 +1,19 @@
 //! Changes of single panes.
 
-ghost use Rattle.std.specs.Prelude.{◌<◌, ◌≤◌, ◌^◌, map};
-ghost use Rattle.serde_json.specs.View.{view, items_view};
-ghost use Rattle.tui_json.specs.Refusals.{Gives, numbered, refused};
+ghost use Rattle.std.specs.Prelude.{map};
+ghost use Rattle.serde_json.specs.View.{view};
+ghost use Rattle.tui_json.specs.Refusals.{Gives};
 ghost use Rattle.tui_panes_run.specs.Changes.{change_data, change_in, changes_in, in_change, leaf_number};
 ghost use Rattle.tui_panes_run.specs.declared.change_field.ChangeField.TheVariants as changing;
 
 use crate::change_field::ChangeField;
+use crate::counts::Counts;
 use crate::field::PaneField;
 use crate::item::read_item;
-use crate::object::Object;
 use crate::refusal::PanesRefusal;
 use serde_json::Value;
 use std::alloc::Global;
-use tui_json::{Counted, Fields, InputError, optional, required};
+use tui_json::{Counted, Fields, InputError, Numbered, Object, each_numbered, optional, required};
 use tui_scene::Item;
 
 /// A widget that is put in the place of a leaf's.
@@ -24,54 +24,46 @@ pub(crate) struct Change<'v> {
     pub(crate) item: Item<'v>,
 }
 
-/// The changes of an input with so many leaves; none where they are absent or null.
+/// The changes of an input with these leaves; none where they are absent or null.
 #[tactic(auto, unfolding(crate::specs::Changes::changes_in))]
 pub(crate) fn read_changes<'v>(
     alloc: Global,
-    leaves: usize,
+    counts: Counts,
     value: &'v Value,
 ) -> Result<Vec<Change<'v>>, InputError<PanesRefusal>>
-    requires { leaves ≤ 256 }
-    ensures { Gives (λ changes. map change_data changes.items) refused result (changes_in leaves (view value.now)) }
+    ensures { Gives (λ changes. map change_data changes.items) result (changes_in counts.leaves (view value.now)) }
 {
     let found: Option<Counted<'v, 0, 256>> = optional(alloc, None, PaneField::Changes, value)?;
     match found {
-        Some(Counted(values)) => read_each(alloc, leaves, values),
+        Some(Counted(values)) => each_numbered::<Change<'v>, ChangeField>(alloc, counts, values),
         None => Ok(Vec::new(alloc)),
     }
 }
 
-fn read_each<'v>(
-    alloc: Global,
-    leaves: usize,
-    values: &'v [Value],
-) -> Result<Vec<Change<'v>>, InputError<PanesRefusal>>
-    requires { leaves ≤ 256 }
-    ensures { Gives (λ changes. map change_data changes.items) refused result (numbered (change_in leaves) 0 (items_view values.now)) }
-{
-    let mut changes = Vec::with_capacity(alloc, values.len())?;
-    for (number, value) in values.iter().enumerate() {
-        changes.push(read_change(alloc, leaves, number, value)?)?;
-    }
-    Ok(changes)
-}
+impl<'v> Numbered<'v, ChangeField> for Change<'v> {
+    ghost use Rattle.tui_panes_run.specs.Changes.{ChangeData};
 
-/// The change of this number.
-#[tactic(auto, unfolding(crate::specs::Changes::change_in))]
-fn read_change<'v>(
-    alloc: Global,
-    leaves: usize,
-    number: usize,
-    value: &'v Value,
-) -> Result<Change<'v>, InputError<PanesRefusal>>
-    requires few { leaves ≤ 256 }
-    requires within { number < 2 ^ 63 }
-    ensures { Gives change_data refused result (change_in leaves number (view value.now)) }
-{
-    let leaf = read_place(alloc, leaves, value)?;
-    let Object(item) = required(alloc, None, ChangeField::Item, value)?;
-    let item = read_item(alloc, leaves + number, item)?;
-    Ok(Change { leaf, item })
+    /// The leaves that a change may name.
+    type Known = Counts;
+
+    ghost Seen = { ChangeData };
+
+    ghost seen = { change_data };
+
+    ghost tests = { λ counts. change_in counts.leaves };
+
+    #[tactic(auto, unfolding(crate::specs::Changes::change_in))]
+    fn read(
+        alloc: Global,
+        counts: Counts,
+        number: usize,
+        value: &'v Value,
+    ) -> Result<Change<'v>, InputError<PanesRefusal>> {
+        let leaf = read_place(alloc, counts.leaves, value)?;
+        let Object(item) = required(alloc, None, ChangeField::Item, value)?;
+        let item = read_item(alloc, counts.leaves + number, item)?;
+        Ok(Change { leaf, item })
+    }
 }
 
 /// The number of a leaf, of which there are so many.
@@ -80,12 +72,12 @@ fn read_place(
     leaves: usize,
     value: &Value,
 ) -> Result<usize, InputError<PanesRefusal>>
-    ensures { Gives (λ leaf. leaf) refused result (in_change (leaf_number leaves) changing.Leaf (view value.now)) }
+    ensures { Gives (λ leaf. leaf) result (in_change (leaf_number leaves) changing.Leaf (view value.now)) }
 {
     let leaf: u64 = required(alloc, None, ChangeField::Leaf, value)?;
     if leaf < leaves as u64 {
         Ok(leaf as usize)
     } else {
-        Err(ChangeField::Leaf.error(None))
+        Err(InputError::Refused(ChangeField::Leaf.refusal(None)))
     }
 }

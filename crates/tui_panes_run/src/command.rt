@@ -6,7 +6,7 @@ ghost use Rattle.tui_panes_lib.specs.Levels.{levels};
 ghost use Rattle.tui_panes_run.specs.Found.{IsFound};
 ghost use Rattle.tui_panes_run.specs.Input.{input_data};
 ghost use Rattle.tui_panes_run.specs.Rules.{IsWritten};
-ghost use Rattle.tui_panes_run.specs.Shown.{IsShown, leaves_of};
+ghost use Rattle.tui_panes_run.specs.Shown.{ArePanesShown, leaves_of};
 
 use crate::finding::{leaf_in, put_leaf};
 use crate::input::{Input, read_input};
@@ -16,8 +16,8 @@ use crate::screen::{drawn, placed};
 use serde_json::Value;
 use std::alloc::Global;
 use tui_cells::Position;
-use tui_json::InputError;
-use tui_port::{Sink, WriteFault, write_screen};
+use tui_outside::{Sink, WriteFault};
+use tui_print::write_screen;
 use tui_program::{Job, Leftovers, Numerals, Reader, Stop, are_none, is_word, numbers_after};
 
 /// A command of the program. Each reads a tree of panes and changes.
@@ -58,11 +58,11 @@ impl Reader for PanesCommand {
 }
 
 impl Job for PanesCommand {
-    ghost use Rattle.tui_panes_run.specs.Rules.{panes_reading};
+    ghost use Rattle.tui_panes_run.specs.Rules.{panes_job};
 
     type Refusal = PanesRefusal;
 
-    ghost reading = { panes_reading };
+    ghost job_rules = { panes_job };
 
     fn answer<K: Sink>(
         &self,
@@ -71,11 +71,8 @@ impl Job for PanesCommand {
         sink: &mut K,
         leftovers: Leftovers,
     ) -> Result<(), Stop<PanesRefusal>> {
-        match read_input(alloc, value) {
-            Ok(input) => write(*self, alloc, input, sink, leftovers),
-            Err(InputError::Refused(refusal)) => Err(Stop::Refused(refusal)),
-            Err(InputError::NoMemory) => Err(Stop::NoMemory),
-        }
+        let input = read_input(alloc, value)?;
+        write(*self, alloc, input, sink, leftovers)
     }
 
     fn refuse<K: Sink>(&self, refusal: PanesRefusal, sink: &mut K) -> Result<(), WriteFault> {
@@ -110,7 +107,7 @@ fn show<K: Sink>(
 ) -> Result<(), Stop<PanesRefusal>>
     requires depth { levels (input_data input).root ≤ 32 }
     requires leaves { All (λ c. c.leaf < length (leaves_of (input_data input))) (input_data input).changes }
-    ensures { AnswersWith (IsShown order (input_data input.entry)) nothing no_refusal (K.told sink.old) (K.told sink.new) result }
+    ensures { AnswersWith (ArePanesShown order (input_data input.entry)) nothing no_refusal (K.told sink.old) (K.told sink.new) result }
 {
     let screen = drawn(alloc, input, order)?;
     write_screen(&screen.buffer, screen.panes.scene(), sink)?;

@@ -4,7 +4,7 @@ use crate::field::PaneField;
 use crate::refusal::PanesRefusal;
 use std::process::ExitCode;
 use tui_program::{Broken, Ending, Written};
-use tui_schema::Field;
+use tui_schema::{BadField, Field};
 
 /// How a run ends. Only `Ok` has written the output whole; the endings from `Usage` to `BadField` have written one line that says so.
 #[derive(Clone, Copy, Debug, PartialEq, Eq)]
@@ -52,7 +52,7 @@ impl From<Ending<PanesRefusal>> for PanesEnded {
             Ending::Written(Written::Refused(PanesRefusal::BadPane { pane, field })) => {
                 PanesEnded::BadPane { pane, field }
             }
-            Ending::Written(Written::Refused(PanesRefusal::BadField { item, field })) => {
+            Ending::Written(Written::Refused(PanesRefusal::BadField(BadField { item, field }))) => {
                 PanesEnded::BadField { item, field }
             }
             Ending::Broken(Broken::ReadFault) => PanesEnded::ReadFault,

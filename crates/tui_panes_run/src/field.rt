@@ -1,7 +1,7 @@
 //! The fields of the input and of its panes.
 
 use crate::refusal::PanesRefusal;
-use tui_json::{Fields, InputError};
+use tui_json::Fields;
 
 /// A field of the input or of a pane in JSON.
 #[derive(Clone, Copy, Debug, PartialEq, Eq)]
@@ -42,32 +42,22 @@ impl PaneField {
 }
 
 impl Fields for PaneField {
-    ghost use Rattle.tui_json.specs.Refusals.{refused};
     ghost use Rattle.tui_panes_run.specs.Refusals.{bad_pane, field_name};
-    ghost use Rattle.tui_panes_run.specs.declared.refusal.PanesRefusal.{PanesRefusal};
 
-    type Error = InputError<PanesRefusal>;
-
-    ghost Refusal = { PanesRefusal };
+    type Refusal = PanesRefusal;
 
     ghost key = { field_name };
 
     ghost refusal = { bad_pane };
 
-    ghost refused = { refused };
-
     fn key(&self) -> &'static str {
         self.name()
     }
 
-    fn error(self, at: Option<usize>) -> InputError<PanesRefusal> {
-        InputError::Refused(PanesRefusal::BadPane {
+    fn refusal(self, at: Option<usize>) -> PanesRefusal {
+        PanesRefusal::BadPane {
             pane: at,
             field: self,
-        })
-    }
-
-    fn no_memory() -> InputError<PanesRefusal> {
-        InputError::NoMemory
+        }
     }
 }

@@ -1,11 +1,11 @@
 //! Which leaf stands at a position, and the line that says so.
 
-ghost use Rattle.tui_port.specs.Causes.{Writes};
+ghost use Rattle.tui_outside.specs.Causes.{Writes};
 ghost use Rattle.tui_panes_run.specs.Found.{IsLeafAt, leaf_line};
 
 use tui_cells::Position;
+use tui_outside::{Print, Sink, WriteFault, put_all};
 use tui_panes_lib::Panes;
-use tui_port::{Print, Sink, WriteFault, put_all};
 
 /// The number of the leaf whose rectangle has a position, or none.
 #[tactic(auto, using(crate::proofs::Holding::holds))]

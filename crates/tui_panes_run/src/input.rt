@@ -1,18 +1,17 @@
 //! The input.
 
 ghost use Rattle.serde_json.specs.View.{view};
-ghost use Rattle.tui_json.specs.Refusals.{Gives, refused};
+ghost use Rattle.tui_json.specs.Refusals.{Gives};
 ghost use Rattle.tui_panes_run.specs.Input.{input_data, input_of, size_in};
 
 use crate::change::{Change, read_changes};
 use crate::counts::Counts;
 use crate::field::PaneField;
-use crate::member::read_member;
 use crate::refusal::PanesRefusal;
 use crate::tree::read_pane;
 use serde_json::Value;
 use std::alloc::Global;
-use tui_json::{InputError, Within, required};
+use tui_json::{Fields, InputError, Within, any_member, required};
 use tui_panes_lib::Pane;
 
 /// So many levels may stand below the root.
@@ -39,16 +38,12 @@ pub(crate) fn read_input<'v>(
     alloc: Global,
     value: &'v Value,
 ) -> Result<Input<'v>, InputError<PanesRefusal>>
-    ensures { Gives input_data refused result (input_of (view value.now)) }
+    ensures { Gives input_data result (input_of (view value.now)) }
 {
     let size = read_size(alloc, value)?;
-    let absent = PanesRefusal::BadPane {
-        pane: None,
-        field: PaneField::Root,
-    };
-    let root = read_member(value, "root", absent)?;
+    let root = any_member(value, "root", PaneField::Root.refusal(None))?;
     let (root, counts) = read_pane(alloc, ROOM, root, Counts::none())?;
-    let changes = read_changes(alloc, counts.leaves, value)?;
+    let changes = read_changes(alloc, counts, value)?;
     Ok(Input {
         size,
         root,
@@ -58,7 +53,7 @@ pub(crate) fn read_input<'v>(
 
 #[tactic(auto, unfolding(crate::specs::Input::size_in))]
 fn read_size(alloc: Global, value: &Value) -> Result<Size, InputError<PanesRefusal>>
-    ensures { Gives (λ size. size) refused result (size_in (view value.now)) }
+    ensures { Gives (λ size. size) result (size_in (view value.now)) }
 {
     let Within(width): Within<1, 1000> = required(alloc, None, PaneField::Width, value)?;
     let Within(height): Within<1, 1000> = required(alloc, None, PaneField::Height, value)?;

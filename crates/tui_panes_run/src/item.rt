@@ -1,17 +1,16 @@
 //! The widgets of leaves and changes.
 
 ghost use Rattle.serde_json.specs.View.{view};
-ghost use Rattle.tui_json.specs.Refusals.{Gives, refused};
+ghost use Rattle.tui_json.specs.Refusals.{Gives};
 ghost use Rattle.tui_scene.specs.Item.{item_data};
 ghost use Rattle.tui_panes_run.specs.Widgets.{widget_in};
 
 use crate::refusal::PanesRefusal;
 use serde_json::Value;
 use std::alloc::Global;
-use tui_cells::Rect;
 use tui_json::InputError;
 use tui_scene::Item;
-use tui_schema::{SceneError, item_of};
+use tui_schema::item_without_area;
 
 /// The widget that a value is. Its area is that of its leaf, which is known once the tree is. It is refused at the first of its
 /// fields that is missing or not of its kind, with this number.
@@ -20,19 +19,13 @@ pub(crate) fn read_item<'v>(
     number: usize,
     value: &'v Value,
 ) -> Result<Item<'v>, InputError<PanesRefusal>>
-    ensures { Gives item_data refused result (widget_in number (view value.now)) }
+    ensures { Gives item_data result (widget_in number (view value.now)) }
 {
-    let no_area = Rect {
-        x: 0,
-        y: 0,
-        width: 0,
-        height: 0,
-    };
-    match item_of(alloc, value, number, no_area) {
-        Ok(placed) => Ok(placed.item),
-        Err(SceneError::BadField { item, field }) => {
-            Err(InputError::Refused(PanesRefusal::BadField { item, field }))
+    match item_without_area(alloc, value, number) {
+        Ok(item) => Ok(item),
+        Err(InputError::Refused(refusal)) => {
+            Err(InputError::Refused(PanesRefusal::BadField(refusal)))
         }
-        Err(SceneError::NoMemory) => Err(InputError::NoMemory),
+        Err(InputError::NoMemory) => Err(InputError::NoMemory),
     }
 }

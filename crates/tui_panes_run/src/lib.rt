@@ -11,8 +11,6 @@ mod field;
 mod finding;
 mod input;
 mod item;
-mod member;
-mod object;
 mod order;
 mod program;
 mod refusal;

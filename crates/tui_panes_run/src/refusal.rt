@@ -1,12 +1,12 @@
 //! What is refused.
 
-ghost use Rattle.tui_port.specs.Causes.{Writes};
+ghost use Rattle.tui_outside.specs.Causes.{Writes};
 ghost use Rattle.tui_panes_run.specs.Refusals.{refusal_line};
 
 use crate::field::PaneField;
-use tui_port::{Sink, WriteFault};
+use tui_outside::{Sink, WriteFault};
 use tui_program::put_refused_in_scene;
-use tui_schema::Field;
+use tui_schema::BadField;
 
 /// Why the program makes no panes of an input in JSON.
 #[derive(Clone, Copy, Debug, PartialEq, Eq)]
@@ -19,10 +19,7 @@ pub enum PanesRefusal {
     },
     /// A field of the widget of this number is missing or of the wrong kind. The widget of a leaf has the leaf's number, from 0; that
     /// of a change the number of leaves and the change's, from 0.
-    BadField {
-        item: Option<usize>,
-        field: Field,
-    },
+    BadField(BadField),
 }
 
 /// Writes the line of a refusal. `WriteFault`: the sink has taken the first bytes, but not all of them. Takes no memory.
@@ -36,7 +33,7 @@ pub(crate) fn put_refusal<K: Sink>(refusal: PanesRefusal, sink: &mut K) -> Resul
             field.name(),
             sink,
         ),
-        PanesRefusal::BadField { item, field } => put_refused_in_scene(
+        PanesRefusal::BadField(BadField { item, field }) => put_refused_in_scene(
             "item",
             item,
             field.name(),

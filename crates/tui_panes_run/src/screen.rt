@@ -12,7 +12,7 @@ ghost use Rattle.tui_panes_lib.specs.Pane.{pane_data};
 ghost use Rattle.tui_panes_run.specs.Changes.{change_data};
 ghost use Rattle.tui_panes_run.specs.Input.{input_data};
 ghost use Rattle.tui_panes_run.specs.Order.{numbers_of};
-ghost use Rattle.tui_panes_run.specs.Shown.{AreChanged, IsDrawn, leaves_of, screen_area};
+ghost use Rattle.tui_panes_run.specs.Shown.{AreChanged, ArePanesDrawn, leaves_of, screen_area};
 
 use crate::change::Change;
 use crate::input::{Input, Size};
@@ -45,7 +45,7 @@ pub(crate) fn placed<'v>(alloc: Global, size: Size, root: Pane<'v>) -> Mem<Panes
 pub(crate) fn drawn<'v>(alloc: Global, input: Input<'v>, order: Order) -> Mem<Screen<'v>>
     requires depth { levels (input_data input).root ≤ 32 }
     requires leaves { All (λ c. c.leaf < length (leaves_of (input_data input))) (input_data input).changes }
-    ensures { IfOk result (λ screen. IsDrawn (numbers_of order (length (leaves_of (input_data input.entry)))) (screen_area (input_data input.entry))
+    ensures { IfOk result (λ screen. ArePanesDrawn (numbers_of order (length (leaves_of (input_data input.entry)))) (screen_area (input_data input.entry))
         (leaves_of (input_data input.entry)) (input_data input.entry).changes screen.panes.leaves screen.buffer) }
 {
     let Input {

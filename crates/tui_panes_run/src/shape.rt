@@ -1,14 +1,14 @@
 //! How a split is cut.
 
 ghost use Rattle.serde_json.specs.View.{view};
-ghost use Rattle.tui_json.specs.Refusals.{Gives, refused};
+ghost use Rattle.tui_json.specs.Refusals.{Gives};
 ghost use Rattle.tui_panes_run.specs.Tree.{shape_in};
 
 use crate::field::PaneField;
 use crate::refusal::PanesRefusal;
 use serde_json::Value;
 use std::alloc::Global;
-use tui_json::{InputError, optional};
+use tui_json::{InputError, optional, optional_named};
 use tui_layout::{Direction, Flex};
 
 /// How a split is cut, but for the sizes of its parts.
@@ -26,12 +26,12 @@ pub(crate) fn read_shape(
     number: usize,
     value: &Value,
 ) -> Result<Shape, InputError<PanesRefusal>>
-    ensures { Gives (λ shape. shape) refused result (shape_in number (view value.now)) }
+    ensures { Gives (λ shape. shape) result (shape_in number (view value.now)) }
 {
     let at = Some(number);
-    let direction: Option<Direction> = optional(alloc, at, PaneField::Direction, value)?;
+    let direction: Option<Direction> = optional_named(alloc, at, PaneField::Direction, value)?;
     let spacing: Option<u16> = optional(alloc, at, PaneField::Spacing, value)?;
-    let flex: Option<Flex> = optional(alloc, at, PaneField::Flex, value)?;
+    let flex: Option<Flex> = optional_named(alloc, at, PaneField::Flex, value)?;
     Ok(Shape {
         direction: direction.unwrap_or(Direction::Horizontal),
         spacing: spacing.unwrap_or(0),

@@ -2,7 +2,7 @@
 
 ghost use Rattle.std.specs.Prelude.{◌-◌, ◌<◌, ◌≡◌, IsOk};
 ghost use Rattle.serde_json.specs.View.{view, items_view};
-ghost use Rattle.tui_json.specs.Refusals.{Gives, refused};
+ghost use Rattle.tui_json.specs.Refusals.{Gives};
 ghost use Rattle.tui_scene.specs.Item.{item_data};
 ghost use Rattle.tui_panes_lib.specs.Pane.{pane_data, parts_of};
 ghost use Rattle.tui_panes_run.specs.Counts.{counts_data};
@@ -11,13 +11,11 @@ ghost use Rattle.tui_panes_run.specs.Tree.{leaf_in, lone_in, pane_in, part_in, p
 use crate::counts::{Counts, MOST_PANES};
 use crate::field::PaneField;
 use crate::item::read_item;
-use crate::member::read_member;
-use crate::object::{Object, Objects};
 use crate::refusal::PanesRefusal;
 use crate::shape::{Shape, read_shape};
 use serde_json::Value;
 use std::alloc::Global;
-use tui_json::{Fields, InputError, required};
+use tui_json::{Fields, InputError, Object, Objects, any_member, required};
 use tui_layout::Constraint;
 use tui_panes_lib::{Pane, Part};
 use tui_scene::Item;
@@ -32,7 +30,7 @@ pub(crate) fn read_pane<'v>(
     value: &'v Value,
     counts: Counts,
 ) -> Result<(Pane<'v>, Counts), InputError<PanesRefusal>>
-    ensures { Gives (λ read. (pane_data read.0, counts_data read.1)) refused result
+    ensures { Gives (λ read. (pane_data read.0, counts_data read.1)) result
         (pane_in room (counts_data counts) (view value.now)) }
 {
     match value.get("parts") {
@@ -47,7 +45,7 @@ fn read_lone<'v>(
     value: &'v Value,
     counts: Counts,
 ) -> Result<(Pane<'v>, Counts), InputError<PanesRefusal>>
-    ensures { Gives (λ read. (pane_data read.0, counts_data read.1)) refused result
+    ensures { Gives (λ read. (pane_data read.0, counts_data read.1)) result
         (lone_in (counts_data counts) (view value.now)) }
 {
     let item = read_leaf(alloc, value, counts)?;
@@ -61,7 +59,7 @@ fn read_leaf<'v>(
     value: &'v Value,
     counts: Counts,
 ) -> Result<Item<'v>, InputError<PanesRefusal>>
-    ensures gives { Gives item_data refused result (leaf_in (counts_data counts) (view value.now)) }
+    ensures gives { Gives item_data result (leaf_in (counts_data counts) (view value.now)) }
     ensures room { IsOk result → counts.panes < 256 }
 {
     let at = Some(counts.panes);
@@ -69,7 +67,7 @@ fn read_leaf<'v>(
     if counts.panes < MOST_PANES {
         read_item(alloc, counts.leaves, item)
     } else {
-        Err(PaneField::Item.error(at))
+        Err(InputError::Refused(PaneField::Item.refusal(at)))
     }
 }
 
@@ -81,7 +79,7 @@ fn read_split<'v>(
     value: &'v Value,
     counts: Counts,
 ) -> Result<(Pane<'v>, Counts), InputError<PanesRefusal>>
-    ensures { Gives (λ read. (pane_data read.0, counts_data read.1)) refused result
+    ensures { Gives (λ read. (pane_data read.0, counts_data read.1)) result
         (split_in (pane_in (room - 1)) room (counts_data counts) (view value.now)) }
 {
     let number = counts.panes;
@@ -110,7 +108,7 @@ fn read_values<'v>(
     value: &'v Value,
     counts: Counts,
 ) -> Result<&'v [Value], InputError<PanesRefusal>>
-    ensures gives { Gives (λ values. items_view values.now) refused result (values_in room (counts_data counts) (view value.now)) }
+    ensures gives { Gives (λ values. items_view values.now) result (values_in room (counts_data counts) (view value.now)) }
     ensures levels { IsOk result → 0 < room }
     ensures room { IsOk result → counts.panes < 256 }
 {
@@ -119,7 +117,7 @@ fn read_values<'v>(
     if 0 < room && counts.panes < MOST_PANES {
         Ok(values)
     } else {
-        Err(PaneField::Parts.error(at))
+        Err(InputError::Refused(PaneField::Parts.refusal(at)))
     }
 }
 
@@ -132,7 +130,7 @@ fn read_parts<'v>(
     values: &'v [Value],
     counts: Counts,
 ) -> Result<(Vec<Part<'v>>, Counts), InputError<PanesRefusal>>
-    ensures { Gives (λ read. (parts_of read.0.items, counts_data read.1)) refused result
+    ensures { Gives (λ read. (parts_of read.0.items, counts_data read.1)) result
         (parts_in (pane_in room) number (counts_data counts) (items_view values.now)) }
 {
     let mut parts = Vec::with_capacity(alloc, values.len())?;
@@ -154,15 +152,12 @@ fn read_part<'v>(
     value: &'v Value,
     counts: Counts,
 ) -> Result<(Part<'v>, Counts), InputError<PanesRefusal>>
-    ensures { Gives (λ read. ((read.0.size, pane_data read.0.pane), counts_data read.1)) refused result
+    ensures { Gives (λ read. ((read.0.size, pane_data read.0.pane), counts_data read.1)) result
         (part_in (pane_in room) number (counts_data counts) (view value.now)) }
 {
     let size: Constraint = required(alloc, Some(number), PaneField::Size, value)?;
-    let absent = PanesRefusal::BadPane {
-        pane: Some(counts.panes),
-        field: PaneField::Item,
-    };
-    let value = read_member(value, "pane", absent)?;
+    let absent = PaneField::Item.refusal(Some(counts.panes));
+    let value = any_member(value, "pane", absent)?;
     let (pane, counts) = read_pane(alloc, room, value, counts)?;
     Ok((Part { size, pane }, counts))
 }

@@ -7,20 +7,20 @@ use Rattle.tui_text.specs.Grapheme.{Glyph, glyph_of, glyph_width}
 use Rattle.tui_text.specs.declared.alignment.Alignment.{Alignment}
 use Rattle.tui_text.specs.declared.grapheme.StyledGrapheme.{StyledGrapheme}
 use Rattle.tui_para.specs.Hyphenation.{at_start, marked_from}
-use Rattle.tui_para.specs.Hyphens.{glyph_rule, with_cuts}
+use Rattle.tui_para.specs.Hyphens.{glyph_rule, with_splits}
 use Rattle.tui_para.specs.declared.wrap.Wrap.{Wrap}
 use Rattle.tui_para.specs.Answers.{both}
 use Rattle.tui_para.specs.Given.{IsGlyph, MayBe, MayGive, WillBe, WillGive, SourceGives, SourceReads, line_answers, source_answers}
-use Rattle.tui_para.specs.Lines.{GlyphLine, glyph_line, CutAll, IsFirstOf, PartsThenLines, LinesFrom, LinesOf, GivenUnlessDone, WrapsLine}
-use Rattle.tui_para.specs.Marked.{cuts_of, glyphs_of, part_of}
+use Rattle.tui_para.specs.Lines.{GlyphLine, glyph_line, LinesOfEach, IsFirstOf, PartsThenLines, LinesFrom, LinesOf, GivenUnlessDone, WrapsLine}
+use Rattle.tui_para.specs.Marked.{splits_of, glyphs_of, part_of}
 use Rattle.tui_para.specs.Wrapped.{WrapsKept, not_wider}
-use Rattle.tui_para.specs.Wrapping.{FindsLine, FindsPart, PartsWith, WrapperCuts, glyphs_from, wrapper_answers}
+use Rattle.tui_para.specs.Wrapping.{FindsLine, FindsPart, PartsWith, WrapperLines, glyphs_from, wrapper_answers}
 use Rattle.tui_para.specs.declared.wrapping.part.Part.{Part}
 use Rattle.tui_para.specs.declared.wrapping.text_line.TextLine.{TextLine}
 use Rattle.tui_para.specs.declared.wrapper.WordWrapper.{WordWrapper}
 use Rattle.tui_para.proofs.Answering.{Gave, Gave-beside, Gave-both, Gave-none, Gave-then, all_may, all_will, line_gave, source_ended, source_gave, will_stop}
 use Rattle.tui_para.proofs.Lending.{end_first, first_along, first_from, none_before, part_first, same_lists}
-use Rattle.tui_para.proofs.WithCuts.{marked_is, wraps_some}
+use Rattle.tui_para.proofs.WithSplits.{marked_is, wraps_some}
 use Rattle.tui_para.proofs.PartsRead.{no_parts}
 
 pub if_ok : {A E : Type 0} (P Q : A → Type 0) (r : Result A E) → ((x : A) → P x → Q x) → IfOk r P → IfOk r Q
@@ -32,28 +32,28 @@ at_size : (K : ℕ → Wrap → Type 0) (v w : ℕ) (s t : Wrap) → v ≡ w →
 at_size K v w s t e f k = subst (λ b. K v b) (sym f) (subst (λ n. K n t) (sym e) k)
 
 -- the lines of a text line of which nothing was read
-module _ {I : Type 0} (s : TextLine I) (w : ℕ) (way : Wrap) (a : Alignment) (empty : cuts_of s.line ≡ []) (start : s.line.hyphenation ≡ at_start s.wrap.hyphens) (new : s.is_new ≡ true) (width : s.width ≡ w) (ways : s.wrap ≡ way)
+module _ {I : Type 0} (s : TextLine I) (w : ℕ) (way : Wrap) (a : Alignment) (empty : splits_of s.line ≡ []) (start : s.line.hyphenation ≡ at_start s.wrap.hyphens) (new : s.is_new ≡ true) (width : s.width ≡ w) (ways : s.wrap ≡ way)
     (glyphs : List Glyph) where
-  unread : glyphs_from s s.place glyphs ≡ with_cuts s.wrap.hyphens [] (not_wider glyph_width s.width glyphs)
+  unread : glyphs_from s s.place glyphs ≡ with_splits s.wrap.hyphens [] (not_wider glyph_width s.width glyphs)
   unread =
       let left = marked_from s.line.hyphenation (not_wider glyph_width s.width glyphs) in
       ap (λ k. drop s.place k ++ left) empty ∙ (ap (λ k. k ++ left) (drop_all s.place [] (omega arith))
       ∙ (ap (λ b. marked_from b (not_wider glyph_width s.width glyphs)) start ∙ marked_is s.wrap.hyphens (not_wider glyph_width s.width glyphs)))
 
   abbrev Wraps : List (List (Glyph × Bool)) → ℕ → Wrap → Type 0
-  Wraps parts n k = WrapsKept (glyph_rule n k) (with_cuts k.hyphens [] (not_wider glyph_width n glyphs)) parts
+  Wraps parts n k = WrapsKept (glyph_rule n k) (with_splits k.hyphens [] (not_wider glyph_width n glyphs)) parts
 
   pub begun_wraps : (parts : List (List Glyph)) → PartsWith s glyphs parts ↔ WrapsLine w way (glyph_line a glyphs) parts
   begun_wraps parts = (
-    λ (cut, h, e). (
-      cut,
+    λ (split, h, e). (
+      split,
       ⊎_elim
-          (λ t. subst (λ n. Wraps cut n way) width (subst (λ k. Wraps cut s.width k) ways (subst (λ gs. WrapsKept (glyph_rule s.width s.wrap) gs cut) unread t.1)))
+          (λ t. subst (λ n. Wraps split n way) width (subst (λ k. Wraps split s.width k) ways (subst (λ gs. WrapsKept (glyph_rule s.width s.wrap) gs split) unread t.1)))
           (λ t. absurd (false≢true (sym t.0 ∙ new)))
           h,
       e,
     ),
-    λ (cut, h, e). (cut, inl (new, subst (λ gs. WrapsKept (glyph_rule s.width s.wrap) gs cut) (sym unread) (at_size (Wraps cut) s.width w s.wrap way width ways h)), e),
+    λ (split, h, e). (split, inl (new, subst (λ gs. WrapsKept (glyph_rule s.width s.wrap) gs split) (sym unread) (at_size (Wraps split) s.width w s.wrap way width ways h)), e),
   )
 
 -- what a source gives that has ended
@@ -75,8 +75,8 @@ module _ {O I : Type 0} (outer : O → Option (I × Alignment) → O → Type 0)
           is_part = f.is_part;
           first = first_from (wrapper_answers outer inner s) (wrapper_answers outer inner n) (λ x. (map glyph_of f.taken ++ x.0, x.1))
               (Gave-both (source_answers inner s.current.source) texts (source_answers inner t.source) texts (λ glyphs. map glyph_of f.taken ++ glyphs) (λ ts. ts) (source_gave inner s.current.source t.source f.taken f.reads) (Gave-none texts))
-              (WrapperCuts s) (WrapperCuts n) s.current.width t.width some width (Some (glyph_line s.alignment shown))
-              (λ x comes. at_size (λ v b. IsFirstOf (Some (glyph_line s.alignment shown)) (WrapperCuts s (map glyph_of f.taken ++ x.0, x.1)) (PartsThenLines (PartsWith t x.0) s.alignment (WrapsLine v b) x.1))
+              (WrapperLines s) (WrapperLines n) s.current.width t.width some width (Some (glyph_line s.alignment shown))
+              (λ x comes. at_size (λ v b. IsFirstOf (Some (glyph_line s.alignment shown)) (WrapperLines s (map glyph_of f.taken ++ x.0, x.1)) (PartsThenLines (PartsWith t x.0) s.alignment (WrapsLine v b) x.1))
               t.width s.current.width t.wrap s.current.wrap width way
               (part_first wraps (PartsWith s.current (map glyph_of f.taken ++ x.0)) (PartsWith t x.0) s.alignment shown x.1 (f.first x.0 (ended inner t x.0 (⊎_elim (λ h. inl h.0) (λ h. inr h.0) comes)))))
               (λ e. cc);
@@ -93,8 +93,8 @@ module _ {O I : Type 0} (outer : O → Option (I × Alignment) → O → Type 0)
           first = first_from (wrapper_answers outer inner s) (wrapper_answers outer inner n) (λ x. (map glyph_of f.taken ++ x.0, x.1))
               (Gave-both (source_answers inner s.current.source) (line_answers outer inner s.done s.lines) (source_answers inner t.source) (line_answers outer inner later u) (λ glyphs. map glyph_of f.taken ++ glyphs) (λ ts. ts)
               (source_gave inner s.current.source t.source f.taken f.reads) gave)
-              (WrapperCuts s) (WrapperCuts n) s.current.width t.width some width None
-              (λ x comes. at_size (λ v b. IsFirstOf None (WrapperCuts s (map glyph_of f.taken ++ x.0, x.1)) (PartsThenLines (PartsWith t x.0) s.alignment (WrapsLine v b) x.1))
+              (WrapperLines s) (WrapperLines n) s.current.width t.width some width None
+              (λ x comes. at_size (λ v b. IsFirstOf None (WrapperLines s (map glyph_of f.taken ++ x.0, x.1)) (PartsThenLines (PartsWith t x.0) s.alignment (WrapsLine v b) x.1))
               t.width s.current.width t.wrap s.current.wrap width way
               (subst (λ ts. IsFirstOf None (PartsThenLines (PartsWith s.current (map glyph_of f.taken ++ x.0)) s.alignment wraps ts) (PartsThenLines (PartsWith t x.0) s.alignment wraps ts)) (sym (⊎_elim (λ h. will_stop (MayGive outer (MayBe inner) u) later over x.1 h.1) (λ h. will_stop (WillGive outer (WillBe inner) u) later over x.1 h.1) comes))
               (end_first wraps (PartsWith s.current (map glyph_of f.taken ++ x.0)) (PartsWith t x.0) s.alignment s.alignment (f.first x.0 (ended inner t x.0 (⊎_elim (λ h. inl h.0) (λ h. inr h.0) comes))))))
@@ -102,7 +102,7 @@ module _ {O I : Type 0} (outer : O → Option (I × Alignment) → O → Type 0)
         }
 
   -- the first part of a text line that is begun where the one before is over
-  module _ (t b n : TextLine I) (u : O) (i : I) (a : Alignment) (over : FindsPart inner s.current t None) (source : b.source ≡ Some i) (empty : cuts_of b.line ≡ []) (start : b.line.hyphenation ≡ at_start b.wrap.hyphens) (new : b.is_new ≡ true)
+  module _ (t b n : TextLine I) (u : O) (i : I) (a : Alignment) (over : FindsPart inner s.current t None) (source : b.source ≡ Some i) (empty : splits_of b.line ≡ []) (start : b.line.hyphenation ≡ at_start b.wrap.hyphens) (new : b.is_new ≡ true)
       (b_width : b.width ≡ s.current.width) (b_trim : b.wrap ≡ s.current.wrap) (width : n.width ≡ s.current.width) (way : n.wrap ≡ s.current.wrap) (going : s.done ≡ false) (step : outer s.lines (Some (i, a)) u) where
     abbrev before : List Glyph
     before = map glyph_of over.taken ++ []
@@ -130,10 +130,10 @@ module _ {O I : Type 0} (outer : O → Option (I × Alignment) → O → Type 0)
               (Gave-beside now texts (both later rest) before (λ x. line x.0 ∷ x.1) (all_may inner s.current.source t.source over.taken over.reads (over.ends refl)) (all_will inner s.current.source t.source over.taken over.reads (over.ends refl))
               (Gave-then texts (both (source_answers inner (Some i)) rest) (both later rest) (λ z. glyph_line a z.0 ∷ z.1) (λ x. (map glyph_of f.taken ++ x.0, x.1)) (line_gave outer inner s.lines u s.done going i a step)
               (Gave-both (source_answers inner (Some i)) rest later rest (λ glyphs. map glyph_of f.taken ++ glyphs) (λ ts. ts) (source_gave inner (Some i) n.source f.taken reads) (Gave-none rest))))
-              (WrapperCuts s) (WrapperCuts m) s.current.width n.width some width (Some (glyph_line a shown))
-              (λ x comes. at_size (λ v d. IsFirstOf (Some (glyph_line a shown)) (WrapperCuts s (before, line x.0 ∷ x.1)) (PartsThenLines (PartsWith n x.0) a (WrapsLine v d) x.1))
+              (WrapperLines s) (WrapperLines m) s.current.width n.width some width (Some (glyph_line a shown))
+              (λ x comes. at_size (λ v d. IsFirstOf (Some (glyph_line a shown)) (WrapperLines s (before, line x.0 ∷ x.1)) (PartsThenLines (PartsWith n x.0) a (WrapsLine v d) x.1))
               n.width s.current.width n.wrap s.current.wrap width way
-              (first_along (Some (glyph_line a shown)) (CutAll wraps (line x.0 ∷ x.1)) (WrapperCuts s (before, line x.0 ∷ x.1)) (PartsThenLines (PartsWith n x.0) a wraps x.1) (PartsThenLines (PartsWith n x.0) a wraps x.1)
+              (first_along (Some (glyph_line a shown)) (LinesOfEach wraps (line x.0 ∷ x.1)) (WrapperLines s (before, line x.0 ∷ x.1)) (PartsThenLines (PartsWith n x.0) a wraps x.1) (PartsThenLines (PartsWith n x.0) a wraps x.1)
               (λ lines. let e = none_before wraps (PartsWith s.current before) s.alignment none_left (line x.0 ∷ x.1) lines in (e.1, e.0)) (same_lists (PartsThenLines (PartsWith n x.0) a wraps x.1))
               (part_first wraps (wraps (line x.0)) (PartsWith n x.0) a shown x.1
               (first_along (Some shown) (PartsWith b (map glyph_of f.taken ++ x.0)) (wraps (line x.0)) (PartsWith n x.0) (PartsWith n x.0) (begun (map glyph_of f.taken ++ x.0)) (same_lists (PartsWith n x.0))
@@ -142,17 +142,17 @@ module _ {O I : Type 0} (outer : O → Option (I × Alignment) → O → Type 0)
         }
 
 -- a wrapper that was just made
-pub fresh_wrapper : {I : Type 0} (s : TextLine I) (G : I → List Glyph → Type 0) (T : List GlyphLine → Type 0) (a : Alignment) (w : ℕ) (way : Wrap) → s.source ≡ None → s.is_new ≡ false → cuts_of s.line ≡ [] → s.width ≡ w → s.wrap ≡ way → (lines : List GlyphLine) →
+pub fresh_wrapper : {I : Type 0} (s : TextLine I) (G : I → List Glyph → Type 0) (T : List GlyphLine → Type 0) (a : Alignment) (w : ℕ) (way : Wrap) → s.source ≡ None → s.is_new ≡ false → splits_of s.line ≡ [] → s.width ≡ w → s.wrap ≡ way → (lines : List GlyphLine) →
     LinesFrom (λ (x : List Glyph × List GlyphLine). SourceGives G s.source x.0 × GivenUnlessDone false T x.1) (λ x. PartsThenLines (PartsWith s x.0) a (WrapsLine s.width s.wrap) x.1) s.width lines ↔ LinesOf T (WrapsLine w way) w lines
 fresh_wrapper s G T a w way source old empty width trims lines =
     at_size (λ v b. LinesFrom (λ (x : List Glyph × List GlyphLine). SourceGives G s.source x.0 × GivenUnlessDone false T x.1) (λ x. PartsThenLines (PartsWith s x.0) a (WrapsLine v b) x.1) v lines ↔ LinesOf T (WrapsLine w way) w lines)
     s.width w s.wrap way width trims (
       λ h. ⊎_elim
           (λ z. inl z)
-          (λ (some, (x, (gives, t), cut)). inr (some, (x.1, ⊎_elim (λ z. absurd (false≢true z.0)) (λ z. z.1) t, (none x.0 (source_ended G s.source x.0 gives source) x.1).0 cut)))
+          (λ (some, (x, (gives, t), each)). inr (some, (x.1, ⊎_elim (λ z. absurd (false≢true z.0)) (λ z. z.1) t, (none x.0 (source_ended G s.source x.0 gives source) x.1).0 each)))
           h,
-      λ h. ⊎_elim (λ z. inl z) (λ (some, (ts, t, cut)). inr (some, (([], ts), (subst (λ o. SourceGives G o []) (sym source) refl, inr (refl, t)), (none [] refl ts).1 cut))) h,
+      λ h. ⊎_elim (λ z. inl z) (λ (some, (ts, t, each)). inr (some, (([], ts), (subst (λ o. SourceGives G o []) (sym source) refl, inr (refl, t)), (none [] refl ts).1 each))) h,
     )
   where
-    none : (glyphs : List Glyph) → glyphs ≡ [] → (ts : List GlyphLine) → PartsThenLines (PartsWith s glyphs) a (WrapsLine w way) ts lines ↔ CutAll (WrapsLine w way) ts lines
+    none : (glyphs : List Glyph) → glyphs ≡ [] → (ts : List GlyphLine) → PartsThenLines (PartsWith s glyphs) a (WrapsLine w way) ts lines ↔ LinesOfEach (WrapsLine w way) ts lines
     none glyphs e ts = none_before (WrapsLine w way) (PartsWith s glyphs) a (no_parts s old empty glyphs e) ts lines

@@ -76,10 +76,6 @@ module _ {A : Type 0} (ends blank : A → Bool) (size : A → ℕ) where
   pub found_end : (xs : List A) (n place : ℕ) → 0 < place → ended (take (n + 1) xs) ≡ place → place ≡ broken_len ends blank n xs
   found_end xs n place some e = sym (ap (λ k. cond (nat_lt 0 k) k n) e ∙ cond-true (nat_lt 0 place) place n (grind arith))
 
-  pub no_end : (xs : List A) (n : ℕ) → ended (take (n + 1) xs) ≡ ended (take 1 xs) → n < length xs → n ≡ broken_len ends blank n xs
-  no_end [] n e near = absurd (omega arith)
-  no_end (x ∷ xs) n e near = sym (ap (λ k. cond (nat_lt 0 k) k n) e)
-
   and_false : (b : Bool) → (b && false) ≡ false
   and_false true = refl
   and_false false = refl

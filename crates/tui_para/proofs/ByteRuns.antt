@@ -13,10 +13,11 @@ use Rattle.tui_cells.specs.Layers.{KeptOutside, Layer, Painted, ascii_layers, at
 use Rattle.tui_cells.specs.Rect.{bottom_of, covers, right_of}
 use Rattle.tui_cells.proofs.Painting.{KeptOutside-weaker, Painted-kept, Painted-then}
 use Rattle.tui_cells.proofs.Spelling.{ascii_stays}
-use Rattle.tui_text.specs.Grapheme.{Glyph, glyph_of, width_of}
-use Rattle.tui_text.specs.Part.{is_printable}
+use Rattle.tui_clusters.specs.Width.{width_of}
+use Rattle.tui_text.specs.Grapheme.{Glyph, glyph_of}
+use Rattle.tui_clusters.specs.Printable.{is_printable}
 use Rattle.tui_text.specs.declared.grapheme.StyledGrapheme.{StyledGrapheme}
-use Rattle.tui_text.proofs.OneByte.{printable_width}
+use Rattle.tui_clusters.proofs.OneByte.{printable_width}
 use Rattle.tui_para.specs.Strokes.{byte_glyph, glyph_layers, run_layers}
 
 pub printable_is : (b : ℕ) → 32 ≤ b → b ≤ 126 → is_printable b ≡ true

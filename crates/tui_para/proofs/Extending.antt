@@ -54,7 +54,7 @@ module _ {A : Type 0} (rule : Rule A) where
         (⊎_elim
         (λ s. inr (inl (before-append rule.blank _ line after ys s)))
         (⊎_elim
-        (λ s. inr (inr (inl (before-append rule.cut _ line after ys s))))
+        (λ s. inr (inr (inl (before-append rule.split _ line after ys s))))
         (λ s. inr (inr (inr (record { one_piece = s.one_piece; too_wide = wider-append _ after ys s.too_wide }))))))
         h.breaks;
   }

@@ -9,7 +9,7 @@ use Rattle.std.proofs.lemmas.Bool.{cases_lt, le-leb, cond-true}
 use Rattle.tui_para.specs.Rule.{Rule, ends_piece}
 use Rattle.tui_para.specs.Wrapped.{up_to, next_piece, after_break, ends_in, no_blank, begins, IsLine, IsNextLine, HasLines, WrapsKept, not_wider, line_start}
 use Rattle.tui_para.specs.Division.{group_width, IsFewest, Spaced, SpacedWithin}
-use Rattle.tui_para.proofs.Unique.{same_next, cuts, ends_in-append}
+use Rattle.tui_para.proofs.Unique.{same_next, prefixes, ends_in-append}
 use Rattle.tui_para.proofs.Parts.{lines_some}
 
 -- a word ends in no blank
@@ -17,9 +17,9 @@ word_ends : {A : Type 0} (blank : A → Bool) (so_far : Bool) (v : List A) → (
 word_ends blank so_far [] n e = grind arith
 word_ends blank so_far (x ∷ v) n e = grind (arith, word_ends blank (not (blank x)) v)
 
--- no word is cut
-abbrev pub NoCuts : {A : Type 0} → Rule A → Type 0
-NoCuts {A} rule = (x : A) → rule.cut x ≡ false
+-- no word is split
+abbrev pub NoSplits : {A : Type 0} → Rule A → Type 0
+NoSplits {A} rule = (x : A) → rule.split x ≡ false
 
 -- the word in front of a blank
 word_front : {A : Type 0} (blank : A → Bool) (v rest : List A) → up_to blank v ≡ v → (rest ≡ []) ⊎ (begins blank rest ≡ true) → up_to blank (v ++ rest) ≡ v
@@ -27,13 +27,13 @@ word_front blank [] [] e h = refl
 word_front blank [] (x ∷ rest) e h = grind arith
 word_front blank (x ∷ v) rest e h = grind (arith, word_front blank v rest)
 
--- where no word is cut, a piece is a word
-piece_is_word : {A : Type 0} (rule : Rule A) → NoCuts rule → (xs : List A) → up_to (ends_piece rule) xs ≡ up_to rule.blank xs
+-- where no word is split, a piece is a word
+piece_is_word : {A : Type 0} (rule : Rule A) → NoSplits rule → (xs : List A) → up_to (ends_piece rule) xs ≡ up_to rule.blank xs
 piece_is_word rule never [] = refl
 piece_is_word rule never (x ∷ xs) = let no = never x in let i = piece_is_word rule never xs in grind arith
 
 -- what begins with a word begins with no blank
-next_piece_is : {A : Type 0} (rule : Rule A) → NoCuts rule → (xs : List A) → up_to rule.blank xs ≢ [] → next_piece rule xs ≡ up_to rule.blank xs
+next_piece_is : {A : Type 0} (rule : Rule A) → NoSplits rule → (xs : List A) → up_to rule.blank xs ≢ [] → next_piece rule xs ≡ up_to rule.blank xs
 next_piece_is rule never [] n = refl
 next_piece_is rule never (x ∷ xs) n = let i = piece_is_word rule never xs in grind arith
 
@@ -73,7 +73,7 @@ record Group {A : Type 0} (rule : Rule A) (room : ℕ) (words : List (List A)) (
   others : List (List A)
   line : List A
   after : List A
-  cut : words ≡ group ++ others
+  words_are : words ≡ group ++ others
   some : 0 < length group
   joined : xs ≡ line ++ after
   same : sum_by rule.size line ≡ group_width rule.size group
@@ -91,7 +91,7 @@ first_group rule room v [] xs s h = record {
   others = [];
   line = v;
   after = [];
-  cut = refl;
+  words_are = refl;
   some = omega arith;
   joined = s.1 ∙ sym (append-nil v);
   same = refl;
@@ -106,7 +106,7 @@ first_group rule room v (u ∷ vs) xs s h =
       others = u ∷ vs;
       line = v;
       after = s.1 ∷ s.2;
-      cut = refl;
+      words_are = refl;
       some = omega arith;
       joined = s.3;
       same = refl;
@@ -128,7 +128,7 @@ first_group rule room v (u ∷ vs) xs s h =
       others = g.others;
       line = v ++ s.1 ∷ g.line;
       after = g.after;
-      cut = ap (λ t. v ∷ t) g.cut;
+      words_are = ap (λ t. v ∷ t) g.words_are;
       some = omega arith;
       joined = s.3 ∙ (ap (λ t. v ++ s.1 ∷ t) g.joined ∙ sym (append_assoc v (s.1 ∷ g.line) g.after));
       same = omega arith;
@@ -142,7 +142,7 @@ break_at : {A : Type 0} (rule : Rule A) (room : ℕ) (b : A) (xs : List A) → r
 break_at rule room b xs h n = grind (arith, break_is rule (room - rule.size b) xs n)
 
 -- the first group is the first line
-group_is_line : {A : Type 0} (rule : Rule A) → NoCuts rule → (v : List A) (vs : List (List A)) (xs : List A) → Spaced rule.blank rule.size (v ∷ vs) xs → (g : Group rule rule.width (v ∷ vs) xs) → (rest : List A) × IsNextLine rule xs g.line rest × Spaced rule.blank rule.size g.others rest
+group_is_line : {A : Type 0} (rule : Rule A) → NoSplits rule → (v : List A) (vs : List (List A)) (xs : List A) → Spaced rule.blank rule.size (v ∷ vs) xs → (g : Group rule rule.width (v ∷ vs) xs) → (rest : List A) × IsNextLine rule xs g.line rest × Spaced rule.blank rule.size g.others rest
 group_is_line rule never v vs xs s g =
     let start = start_is rule.blank rule.trim xs (spaced_begins rule v vs xs s) in
     let same = g.same in
@@ -175,13 +175,13 @@ others_fit size w (p ∷ ps) qs (v ∷ words) e h = others_fit size w ps qs word
 record FirstLine {A : Type 0} (rule : Rule A) (words : List (List A)) (rest : List A) : Type 0 where
   group : List (List A)
   others : List (List A)
-  cut : words ≡ group ++ others
+  words_are : words ≡ group ++ others
   some : 0 < length group
   fits : group_width rule.size group ≤ rule.width
   spaced : Spaced rule.blank rule.size others rest
   stops : (others ≡ []) ⊎ ((next : List A) × (more : List (List A)) × (others ≡ next ∷ more) × (rule.width < group_width rule.size group + 1 + sum_by rule.size next))
 
-first_line : {A : Type 0} (rule : Rule A) → NoCuts rule → (v : List A) (vs : List (List A)) (xs line rest : List A) → Spaced rule.blank rule.size (v ∷ vs) xs → sum_by rule.size v ≤ rule.width → IsNextLine rule xs line rest → FirstLine rule (v ∷ vs) rest
+first_line : {A : Type 0} (rule : Rule A) → NoSplits rule → (v : List A) (vs : List (List A)) (xs line rest : List A) → Spaced rule.blank rule.size (v ∷ vs) xs → sum_by rule.size v ≤ rule.width → IsNextLine rule xs line rest → FirstLine rule (v ∷ vs) rest
 first_line rule never v vs xs line rest s h n =
     let g = first_group rule rule.width v vs xs s h in
     let i = group_is_line rule never v vs xs s g in
@@ -189,7 +189,7 @@ first_line rule never v vs xs line rest s h n =
     record {
       group = g.group;
       others = g.others;
-      cut = g.cut;
+      words_are = g.words_are;
       some = g.some;
       fits = g.fits;
       spaced = subst (Spaced rule.blank rule.size g.others) same.1 i.2;
@@ -231,17 +231,17 @@ groups_left size w g ys p q all words e c fits some stops =
     let b = back_is_narrow size ys (p ++ s.0 ∷ s.1) in
     let g_is = ap (group_width size) (s.2 ∙ append_assoc ys p (s.0 ∷ s.1)) in
     omega arith) stops)))
-    (cuts g all (ys ++ p) q whole)
+    (prefixes g all (ys ++ p) q whole)
 
 -- a division of these words and others before them has no fewer groups than these have lines
-least : {A : Type 0} (rule : Rule A) → NoCuts rule → (gs : List (List (List A))) (ys words : List (List A)) (xs : List A) (lines : List (List A)) → flat_map (λ g. g) gs ≡ ys ++ words → AllByRecursion (λ g. group_width rule.size g ≤ rule.width) gs → Spaced rule.blank rule.size words xs → WordsFit rule.size rule.width words → HasLines rule xs lines → length lines ≤ length gs
+least : {A : Type 0} (rule : Rule A) → NoSplits rule → (gs : List (List (List A))) (ys words : List (List A)) (xs : List A) (lines : List (List A)) → flat_map (λ g. g) gs ≡ ys ++ words → AllByRecursion (λ g. group_width rule.size g ≤ rule.width) gs → Spaced rule.blank rule.size words xs → WordsFit rule.size rule.width words → HasLines rule xs lines → length lines ≤ length gs
 least rule never gs ys words xs [] e f s k h = omega arith
 least rule never gs ys [] xs (l ∷ ls) e f s k h = absurd (h.0 s)
 least rule never [] ys (v ∷ vs) xs (l ∷ ls) e f s k h = absurd (not_nil ys v vs e)
 least rule never (g ∷ gs) ys (v ∷ vs) xs (l ∷ ls) e f s k h =
     let i = first_line rule never v vs xs l h.1 s k.0 h.2 in
-    let z = groups_left rule.size rule.width g ys i.group i.others (flat_map (λ t. t) gs) (v ∷ vs) e i.cut f.0 i.some i.stops in
-    let more = least rule never gs z.0 i.others h.1 ls z.1 f.1 i.spaced (others_fit rule.size rule.width i.group i.others (v ∷ vs) i.cut k) h.3 in
+    let z = groups_left rule.size rule.width g ys i.group i.others (flat_map (λ t. t) gs) (v ∷ vs) e i.words_are f.0 i.some i.stops in
+    let more = least rule never gs z.0 i.others h.1 ls z.1 f.1 i.spaced (others_fit rule.size rule.width i.group i.others (v ∷ vs) i.words_are k) h.3 in
     omega arith
 
 -- the lines divide the words
@@ -254,14 +254,14 @@ record Divided {A : Type 0} (size : A → ℕ) (w : ℕ) (words lines : List (Li
 spaced_some : {A : Type 0} (rule : Rule A) (v : List A) (vs : List (List A)) (xs : List A) → Spaced rule.blank rule.size (v ∷ vs) xs → xs ≢ []
 spaced_some rule v vs xs s = λ e. spaced_begins rule v vs xs s (ap (up_to rule.blank) e)
 
-divided : {A : Type 0} (rule : Rule A) → NoCuts rule → (words : List (List A)) (xs : List A) (lines : List (List A)) → Spaced rule.blank rule.size words xs → WordsFit rule.size rule.width words → HasLines rule xs lines → Divided rule.size rule.width words lines
+divided : {A : Type 0} (rule : Rule A) → NoSplits rule → (words : List (List A)) (xs : List A) (lines : List (List A)) → Spaced rule.blank rule.size words xs → WordsFit rule.size rule.width words → HasLines rule xs lines → Divided rule.size rule.width words lines
 divided rule never [] xs [] s k h = record { groups = []; in_order = refl; fit = tt; count = refl }
 divided rule never (v ∷ vs) xs [] s k h = absurd (spaced_some rule v vs xs s h)
 divided rule never [] xs (l ∷ ls) s k h = absurd (h.0 s)
 divided rule never (v ∷ vs) xs (l ∷ ls) s k h =
     let i = first_line rule never v vs xs l h.1 s k.0 h.2 in
-    let d = divided rule never i.others h.1 ls i.spaced (others_fit rule.size rule.width i.group i.others (v ∷ vs) i.cut k) h.3 in
-    record { groups = i.group ∷ d.groups; in_order = ap (λ t. i.group ++ t) d.in_order ∙ sym i.cut; fit = (i.fits, d.fit); count = ap suc d.count }
+    let d = divided rule never i.others h.1 ls i.spaced (others_fit rule.size rule.width i.group i.others (v ∷ vs) i.words_are k) h.3 in
+    record { groups = i.group ∷ d.groups; in_order = ap (λ t. i.group ++ t) d.in_order ∙ sym i.words_are; fit = (i.fits, d.fit); count = ap suc d.count }
 
 -- no grapheme of the text is wider than w
 word_kept : {A : Type 0} (size : A → ℕ) (w : ℕ) (v xs : List A) → sum_by size v ≤ w → not_wider size w xs ≡ xs → not_wider size w (v ++ xs) ≡ v ++ xs
@@ -283,7 +283,7 @@ all_are_kept rule (v ∷ u ∷ vs) xs p s k =
     rw s.3 (word_kept rule.size rule.width v (s.1 ∷ s.2) k.0 rest)
 
 -- the lines are a division of the words, and none has fewer groups
-pub fewest : {A : Type 0} (rule : Rule A) → NoCuts rule → (words : List (List A)) (xs : List A) (lines : List (List A)) → 0 < rule.width → SpacedWithin rule.blank rule.size rule.width words xs →
+pub fewest : {A : Type 0} (rule : Rule A) → NoSplits rule → (words : List (List A)) (xs : List A) (lines : List (List A)) → 0 < rule.width → SpacedWithin rule.blank rule.size rule.width words xs →
     WrapsKept rule (not_wider rule.size rule.width xs) lines → IsFewest rule.size words rule.width (length lines)
 fewest rule never [] xs lines p s h =
     let one : length lines ≡ 1 = ⊎_elim (λ n. ap length n.1) (λ n. absurd (n.0 (ap (not_wider rule.size rule.width) s.spaced))) h in

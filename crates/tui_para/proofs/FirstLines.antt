@@ -8,7 +8,7 @@ use Rattle.tui_text.specs.Grapheme.{Glyph, glyph_width}
 use Rattle.tui_para.specs.Rule.{Rule}
 use Rattle.tui_para.specs.Hyphenation.{marked_from}
 use Rattle.tui_para.specs.Hyphens.{glyph_rule}
-use Rattle.tui_para.specs.Marked.{cuts_of, glyphs_of}
+use Rattle.tui_para.specs.Marked.{splits_of, glyphs_of}
 use Rattle.tui_para.specs.Wrapped.{HasLines, IsNextLine, not_wider}
 use Rattle.tui_para.specs.Wrapping.{FirstLine, IsNextPlace, glyphs_from}
 use Rattle.tui_para.specs.declared.wrapping.breaking.Place.{Place}
@@ -39,16 +39,16 @@ next_of_all rule xs line ys next known n = ⊎_elim
     known
 
 module _ {I : Type 0} (s : TextLine I) (glyphs : List Glyph) where
-  first_empty : (p : Place) → p ≡ record { start = s.place; end = s.place; next = s.place; width = 0 } → s.is_new ≡ true → glyphs ≡ [] → drop s.place (cuts_of s.line) ≡ [] → FirstLine s p glyphs
+  first_empty : (p : Place) → p ≡ record { start = s.place; end = s.place; next = s.place; width = 0 } → s.is_new ≡ true → glyphs ≡ [] → drop s.place (splits_of s.line) ≡ [] → FirstLine s p glyphs
   first_empty p at new none gone =
       let empty : glyphs_from s s.place glyphs ≡ [] = ap (λ k. k ++ marked_from s.line.hyphenation (not_wider glyph_width s.width glyphs)) gone ∙ ap (λ k. marked_from s.line.hyphenation (not_wider glyph_width s.width k)) none in
       rw at (record {
         lends = λ rest h.
             let ends = no_lines (glyph_rule s.width s.wrap) _ rest empty h in
-            inl (new, inl (empty, ap (λ k. k ∷ rest) (between-nil s.place (cuts_of s.line)) ∙ ap (λ ks. [] ∷ ks) ends));
+            inl (new, inl (empty, ap (λ k. k ∷ rest) (between-nil s.place (splits_of s.line)) ∙ ap (λ ks. [] ∷ ks) ends));
         takes = λ parts h. ⊎_elim
             (λ t. ⊎_elim
-            (λ k. ([], k.1 ∙ sym (ap (λ l. l ∷ []) (between-nil s.place (cuts_of s.line))), empty))
+            (λ k. ([], k.1 ∙ sym (ap (λ l. l ∷ []) (between-nil s.place (splits_of s.line))), empty))
             (λ k. absurd (k.0 empty))
             t.1)
             (λ t. absurd (no_new t.0))
@@ -58,12 +58,12 @@ module _ {I : Type 0} (s : TextLine I) (glyphs : List Glyph) where
       no_new : s.is_new ≡ false → ⊥
       no_new e = cc
 
-  module _ (start end next width : ℕ) (l : s.place < length (cuts_of s.line))
-      (n : IsNextLine (glyph_rule s.width s.wrap) (drop s.place (cuts_of s.line)) (between start end (drop s.place (cuts_of s.line))) (drop next (drop s.place (cuts_of s.line))))
-      (known : (next < length (drop s.place (cuts_of s.line))) ⊎ (glyphs ≡ [])) where
+  module _ (start end next width : ℕ) (l : s.place < length (splits_of s.line))
+      (n : IsNextLine (glyph_rule s.width s.wrap) (drop s.place (splits_of s.line)) (between start end (drop s.place (splits_of s.line))) (drop next (drop s.place (splits_of s.line))))
+      (known : (next < length (drop s.place (splits_of s.line))) ⊎ (glyphs ≡ [])) where
     pub first_known : FirstLine s (record { start = s.place + start; end = s.place + end; next = s.place + next; width = width }) glyphs
     first_known =
-        let all = cuts_of s.line in
+        let all = splits_of s.line in
         let xs = drop s.place all in
         let ys = marked_from s.line.hyphenation (not_wider glyph_width s.width glyphs) in
         let line = between start end xs in
@@ -86,7 +86,7 @@ module _ {I : Type 0} (s : TextLine I) (glyphs : List Glyph) where
         }
 
 -- the place of the one empty line
-pub empty_place : {I : Type 0} (s : TextLine I) (p : Place) → p ≡ record { start = s.place; end = s.place; next = s.place; width = 0 } → s.is_new ≡ true → s.source ≡ None → drop s.place (cuts_of s.line) ≡ [] → IsNextPlace s p
+pub empty_place : {I : Type 0} (s : TextLine I) (p : Place) → p ≡ record { start = s.place; end = s.place; next = s.place; width = 0 } → s.is_new ≡ true → s.source ≡ None → drop s.place (splits_of s.line) ≡ [] → IsNextPlace s p
 empty_place s p at new ends gone = record {
   order = rw at (omega arith);
   within = rw at (s.within, s.within);

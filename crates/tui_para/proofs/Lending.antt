@@ -5,7 +5,7 @@ use Rattle.std.specs.Prelude.{◌↔◌, ◌⊎◌}
 use Rattle.tui_text.specs.Grapheme.{Glyph}
 use Rattle.tui_text.specs.declared.alignment.Alignment.{Alignment}
 use Rattle.tui_para.specs.Answers.{Answers}
-use Rattle.tui_para.specs.Lines.{GlyphLine, glyph_line, CutAll, IsFirst, IsFirstOf, PartsThenLines, LinesFrom, lines_from}
+use Rattle.tui_para.specs.Lines.{GlyphLine, glyph_line, LinesOfEach, IsFirst, IsFirstOf, PartsThenLines, LinesFrom, lines_from}
 use Rattle.tui_para.proofs.Answering.{Gave}
 
 -- what holds of the same lists
@@ -24,57 +24,57 @@ same_lists P xs = (λ h. h, λ h. h)
 
 module _ (R : GlyphLine → List (List Glyph) → Type 0) where
   -- where no part is left of the text line that was begun
-  pub none_before : (P : List (List Glyph) → Type 0) (a : Alignment) → ((parts : List (List Glyph)) → P parts ↔ (parts ≡ [])) → (ts lines : List GlyphLine) → PartsThenLines P a R ts lines ↔ CutAll R ts lines
+  pub none_before : (P : List (List Glyph) → Type 0) (a : Alignment) → ((parts : List (List Glyph)) → P parts ↔ (parts ≡ [])) → (ts lines : List GlyphLine) → PartsThenLines P a R ts lines ↔ LinesOfEach R ts lines
   none_before P a none ts lines = (
-    λ (parts, p, (rest, cut, e)). subst (CutAll R ts) (sym (e ∙ ap (λ ps. map (glyph_line a) ps ++ rest) ((none parts).0 p))) cut,
-    λ cut. ([], (none []).1 refl, (lines, cut, refl)),
+    λ (parts, p, (rest, each, e)). subst (LinesOfEach R ts) (sym (e ∙ ap (λ ps. map (glyph_line a) ps ++ rest) ((none parts).0 p))) each,
+    λ each. ([], (none []).1 refl, (lines, each, refl)),
   )
 
   -- one more part of it
   pub part_first : (P Q : List (List Glyph) → Type 0) (a : Alignment) (part : List Glyph) (ts : List GlyphLine) → IsFirstOf (Some part) P Q → IsFirstOf (Some (glyph_line a part)) (PartsThenLines P a R ts) (PartsThenLines Q a R ts)
   part_first P Q a part ts h = record {
-    lends = λ lines (parts, q, (rest, cut, e)). (part ∷ parts, h.lends parts q, (rest, cut, ap (λ k. glyph_line a part ∷ k) e));
-    takes = λ lines (parts, p, (rest, cut, e)).
+    lends = λ lines (parts, q, (rest, each, e)). (part ∷ parts, h.lends parts q, (rest, each, ap (λ k. glyph_line a part ∷ k) e));
+    takes = λ lines (parts, p, (rest, each, e)).
         let k = h.takes parts p in
-        (map (glyph_line a) k.0 ++ rest, e ∙ ap (λ ps. map (glyph_line a) ps ++ rest) k.1, (k.0, k.2, (rest, cut, refl)));
+        (map (glyph_line a) k.0 ++ rest, e ∙ ap (λ ps. map (glyph_line a) ps ++ rest) k.1, (k.0, k.2, (rest, each, refl)));
   }
 
   -- its end, where no text line comes after it
   pub end_first : (P Q : List (List Glyph) → Type 0) (a b : Alignment) → IsFirstOf None P Q → IsFirstOf None (PartsThenLines P a R []) (PartsThenLines Q b R [])
   end_first P Q a b h = record {
     lends = ([], h.lends, ([], refl, refl));
-    takes = λ lines (parts, p, (rest, cut, e)). (let k = h.takes parts p in (e ∙ (ap (λ ps. map (glyph_line a) ps ++ rest) k.0 ∙ cut), ([], k.1, ([], refl, refl))));
+    takes = λ lines (parts, p, (rest, each, e)). (let k = h.takes parts p in (e ∙ (ap (λ ps. map (glyph_line a) ps ++ rest) k.0 ∙ each), ([], k.1, ([], refl, refl))));
   }
 
 -- a line that is the first whatever the iterators give later is the first of what may come and of what comes in any case
-module _ {X Y : Type 0} (k : Answers X) (l : Answers Y) (back : Y → X) (gave : Gave k back l) (cuts : X → List GlyphLine → Type 0) (later : Y → List GlyphLine → Type 0) (w v : ℕ) (some : 0 < w) (same : v ≡ w) where
+module _ {X Y : Type 0} (k : Answers X) (l : Answers Y) (back : Y → X) (gave : Gave k back l) (lined : X → List GlyphLine → Type 0) (later : Y → List GlyphLine → Type 0) (w v : ℕ) (some : 0 < w) (same : v ≡ w) where
   some_later : 0 < v
   some_later = omega arith
 
-  came : (lines : List GlyphLine) → LinesFrom k.will cuts w lines → (y : Y) × l.will y × cuts (back y) lines
+  came : (lines : List GlyphLine) → LinesFrom k.will lined w lines → (y : Y) × l.will y × lined (back y) lines
   came lines h = ⊎_elim
       (λ z. let e = z.0 in absurd (omega arith))
-      (λ (p, (x, will, cut)). let (y, e, after) = gave.will x will in (y, after, subst (λ c. cuts c lines) e cut))
+      (λ (p, (x, will, each)). let (y, e, after) = gave.will x will in (y, after, subst (λ c. lined c lines) e each))
       h
 
-  pub first_from : (first : Option GlyphLine) → ((y : Y) → (l.may y ⊎ l.will y) → IsFirstOf first (cuts (back y)) (later y)) → (first ≡ None → (y : Y) × l.may y) → IsFirst first (lines_from k cuts w) (lines_from l later v)
+  pub first_from : (first : Option GlyphLine) → ((y : Y) → (l.may y ⊎ l.will y) → IsFirstOf first (lined (back y)) (later y)) → (first ≡ None → (y : Y) × l.may y) → IsFirst first (lines_from k lined w) (lines_from l later v)
   first_from None is ends =
       let (y, may) = ends refl in
       record {
         lends = inr (some, (back y, gave.may y may, (is y (inl may)).lends));
         takes = λ lines h.
-            let (u, after, cut) = came lines h in
-            let none = (is u (inr after)).takes lines cut in
+            let (u, after, each) = came lines h in
+            let none = (is u (inr after)).takes lines each in
             (none.0, inr (some_later, (u, after, none.1)));
       }
   first_from (Some line) is ends = record {
     lends = λ lines h. ⊎_elim
         (λ z. let e = z.0 in absurd (omega arith))
-        (λ (p, (y, may, cut)). inr (some, (back y, gave.may y may, (is y (inl may)).lends lines cut)))
+        (λ (p, (y, may, each)). inr (some, (back y, gave.may y may, (is y (inl may)).lends lines each)))
         h;
     takes = λ lines h.
-        let (u, after, cut) = came lines h in
-        let on = (is u (inr after)).takes lines cut in
+        let (u, after, each) = came lines h in
+        let on = (is u (inr after)).takes lines each in
         (on.0, on.1, inr (some_later, (u, after, on.2)));
   }
 

@@ -2,11 +2,11 @@ pub mod Unique
 pub mod Greedy
 mod Rows
 pub mod Mapped
-mod WithCuts
+mod WithSplits
 mod Zipped
 mod BrokenLines
-mod MarkedCuts
-pub mod WithoutCuts
+mod MarkedSplits
+pub mod WithoutSplits
 mod LinesBehind
 mod Filled
 mod Parts
@@ -15,10 +15,10 @@ mod Answering
 mod TruncatedOnce
 mod Reading
 mod LineCounts
-mod CutCounts
+mod SaturatedCounts
 mod TextLengths
 mod Fewest
-mod TextCut
+mod TextOnce
 mod ShowingRuns
 pub mod ShowingLines
 mod Painted
@@ -31,7 +31,7 @@ pub mod Extending
 mod FirstLines
 mod PartsRead
 mod Beginning
-mod CutLines
+mod TruncatedLines
 mod TextLends
 mod LeftOut
 pub mod LogoLight

@@ -181,7 +181,7 @@ after_end rule c x zs n h =
     (cases_Bool (ends_piece rule x))
 
 blank_ends : {A : Type 0} (rule : Rule A) (x : A) → rule.blank x ≡ true → ends_piece rule x ≡ true
-blank_ends rule x b = or_right (rule.cut x) (rule.blank x) b
+blank_ends rule x b = or_right (rule.split x) (rule.blank x) b
 
 pub step_counts : {A : Type 0} (rule : Rule A) (c : Counter) (x : A) (zs : List A) (n : ℕ) → rule.size x ≤ rule.width → Counts rule c (x ∷ zs) n →
     Counts rule (step rule.width rule.trim c (rule.size x) (ends_piece rule x) (rule.blank x)) zs n

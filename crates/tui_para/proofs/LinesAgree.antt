@@ -8,13 +8,13 @@ use Rattle.tui_para.specs.declared.wrap.Wrap.{Wrap}
 use Rattle.tui_para.specs.Answers.{Answers}
 use Rattle.tui_para.specs.Given.{MayGive, WillGive, IsGlyph, MayBe, WillBe, SourceGives}
 use Rattle.tui_para.specs.Lines.{GlyphLine, glyph_line, is_left, LinesFrom, TruncatesLine, GivenUnlessDone, WrapsLine}
-use Rattle.tui_para.specs.Hyphens.{Uncut, glyph_rule, uncut, wrap}
+use Rattle.tui_para.specs.Hyphens.{Unsplit, glyph_rule, unsplit, wrap}
 use Rattle.tui_para.specs.Truncated.{truncate}
 use Rattle.tui_para.specs.Wrapped.{IsTheOne}
-use Rattle.tui_para.specs.Wrapping.{LinesOfRest, TruncatorCuts, TruncatorMayLend, TruncatorWillLend, WrapperCuts, WrapperMayLend, WrapperWillLend, truncator_answers, wrapper_answers}
+use Rattle.tui_para.specs.Wrapping.{LinesOfRest, TruncatorLines, TruncatorMayLend, TruncatorWillLend, WrapperLines, WrapperMayLend, WrapperWillLend, truncator_answers, wrapper_answers}
 use Rattle.tui_para.specs.declared.truncator.LineTruncator.{LineTruncator}
 use Rattle.tui_para.specs.declared.wrapper.WordWrapper.{WordWrapper}
-use Rattle.tui_para.proofs.TextCut.{cut_once, truncates_only_to, wraps_only_to}
+use Rattle.tui_para.proofs.TextOnce.{each_once, truncates_only_to, wraps_only_to}
 use Rattle.tui_para.proofs.Unique.{same_kept, same_lines}
 
 module _ {S A B : Type 0} (gives : S → Option A → S → Type 0) (R T : A → B → Type 0) (agree : (x : A) (y z : B) → R x y → T x z → y ≡ z) where
@@ -50,39 +50,39 @@ rest_agrees is_new w way xs parts others h g = ⊎_elim
     (λ a. ⊎_elim (λ b. absurd (false≢true (sym a.0 ∙ b.0))) (λ b. same_lines (glyph_rule w way) parts others xs xs refl a.1 b.1) g)
     h
 
-parts_agree : (is_new : Bool) (w : ℕ) (way : Wrap) (xs : List (Glyph × Bool)) (parts others : List (List Glyph)) → Uncut (LinesOfRest is_new w way xs) parts → Uncut (LinesOfRest is_new w way xs) others → parts ≡ others
-parts_agree is_new w way xs parts others (cut, h, e) (sliced, g, f) = e ∙ (ap uncut (rest_agrees is_new w way xs cut sliced h g) ∙ sym f)
+parts_agree : (is_new : Bool) (w : ℕ) (way : Wrap) (xs : List (Glyph × Bool)) (parts others : List (List Glyph)) → Unsplit (LinesOfRest is_new w way xs) parts → Unsplit (LinesOfRest is_new w way xs) others → parts ≡ others
+parts_agree is_new w way xs parts others (split, h, e) (sliced, g, f) = e ∙ (ap unsplit (rest_agrees is_new w way xs split sliced h g) ∙ sym f)
 
--- lines that may come are those that come in any case, where this holds of what the iterators give, and that has one cut
-lines_agree : {X : Type 0} (k : Answers X) (cuts : X → List GlyphLine → Type 0) → ((x y : X) → k.may x → k.will y → x ≡ y) → ((x : X) (lines others : List GlyphLine) → cuts x lines → cuts x others → lines ≡ others) →
-    (w : ℕ) (lines others : List GlyphLine) → LinesFrom k.may cuts w lines → LinesFrom k.will cuts w others → lines ≡ others
-lines_agree k cuts agree once w lines others m v = ⊎_elim
+-- lines that may come are those that come in any case, where this holds of what the iterators give, and that has one list of lines
+lines_agree : {X : Type 0} (k : Answers X) (lined : X → List GlyphLine → Type 0) → ((x y : X) → k.may x → k.will y → x ≡ y) → ((x : X) (lines others : List GlyphLine) → lined x lines → lined x others → lines ≡ others) →
+    (w : ℕ) (lines others : List GlyphLine) → LinesFrom k.may lined w lines → LinesFrom k.will lined w others → lines ≡ others
+lines_agree k lined agree once w lines others m v = ⊎_elim
     (λ z. ⊎_elim (λ y. z.1 ∙ sym y.1) (λ y. let e = z.0 in let l = y.0 in absurd (omega arith)) v)
-    (λ (l, (x, may, cut)). ⊎_elim
+    (λ (l, (x, may, each)). ⊎_elim
     (λ y. let n = y.0 in absurd (omega arith))
-    (λ (p, (y, will, sliced)). once y lines others (subst (λ z. cuts z lines) (agree x y may will) cut) sliced)
+    (λ (p, (y, will, sliced)). once y lines others (subst (λ z. lined z lines) (agree x y may will) each) sliced)
     v)
     m
 
 module _ {O I : Type 0} (outer : O → Option (I × Alignment) → O → Type 0) (inner : I → Option StyledGrapheme → I → Type 0) where
   pub wrapper_agrees : (s : WordWrapper O I) (lines known : List GlyphLine) → WrapperMayLend outer inner s lines → WrapperWillLend outer inner s known → lines ≡ known
-  wrapper_agrees s = lines_agree (wrapper_answers outer inner s) (WrapperCuts s)
+  wrapper_agrees s = lines_agree (wrapper_answers outer inner s) (WrapperLines s)
       (λ x y may will. ap (λ k. (k, x.1)) (source_agrees inner s.current.source x.0 y.0 may.0 will.0) ∙ ap (λ k. (y.0, k)) (texts_agree outer inner s.done s.lines x.1 y.1 may.1 will.1))
       once s.current.width
     where
-      once : (x : List Glyph × List GlyphLine) (lines others : List GlyphLine) → WrapperCuts s x lines → WrapperCuts s x others → lines ≡ others
-      once x lines others (parts, p, (rest, cut, e)) (pieces, q, (more, sliced, d)) =
+      once : (x : List Glyph × List GlyphLine) (lines others : List GlyphLine) → WrapperLines s x lines → WrapperLines s x others → lines ≡ others
+      once x lines others (parts, p, (rest, each, e)) (pieces, q, (more, sliced, d)) =
           let w = s.current.width in
           let way = s.current.wrap in
-          let only = cut_once (WrapsLine w way) (λ t. wrap w way t.glyphs) (wraps_only_to w way) x.1 in
+          let only = each_once (WrapsLine w way) (λ t. wrap w way t.glyphs) (wraps_only_to w way) x.1 in
           e ∙ (ap (λ ps. map (glyph_line s.alignment) ps ++ rest) (parts_agree s.current.is_new w way _ parts pieces p q)
-          ∙ (ap (λ ls. map (glyph_line s.alignment) pieces ++ ls) (only rest cut ∙ sym (only more sliced)) ∙ sym d))
+          ∙ (ap (λ ls. map (glyph_line s.alignment) pieces ++ ls) (only rest each ∙ sym (only more sliced)) ∙ sym d))
 
   pub truncator_agrees : (s : LineTruncator O I) (lines known : List GlyphLine) → TruncatorMayLend outer inner s lines → TruncatorWillLend outer inner s known → lines ≡ known
-  truncator_agrees s = lines_agree (truncator_answers outer inner s) (TruncatorCuts s) (texts_agree outer inner s.done s.lines)
-      (λ ts lines others cut sliced.
-      let only = cut_once (TruncatesLine s.width s.offset) (λ t. truncate glyph_width s.width (is_left t.alignment) s.offset t.glyphs ∷ []) (truncates_only_to s.width s.offset) ts in
-      only lines cut ∙ sym (only others sliced))
+  truncator_agrees s = lines_agree (truncator_answers outer inner s) (TruncatorLines s) (texts_agree outer inner s.done s.lines)
+      (λ ts lines others each sliced.
+      let only = each_once (TruncatesLine s.width s.offset) (λ t. truncate glyph_width s.width (is_left t.alignment) s.offset t.glyphs ∷ []) (truncates_only_to s.width s.offset) ts in
+      only lines each ∙ sym (only others sliced))
       s.width
 
 -- what some list meets, and no list but the known one, is met by the known one alone

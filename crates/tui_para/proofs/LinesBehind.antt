@@ -4,7 +4,7 @@ use Rattle.std.specs.Prelude.{◌≢◌, ◌&&◌, nat_le, sum_by}
 use Rattle.std.proofs.lemmas.Bool.{cond-true, le-leb}
 use Rattle.std.proofs.lemmas.List.{append_assoc, drop-map, length-drop, length-map, take-map}
 use Rattle.tui_text.specs.Grapheme.{Glyph, glyph_blank, glyph_width}
-use Rattle.tui_para.specs.Hyphens.{Wrapped, glyph_rule, is_cut, uncut, with_cuts}
+use Rattle.tui_para.specs.Hyphens.{Wrapped, glyph_rule, is_split, unsplit, with_splits}
 use Rattle.tui_para.specs.LinesLeft.{GoesOnAfter, turned}
 use Rattle.tui_para.specs.Rule.{Rule}
 use Rattle.tui_para.specs.Wrapped.{HasLines, LeavesOutBlanks, WrapsKept, not_wider}
@@ -12,22 +12,22 @@ use Rattle.tui_para.specs.declared.wrap.Wrap.{Wrap}
 use Rattle.tui_para.proofs.Filled.{no_cons}
 use Rattle.tui_para.proofs.Greedy.{AllFit, all_fit-kept}
 use Rattle.tui_para.proofs.LeftOut.{before_line, behind_break}
-use Rattle.tui_para.proofs.WithCuts.{glyph_part, glyphs-with_cuts, left_out}
-use Rattle.tui_para.proofs.WithoutCuts.{no_cuts}
+use Rattle.tui_para.proofs.WithSplits.{glyph_part, glyphs-with_splits, left_out}
+use Rattle.tui_para.proofs.WithoutSplits.{no_splits}
 
 -- the graphemes of the first lines, and those of the others
-record Split {A : Type 0} (rule : Rule A) (Left : List A → List (List A) → Type 0) (xs : List A) (lines : List (List A)) (k : ℕ) : Type 0 where
+record FrontAndRest {A : Type 0} (rule : Rule A) (Left : List A → List (List A) → Type 0) (xs : List A) (lines : List (List A)) (k : ℕ) : Type 0 where
   front : List A
   rest : List A
   whole : xs ≡ front ++ rest
   before : LeavesOutBlanks rule.blank front (take k lines)
   after : Left rest (drop k lines)
 
-lines_split : {A : Type 0} (rule : Rule A) (k : ℕ) (xs : List A) (lines : List (List A)) → k ≤ length lines → HasLines rule xs lines → Split rule (HasLines rule) xs lines k
-lines_split rule zero xs lines l h = record { front = []; rest = xs; whole = refl; before = refl; after = h }
-lines_split rule (suc k) xs [] l h = absurd (omega arith)
-lines_split rule (suc k) xs (line ∷ lines) l (some, rest, next, more) =
-    let s = lines_split rule k rest lines (omega arith) more in
+lines_behind : {A : Type 0} (rule : Rule A) (k : ℕ) (xs : List A) (lines : List (List A)) → k ≤ length lines → HasLines rule xs lines → FrontAndRest rule (HasLines rule) xs lines k
+lines_behind rule zero xs lines l h = record { front = []; rest = xs; whole = refl; before = refl; after = h }
+lines_behind rule (suc k) xs [] l h = absurd (omega arith)
+lines_behind rule (suc k) xs (line ∷ lines) l (some, rest, next, more) =
+    let s = lines_behind rule k rest lines (omega arith) more in
     let before = before_line rule rule.trim xs in
     let behind = behind_break rule (rule.width - sum_by rule.size line) next.after in
     let inner : next.after ≡ (behind.blanks ++ s.front) ++ s.rest =
@@ -45,35 +45,35 @@ has_some : {A : Type 0} (rule : Rule A) (xs : List A) (lines : List (List A)) �
 has_some rule xs [] h l = absurd (omega arith)
 has_some rule xs (line ∷ lines) h l = h.0
 
-kept_split : {A : Type 0} (rule : Rule A) (k : ℕ) (xs : List A) (lines : List (List A)) → k < length lines → WrapsKept rule xs lines → Split rule (WrapsKept rule) xs lines k
-kept_split rule zero xs lines l h = record { front = []; rest = xs; whole = refl; before = refl; after = h }
-kept_split rule (suc k) xs lines l h = ⊎_elim
+kept_behind : {A : Type 0} (rule : Rule A) (k : ℕ) (xs : List A) (lines : List (List A)) → k < length lines → WrapsKept rule xs lines → FrontAndRest rule (WrapsKept rule) xs lines k
+kept_behind rule zero xs lines l h = record { front = []; rest = xs; whole = refl; before = refl; after = h }
+kept_behind rule (suc k) xs lines l h = ⊎_elim
     (λ e. absurd (let one = ap length e.1 in omega arith))
-    (λ e. let s = lines_split rule (suc k) xs lines (omega arith) e.1 in
+    (λ e. let s = lines_behind rule (suc k) xs lines (omega arith) e.1 in
     let long = length-drop (suc k) lines in
     record { front = s.front; rest = s.rest; whole = s.whole; before = s.before; after = inr (has_some rule s.rest (drop (suc k) lines) s.after (omega arith), s.after) })
     h
 
--- graphemes with what tells of cuts, in two parts
-record CutSplit (hyphens : Bool) (before gs : List Glyph) (xs ys : List (Glyph × Bool)) : Type 0 where
+-- graphemes with what tells of splits, in two parts
+record SplitsBehind (hyphens : Bool) (before gs : List Glyph) (xs ys : List (Glyph × Bool)) : Type 0 where
   front : List Glyph
   rest : List Glyph
   whole : gs ≡ front ++ rest
-  front_is : xs ≡ with_cuts hyphens before front
-  rest_is : ys ≡ with_cuts hyphens (turned front before) rest
+  front_is : xs ≡ with_splits hyphens before front
+  rest_is : ys ≡ with_splits hyphens (turned front before) rest
 
-cut_split : (hyphens : Bool) (before gs : List Glyph) (xs ys : List (Glyph × Bool)) → with_cuts hyphens before gs ≡ xs ++ ys → CutSplit hyphens before gs xs ys
-cut_split hyphens before gs [] ys e = record { front = []; rest = gs; whole = refl; front_is = refl; rest_is = sym e }
-cut_split hyphens before [] (x ∷ xs) ys e = absurd (no_cons x (xs ++ ys) e)
-cut_split hyphens before (g ∷ gs) (x ∷ xs) ys e =
-    let first : x ≡ (g, hyphens && is_cut before g) = cc in
-    let later : with_cuts hyphens (g ∷ before) gs ≡ xs ++ ys = cc in
-    let s = cut_split hyphens (g ∷ before) gs xs ys later in
+splits_behind : (hyphens : Bool) (before gs : List Glyph) (xs ys : List (Glyph × Bool)) → with_splits hyphens before gs ≡ xs ++ ys → SplitsBehind hyphens before gs xs ys
+splits_behind hyphens before gs [] ys e = record { front = []; rest = gs; whole = refl; front_is = refl; rest_is = sym e }
+splits_behind hyphens before [] (x ∷ xs) ys e = absurd (no_cons x (xs ++ ys) e)
+splits_behind hyphens before (g ∷ gs) (x ∷ xs) ys e =
+    let first : x ≡ (g, hyphens && is_split before g) = cc in
+    let later : with_splits hyphens (g ∷ before) gs ≡ xs ++ ys = cc in
+    let s = splits_behind hyphens (g ∷ before) gs xs ys later in
     record {
       front = g ∷ s.front;
       rest = s.rest;
       whole = ap (λ t. g ∷ t) s.whole;
-      front_is = ap (λ k. k ∷ xs) first ∙ ap (λ t. (g, hyphens && is_cut before g) ∷ t) s.front_is;
+      front_is = ap (λ k. k ∷ xs) first ∙ ap (λ t. (g, hyphens && is_split before g) ∷ t) s.front_is;
       rest_is = s.rest_is;
     }
 
@@ -91,11 +91,11 @@ goes_on_after w way glyphs lines k (parts, h, e) near =
     let xs = not_wider glyph_width w glyphs in
     let rule = glyph_rule w way in
     let many = ap length e ∙ length-map parts (map glyph_part) in
-    let s = kept_split rule k (with_cuts way.hyphens [] xs) parts (omega arith) h in
-    let c = cut_split way.hyphens [] xs s.front s.rest s.whole in
-    let first : uncut (take k parts) ≡ take k lines = sym (take-map (map glyph_part) k parts) ∙ sym (ap (take k) e) in
-    let later : drop k lines ≡ uncut (drop k parts) = ap (drop k) e ∙ drop-map (map glyph_part) k parts in
-    let glyphs_are : map glyph_part s.front ≡ c.front = ap (map glyph_part) c.front_is ∙ glyphs-with_cuts way.hyphens [] c.front in
+    let s = kept_behind rule k (with_splits way.hyphens [] xs) parts (omega arith) h in
+    let c = splits_behind way.hyphens [] xs s.front s.rest s.whole in
+    let first : unsplit (take k parts) ≡ take k lines = sym (take-map (map glyph_part) k parts) ∙ sym (ap (take k) e) in
+    let later : drop k lines ≡ unsplit (drop k parts) = ap (drop k) e ∙ drop-map (map glyph_part) k parts in
+    let glyphs_are : map glyph_part s.front ≡ c.front = ap (map glyph_part) c.front_is ∙ glyphs-with_splits way.hyphens [] c.front in
     let wraps = subst (λ ys. WrapsKept rule ys (drop k parts)) c.rest_is s.after in
     let fits : not_wider glyph_width w c.rest ≡ c.rest = fit_kept w c.rest (fit_rest w c.front c.rest (subst (AllFit glyph_width w) c.whole (all_fit-kept glyph_width w glyphs))) in
     record {
@@ -105,8 +105,8 @@ goes_on_after w way glyphs lines k (parts, h, e) near =
       before = subst (λ gs. LeavesOutBlanks glyph_blank gs (take k lines)) glyphs_are (subst (LeavesOutBlanks glyph_blank (map glyph_part s.front)) first (left_out s.front (take k parts) s.before));
       after = (drop k parts, wraps, later);
       alone = λ off.
-          let here : with_cuts way.hyphens (turned c.front []) c.rest ≡ with_cuts way.hyphens [] (not_wider glyph_width w c.rest) =
-          ap (λ b. with_cuts b (turned c.front []) c.rest) off ∙ (no_cuts (turned c.front []) c.rest
-          ∙ (sym (no_cuts [] c.rest) ∙ (ap (λ b. with_cuts b [] c.rest) (sym off) ∙ ap (with_cuts way.hyphens []) (sym fits)))) in
+          let here : with_splits way.hyphens (turned c.front []) c.rest ≡ with_splits way.hyphens [] (not_wider glyph_width w c.rest) =
+          ap (λ b. with_splits b (turned c.front []) c.rest) off ∙ (no_splits (turned c.front []) c.rest
+          ∙ (sym (no_splits [] c.rest) ∙ (ap (λ b. with_splits b [] c.rest) (sym off) ∙ ap (with_splits way.hyphens []) (sym fits)))) in
           (drop k parts, subst (λ ys. WrapsKept rule ys (drop k parts)) here wraps, later);
     }

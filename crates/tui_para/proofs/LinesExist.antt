@@ -4,24 +4,24 @@ use Rattle.std.proofs.lemmas.Bool.{cases_lt}
 use Rattle.std.proofs.lemmas.List.Elements.{All-append, All-drop, All-from_recursion, recursion_from_All}
 use Rattle.tui_text.specs.Grapheme.{Glyph, glyph_width}
 use Rattle.tui_para.specs.declared.wrap.Wrap.{Wrap}
-use Rattle.tui_para.specs.Lines.{GlyphLine, glyph_line, cut_all, is_left, LinesFrom, TruncatesLine, WrapsLine}
-use Rattle.tui_para.specs.Marked.{cuts_of}
+use Rattle.tui_para.specs.Lines.{GlyphLine, glyph_line, lines_of_each, is_left, LinesFrom, TruncatesLine, WrapsLine}
+use Rattle.tui_para.specs.Marked.{splits_of}
 use Rattle.tui_para.specs.Hyphenation.{marked_from}
-use Rattle.tui_para.specs.Hyphens.{glyph_rule, uncut, wrap}
+use Rattle.tui_para.specs.Hyphens.{glyph_rule, unsplit, wrap}
 use Rattle.tui_para.specs.Places.{lines_of, wrap_kept}
 use Rattle.tui_para.specs.Truncated.{truncate}
 use Rattle.tui_para.specs.Wrapped.{not_wider}
-use Rattle.tui_para.specs.Wrapping.{LinesOfRest, PartsWith, TruncatorCuts, WrapperCuts, glyphs_from}
+use Rattle.tui_para.specs.Wrapping.{LinesOfRest, PartsWith, TruncatorLines, WrapperLines, glyphs_from}
 use Rattle.tui_para.specs.declared.wrapping.text_line.TextLine.{TextLine}
 use Rattle.tui_para.specs.declared.truncator.LineTruncator.{LineTruncator}
 use Rattle.tui_para.specs.declared.wrapper.WordWrapper.{WordWrapper}
 use Rattle.tui_para.proofs.Greedy.{AllFit, all_fit-kept, lines_are, wrap_kept_is}
-use Rattle.tui_para.proofs.WithCuts.{fit-marked}
-use Rattle.tui_para.proofs.TextCut.{cut_is, truncates_to, wraps_to}
+use Rattle.tui_para.proofs.WithSplits.{fit-marked}
+use Rattle.tui_para.proofs.TextOnce.{each_is, truncates_to, wraps_to}
 
--- what is given is cut into lines
-pub lines_exist : {X : Type 0} (given : X → Type 0) (cuts : X → List GlyphLine → Type 0) → ((x : X) → (lines : List GlyphLine) × cuts x lines) → (x : X) × given x → (w : ℕ) → (lines : List GlyphLine) × LinesFrom given cuts w lines
-lines_exist given cuts exist (x, gives) w = ⊎_elim (λ some. (let (lines, cut) = exist x in (lines, inr (some, (x, gives, cut))))) (λ none. ([], inl (omega arith, refl))) (cases_lt 0 w)
+-- what is given has lines
+pub lines_exist : {X : Type 0} (given : X → Type 0) (lined : X → List GlyphLine → Type 0) → ((x : X) → (lines : List GlyphLine) × lined x lines) → (x : X) × given x → (w : ℕ) → (lines : List GlyphLine) × LinesFrom given lined w lines
+lines_exist given lined exist (x, gives) w = ⊎_elim (λ some. (let (lines, each) = exist x in (lines, inr (some, (x, gives, each))))) (λ none. ([], inl (omega arith, refl))) (cases_lt 0 w)
 
 -- graphemes that fit have lines
 rest_exists : (is_new : Bool) (w : ℕ) (way : Wrap) (xs : List (Glyph × Bool)) → AllFit (λ (p : Glyph × Bool). glyph_width p.0) w xs → (parts : List (List (Glyph × Bool))) × LinesOfRest is_new w way xs parts
@@ -33,20 +33,20 @@ parts_exist : {I : Type 0} (s : TextLine I) (glyphs : List Glyph) → (parts : L
 parts_exist s glyphs =
     let fits = λ (x : Glyph × Bool). glyph_width x.0 ≤ s.width in
     let left = marked_from s.line.hyphenation (not_wider glyph_width s.width glyphs) in
-    let fit = All-append fits (drop s.place (cuts_of s.line)) left (All-drop fits s.place (cuts_of s.line) s.fit)
+    let fit = All-append fits (drop s.place (splits_of s.line)) left (All-drop fits s.place (splits_of s.line) s.fit)
     (All-from_recursion fits left (fit-marked s.width s.line.hyphenation (not_wider glyph_width s.width glyphs) (all_fit-kept glyph_width s.width glyphs))) in
-    let (cut, has) = rest_exists s.is_new s.width s.wrap (glyphs_from s s.place glyphs) (recursion_from_All fits (glyphs_from s s.place glyphs) fit) in
-    (uncut cut, (cut, has, refl))
+    let (split, has) = rest_exists s.is_new s.width s.wrap (glyphs_from s s.place glyphs) (recursion_from_All fits (glyphs_from s s.place glyphs) fit) in
+    (unsplit split, (split, has, refl))
 
 -- the lines of a wrapper, and of a truncator
-pub wrapper_cuts : {O I : Type 0} (s : WordWrapper O I) (x : List Glyph × List GlyphLine) → (lines : List GlyphLine) × WrapperCuts s x lines
-wrapper_cuts s x =
+pub wrapper_lines : {O I : Type 0} (s : WordWrapper O I) (x : List Glyph × List GlyphLine) → (lines : List GlyphLine) × WrapperLines s x lines
+wrapper_lines s x =
     let wraps = λ (t : GlyphLine). wrap s.current.width s.current.wrap t.glyphs in
     let (parts, left) = parts_exist s.current x.0 in
-    let rest = cut_all wraps x.1 in
-    (map (glyph_line s.alignment) parts ++ rest, (parts, left, (rest, cut_is (WrapsLine s.current.width s.current.wrap) wraps (wraps_to s.current.width s.current.wrap) x.1, refl)))
+    let rest = lines_of_each wraps x.1 in
+    (map (glyph_line s.alignment) parts ++ rest, (parts, left, (rest, each_is (WrapsLine s.current.width s.current.wrap) wraps (wraps_to s.current.width s.current.wrap) x.1, refl)))
 
-pub truncator_cuts : {O I : Type 0} (s : LineTruncator O I) (ts : List GlyphLine) → (lines : List GlyphLine) × TruncatorCuts s ts lines
-truncator_cuts s ts =
-    let cut = λ (t : GlyphLine). truncate glyph_width s.width (is_left t.alignment) s.offset t.glyphs ∷ [] in
-    (cut_all cut ts, cut_is (TruncatesLine s.width s.offset) cut (truncates_to s.width s.offset) ts)
+pub truncator_lines : {O I : Type 0} (s : LineTruncator O I) (ts : List GlyphLine) → (lines : List GlyphLine) × TruncatorLines s ts lines
+truncator_lines s ts =
+    let truncated = λ (t : GlyphLine). truncate glyph_width s.width (is_left t.alignment) s.offset t.glyphs ∷ [] in
+    (lines_of_each truncated ts, each_is (TruncatesLine s.width s.offset) truncated (truncates_to s.width s.offset) ts)

@@ -5,11 +5,11 @@ use Rattle.std.specs.List.{list_all}
 use Rattle.std.proofs.lemmas.Bool.{and_parts, leb-true}
 use Rattle.std.proofs.lemmas.List.Elements.{All-cons, All-nil}
 use Rattle.tui_cells.specs.Cell.{IsLight}
-use Rattle.tui_text.specs.Graphemes.{clusters}
+use Rattle.tui_clusters.specs.Shown.{clusters}
 use Rattle.tui_text.specs.Line.{raw_line}
 use Rattle.tui_text.specs.Setting.{AreLight}
 use Rattle.tui_text.specs.Span.{raw_span}
-use Rattle.tui_text.proofs.Computing.{clusters_of_text}
+use Rattle.tui_clusters.proofs.Computing.{clusters_of_text}
 use Rattle.tui_para.specs.declared.size.Size.{Size}
 use Rattle.tui_para.specs.declared.size.Size.TheVariants.{Tiny, Small}
 use Rattle.tui_para.specs.Logo.{upper_line, lower_line}

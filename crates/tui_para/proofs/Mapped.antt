@@ -49,7 +49,7 @@ module _ {A B : Type 0} (f : A → B) (ends blank : B → Bool) (size : B → �
 
 -- the rule for graphemes of which this is seen
 abbrev pub seen_by : {A B : Type 0} → (A → B) → Rule B → Rule A
-seen_by f rule = record { blank = λ x. rule.blank (f x); cut = λ x. rule.cut (f x); size = λ x. rule.size (f x); width = rule.width; trim = rule.trim }
+seen_by f rule = record { blank = λ x. rule.blank (f x); split = λ x. rule.split (f x); size = λ x. rule.size (f x); width = rule.width; trim = rule.trim }
 
 -- the next line of graphemes, at the places that what is seen of them gives
 pub next_placed : {A B : Type 0} (f : A → B) (rule : Rule B) (xs : List A) (ms ys zs : List B) (start len room n : ℕ) →
@@ -81,7 +81,7 @@ pub next_moves : {A : Type 0} (rule : Rule A) (xs ys : List A) (start len : ℕ)
     AllFit rule.size rule.width xs → ys ≡ drop start xs → len ≡ line_len (ends_piece rule) rule.blank rule.size rule.width ys → 0 < length xs → 0 < start + len
 next_moves rule xs ys start len fit rest lasts some =
     let long : length ys ≡ length xs - start = ap length rest ∙ length-drop start xs in
-    let cut : length (drop len ys) ≡ length ys - len = length-drop len ys in
+    let left : length (drop len ys) ≡ length ys - len = length-drop len ys in
     let front : length (take len ys) ≡ min len (length ys) = length-take len ys in
     let fits : AllFit rule.size rule.width (drop len ys) = all_fit-drop rule.size rule.width len ys (rw rest (all_fit-drop rule.size rule.width start xs fit)) in
     ⊎_elim

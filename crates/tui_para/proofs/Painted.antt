@@ -24,9 +24,9 @@ unfolding run_layers
 run_past clip x y [] far = refl
 run_past clip x y (p ∷ ps) far = rw (piece_past clip x y p far) (run_past clip (x + glyph_width p) y ps (omega arith))
 
--- the rest of a run from a place that was cut
-pub run_cut : (clip : Rect) (x w y : ℕ) (ps : List Glyph) → run_layers clip (min (x + w) 65535) y ps ≡ run_layers clip (x + w) y ps
-run_cut clip x w y ps = grind (arith, run_past clip 65535 y ps, run_past clip (x + w) y ps)
+-- the rest of a run from a place that was saturated
+pub run_saturated : (clip : Rect) (x w y : ℕ) (ps : List Glyph) → run_layers clip (min (x + w) 65535) y ps ≡ run_layers clip (x + w) y ps
+run_saturated clip x w y ps = grind (arith, run_past clip 65535 y ps, run_past clip (x + w) y ps)
 
 pub run_ended : (clip : Rect) (x y : ℕ) (ps : List Glyph) (b : Screen) → right_of clip ≤ x → Painted (run_layers clip x y ps) b b
 run_ended clip x y ps b far = rw (run_past clip x y ps far) (Painted-none b)
@@ -43,7 +43,7 @@ run_step clip x y rs i d next a b final lt e p q =
     let items : drop i rs ≡ get_or rs i d ∷ drop (i + 1) rs = rw (add-one, drop-cons rs i d) refl in
     let whole : drop i (map glyph_of rs) ≡ g ∷ more = drop-map glyph_of i rs ∙ (ap (map glyph_of) items ∙ ap (λ t. g ∷ t) (sym (drop-map glyph_of (i + 1) rs))) in
     let rest : Painted (run_layers clip (x + glyph_width g) y more) b final =
-    subst (λ (ls : List Layer). Painted ls b final) (run_cut clip x (glyph_width g) y more) (rw e at q) in
+    subst (λ (ls : List Layer). Painted ls b final) (run_saturated clip x (glyph_width g) y more) (rw e at q) in
     rw whole (Painted-then p rest)
 
 pub run_done : (clip : Rect) (x y : ℕ) (ps : List Glyph) (i : ℕ) (b : Screen) → length ps ≤ i → Painted (run_layers clip x y (drop i ps)) b b
@@ -54,7 +54,7 @@ pub glyph_line_is : (rect : Rect) (x y start width : ℕ) (a : Alignment) (gs : 
     run_layers rect x y gs ≡ glyph_line_layers rect y (glyph_line a gs)
 unfolding glyph_line_layers
 glyph_line_is rect x y start width a gs e f h =
-    ap (λ n. run_layers rect n y gs) e ∙ (run_cut rect rect.x start y gs ∙ ap (λ n. run_layers rect (rect.x + n) y gs) (f ∙ ap (λ n. start_of a rect.width n) h))
+    ap (λ n. run_layers rect n y gs) e ∙ (run_saturated rect rect.x start y gs ∙ ap (λ n. run_layers rect (rect.x + n) y gs) (f ∙ ap (λ n. start_of a rect.width n) h))
 
 -- a stroke inside a region keeps what is outside
 pub stroke_kept : (R S : ℕ → ℕ → Bool) (e : Edit) (a b : Screen) → ((x y : ℕ) → S x y ≡ false → R x y ≡ false) → Painted (stroke R e) a b → KeptOutside S a b

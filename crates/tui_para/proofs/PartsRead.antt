@@ -8,11 +8,11 @@ use Rattle.tui_text.specs.Grapheme.{Glyph, glyph_of, glyph_width}
 use Rattle.tui_text.specs.declared.grapheme.StyledGrapheme.{StyledGrapheme}
 use Rattle.tui_para.specs.Given.{SourceReads}
 use Rattle.tui_para.specs.Hyphenation.{behind_all, marked_from}
-use Rattle.tui_para.specs.Hyphens.{Uncut, glyph_rule, uncut}
+use Rattle.tui_para.specs.Hyphens.{Unsplit, glyph_rule, unsplit}
 use Rattle.tui_para.specs.Lines.{IsFirstOf}
-use Rattle.tui_para.specs.Marked.{IsPart, cuts_of, glyphs_of, part_of}
+use Rattle.tui_para.specs.Marked.{IsPart, splits_of, glyphs_of, part_of}
 use Rattle.tui_para.specs.Wrapped.{HasLines, not_wider}
-use Rattle.tui_para.specs.Wrapping.{CutPartsWith, FindsPart, HasRead, IsNextPlace, LinesOfRest, PartsWith, glyphs_from}
+use Rattle.tui_para.specs.Wrapping.{SplitPartsWith, FindsPart, HasRead, IsNextPlace, LinesOfRest, PartsWith, glyphs_from}
 use Rattle.tui_para.specs.declared.wrap.Wrap.{Wrap}
 use Rattle.tui_para.specs.declared.wrapping.breaking.Place.{Place}
 use Rattle.tui_para.specs.declared.wrapping.hyphenation.Hyphenation.{Hyphenation}
@@ -22,7 +22,7 @@ use Rattle.tui_para.specs.declared.wrapping.text_line.TextLine.{TextLine}
 use Rattle.tui_para.proofs.Lending.{first_along, same_lists}
 use Rattle.tui_para.proofs.Parts.{between-map, no_lines}
 use Rattle.tui_para.proofs.Sources.{not_wider-append, reads_none, reads_then}
-use Rattle.tui_para.proofs.WithCuts.{behind-append, first_uncut, glyph_part, marked-append}
+use Rattle.tui_para.proofs.WithSplits.{behind-append, first_unsplit, glyph_part, marked-append}
 
 -- what holds of equal values
 same_rest : (parts : List (List (Glyph × Bool))) (a b : Bool) (w v : ℕ) (way other : Wrap) (xs ys : List (Glyph × Bool)) → a ≡ b → w ≡ v → way ≡ other → xs ≡ ys →
@@ -36,21 +36,21 @@ same_has parts w v way other xs ys width ways whole h =
     subst (λ n. has n other ys parts) width (subst (λ k. has w k ys parts) ways (subst (λ gs. has w way gs parts) whole h))
 
 -- the parts where no grapheme is left
-module _ {I : Type 0} (s : TextLine I) (old : s.is_new ≡ false) (gone : drop s.place (cuts_of s.line) ≡ []) (glyphs : List Glyph) (none : glyphs ≡ []) where
+module _ {I : Type 0} (s : TextLine I) (old : s.is_new ≡ false) (gone : drop s.place (splits_of s.line) ≡ []) (glyphs : List Glyph) (none : glyphs ≡ []) where
   empty : glyphs_from s s.place glyphs ≡ []
   empty = ap (λ k. k ++ marked_from s.line.hyphenation (not_wider glyph_width s.width glyphs)) gone ∙ ap (λ k. marked_from s.line.hyphenation (not_wider glyph_width s.width k)) none
 
-  cut_none : (parts : List (List (Glyph × Bool))) → CutPartsWith s glyphs parts → parts ≡ []
-  cut_none parts h = ⊎_elim (λ e. absurd (false≢true (sym old ∙ e.0))) (λ e. no_lines (glyph_rule s.width s.wrap) _ parts empty e.1) h
+  split_none : (parts : List (List (Glyph × Bool))) → SplitPartsWith s glyphs parts → parts ≡ []
+  split_none parts h = ⊎_elim (λ e. absurd (false≢true (sym old ∙ e.0))) (λ e. no_lines (glyph_rule s.width s.wrap) _ parts empty e.1) h
 
   pub only_none : (parts : List (List Glyph)) → PartsWith s glyphs parts ↔ (parts ≡ [])
   only_none parts = (
-    λ (cut, h, e). e ∙ ap uncut (cut_none cut h),
+    λ (split, h, e). e ∙ ap unsplit (split_none split h),
     λ e. ([], inr (old, empty), e),
   )
 
 -- those of a composer that was just made
-pub no_parts : {I : Type 0} (s : TextLine I) → s.is_new ≡ false → cuts_of s.line ≡ [] → (glyphs : List Glyph) → glyphs ≡ [] → (parts : List (List Glyph)) → PartsWith s glyphs parts ↔ (parts ≡ [])
+pub no_parts : {I : Type 0} (s : TextLine I) → s.is_new ≡ false → splits_of s.line ≡ [] → (glyphs : List Glyph) → glyphs ≡ [] → (parts : List (List Glyph)) → PartsWith s glyphs parts ↔ (parts ≡ [])
 no_parts s old none = only_none s old (ap (drop s.place) none ∙ drop_all s.place [] (omega arith))
 
 -- graphemes that are read behind others, and then more
@@ -74,14 +74,14 @@ module _ (w v : ℕ) (b c : Hyphenation) (xs ys : List Glyph) (width : v ≡ w) 
 module _ {I : Type 0} (gives : I → Option StyledGrapheme → I → Type 0) where
   -- nothing is read yet
   pub HasRead-none : (s : TextLine I) → HasRead gives s s
-  HasRead-none s = record { taken = []; reads = reads_none gives s.source; behind = sym (append-nil (drop s.place (cuts_of s.line))); goes_on = refl; is_new = refl; width = refl; wrap = refl }
+  HasRead-none s = record { taken = []; reads = reads_none gives s.source; behind = sym (append-nil (drop s.place (splits_of s.line))); goes_on = refl; is_new = refl; width = refl; wrap = refl }
 
   -- and then more
   pub HasRead-then : (s t u : TextLine I) → HasRead gives s t → HasRead gives t u → HasRead gives s u
   HasRead-then s t u a b =
-      let after = drop u.place (cuts_of u.line) in
-      let before = drop t.place (cuts_of t.line) in
-      let front = drop s.place (cuts_of s.line) in
+      let after = drop u.place (splits_of u.line) in
+      let before = drop t.place (splits_of t.line) in
+      let front = drop s.place (splits_of s.line) in
       let h = s.line.hyphenation in
       let both = sym (map-append glyph_of a.taken b.taken) in
       record {
@@ -99,17 +99,17 @@ module _ {I : Type 0} (gives : I → Option StyledGrapheme → I → Type 0) whe
   module _ (s t : TextLine I) (r : HasRead gives s t) (glyphs : List Glyph) where
     read_from : glyphs_from t t.place glyphs ≡ glyphs_from s s.place (map glyph_of r.taken ++ glyphs)
     read_from = marked_then s.width t.width s.line.hyphenation t.line.hyphenation (map glyph_of r.taken) glyphs r.width r.goes_on
-        (drop s.place (cuts_of s.line)) (drop t.place (cuts_of t.line)) (glyphs_from t t.place glyphs) r.behind refl
+        (drop s.place (splits_of s.line)) (drop t.place (splits_of t.line)) (glyphs_from t t.place glyphs) r.behind refl
 
     -- the parts stay the same
     pub read_parts : (parts : List (List Glyph)) → PartsWith t glyphs parts ↔ PartsWith s (map glyph_of r.taken ++ glyphs) parts
     read_parts parts = (
-      λ (cut, h, e). (cut, same_rest cut t.is_new s.is_new t.width s.width t.wrap s.wrap _ _ r.is_new r.width r.wrap read_from h, e),
-      λ (cut, h, e). (cut, same_rest cut s.is_new t.is_new s.width t.width s.wrap t.wrap _ _ (sym r.is_new) (sym r.width) (sym r.wrap) (sym read_from) h, e),
+      λ (split, h, e). (split, same_rest split t.is_new s.is_new t.width s.width t.wrap s.wrap _ _ r.is_new r.width r.wrap read_from h, e),
+      λ (split, h, e). (split, same_rest split s.is_new t.is_new s.width t.width s.wrap t.wrap _ _ (sym r.is_new) (sym r.width) (sym r.wrap) (sym read_from) h, e),
     )
 
   -- it is over
-  pub found_none : (s t : TextLine I) → HasRead gives s t → t.source ≡ None → t.is_new ≡ false → drop t.place (cuts_of t.line) ≡ [] → FindsPart gives s t None
+  pub found_none : (s t : TextLine I) → HasRead gives s t → t.source ≡ None → t.is_new ≡ false → drop t.place (splits_of t.line) ≡ [] → FindsPart gives s t None
   found_none s t r ends old gone = record {
     is_part = tt;
     taken = r.taken;
@@ -126,25 +126,25 @@ module _ {I : Type 0} (gives : I → Option StyledGrapheme → I → Type 0) whe
       (at : part ≡ record { start = p.start; end = p.end; width = p.width }) where
     from : (glyphs : List Glyph) → glyphs_from u u.place glyphs ≡ glyphs_from t p.next glyphs
     from glyphs =
-        ap (λ k. drop k (cuts_of u.line) ++ marked_from u.line.hyphenation (not_wider glyph_width u.width glyphs)) place
-        ∙ (ap (λ (m : Marked). drop p.next (cuts_of m) ++ marked_from m.hyphenation (not_wider glyph_width u.width glyphs)) line
-        ∙ ap (λ w. drop p.next (cuts_of t.line) ++ marked_from t.line.hyphenation (not_wider glyph_width w glyphs)) width)
+        ap (λ k. drop k (splits_of u.line) ++ marked_from u.line.hyphenation (not_wider glyph_width u.width glyphs)) place
+        ∙ (ap (λ (m : Marked). drop p.next (splits_of m) ++ marked_from m.hyphenation (not_wider glyph_width u.width glyphs)) line
+        ∙ ap (λ w. drop p.next (splits_of t.line) ++ marked_from t.line.hyphenation (not_wider glyph_width w glyphs)) width)
 
-    left : (glyphs : List Glyph) (parts : List (List Glyph)) → Uncut (HasLines (glyph_rule t.width t.wrap) (glyphs_from t p.next glyphs)) parts ↔ PartsWith u glyphs parts
+    left : (glyphs : List Glyph) (parts : List (List Glyph)) → Unsplit (HasLines (glyph_rule t.width t.wrap) (glyphs_from t p.next glyphs)) parts ↔ PartsWith u glyphs parts
     left glyphs parts = (
-      λ (cut, h, e). (cut, inr (old, same_has cut t.width u.width t.wrap u.wrap _ _ (sym width) (sym wrap) (sym (from glyphs)) h), e),
-      λ (cut, h, e). (cut, ⊎_elim (λ k. absurd (false≢true (sym old ∙ k.0))) (λ k. same_has cut u.width t.width u.wrap t.wrap _ _ width wrap (from glyphs) k.1) h, e),
+      λ (split, h, e). (split, inr (old, same_has split t.width u.width t.wrap u.wrap _ _ (sym width) (sym wrap) (sym (from glyphs)) h), e),
+      λ (split, h, e). (split, ⊎_elim (λ k. absurd (false≢true (sym old ∙ k.0))) (λ k. same_has split u.width t.width u.wrap t.wrap _ _ width wrap (from glyphs) k.1) h, e),
     )
 
     seen : between p.start p.end (glyphs_of t.line) ≡ part_of (glyphs_of u.line) part
     seen = ap (λ (m : Marked). between p.start p.end (glyphs_of m)) (sym line) ∙ sym (ap (part_of (glyphs_of u.line)) at)
 
-    shown : map glyph_part (between p.start p.end (cuts_of t.line)) ≡ part_of (glyphs_of u.line) part
-    shown = sym (between-map glyph_part p.start p.end (cuts_of t.line)) ∙ seen
+    shown : map glyph_part (between p.start p.end (splits_of t.line)) ≡ part_of (glyphs_of u.line) part
+    shown = sym (between-map glyph_part p.start p.end (splits_of t.line)) ∙ seen
 
     stands : IsNextPlace t p → IsPart (glyphs_of u.line) part
     stands k =
-        let long = length-map (cuts_of t.line) glyph_part in
+        let long = length-map (splits_of t.line) glyph_part in
         let near = k.within.0 in
         subst (IsPart (glyphs_of u.line)) (sym at)
         (subst (λ (m : Marked). IsPart (glyphs_of m) (record { start = p.start; end = p.end; width = p.width })) (sym line) (record { order = k.order; within = omega arith; columns = k.columns }))
@@ -156,9 +156,9 @@ module _ {I : Type 0} (gives : I → Option StyledGrapheme → I → Type 0) whe
       reads = subst (λ o. SourceReads gives s.source r.taken o) (sym source) r.reads;
       first = λ glyphs ended.
           let has = HasLines (glyph_rule t.width t.wrap) (glyphs_from t p.next glyphs) in
-          let first = first_uncut (Some (between p.start p.end (cuts_of t.line))) (CutPartsWith t glyphs) has (k.first glyphs (λ e. ended (source ∙ e))) in
+          let first = first_unsplit (Some (between p.start p.end (splits_of t.line))) (SplitPartsWith t glyphs) has (k.first glyphs (λ e. ended (source ∙ e))) in
           subst (λ k. IsFirstOf (Some k) (PartsWith s (map glyph_of r.taken ++ glyphs)) (PartsWith u glyphs)) shown
-          (first_along (Some (map glyph_part (between p.start p.end (cuts_of t.line)))) (PartsWith t glyphs) (PartsWith s (map glyph_of r.taken ++ glyphs)) (Uncut has) (PartsWith u glyphs)
+          (first_along (Some (map glyph_part (between p.start p.end (splits_of t.line)))) (PartsWith t glyphs) (PartsWith s (map glyph_of r.taken ++ glyphs)) (Unsplit has) (PartsWith u glyphs)
           (read_parts s t r glyphs) (left glyphs) first);
       ends = λ e. cc;
     }

@@ -18,7 +18,7 @@ width (suc (suc zero)) = 2
 width (suc (suc (suc n))) = 0
 
 abbrev rule_of : ℕ → Bool → Rule ℕ
-rule_of w trim = record { blank = is_blank; cut = λ n. false; size = width; width = w; trim = trim }
+rule_of w trim = record { blank = is_blank; split = λ n. false; size = width; width = w; trim = trim }
 
 abbrev Rows : ℕ → Bool → List ℕ → List (List ℕ) → Type 0
 Rows w trim xs lines = WrapsKept (rule_of w trim) (not_wider width w xs) lines

@@ -19,7 +19,7 @@ use Rattle.tui_frames.specs.InBlock.{inner_of}
 use Rattle.tui_frames.specs.Strokes.{block_layers}
 use Rattle.tui_frames.proofs.Inside.{Fits, in_clip, inside}
 use Rattle.tui_para.specs.Rendering.{ParagraphShows, base_of, content_layers, paragraph_lines, paragraph_layers, under_layers}
-use Rattle.tui_para.proofs.TextCut.{lines_are}
+use Rattle.tui_para.proofs.TextOnce.{lines_are}
 use Rattle.tui_para.specs.Shows.{with_line}
 use Rattle.tui_para.proofs.ShowingRuns.{run_at, same_both}
 

@@ -6,12 +6,12 @@ use Rattle.tui_text.specs.declared.graphemes.Graphemes.{Graphemes}
 use Rattle.tui_para.specs.Given.{IsGlyph, SourceGives, WillBe, WillGive}
 use Rattle.tui_para.specs.Lines.{GlyphLine, GivenUnlessDone}
 use Rattle.tui_para.specs.TextLines.{gives_graphemes, gives_lines, glyph_lines_left}
-use Rattle.tui_para.specs.Wrapping.{TruncatorCuts, TruncatorWillLend, WrapperCuts, WrapperWillLend, truncator_answers, wrapper_answers}
+use Rattle.tui_para.specs.Wrapping.{TruncatorLines, TruncatorWillLend, WrapperLines, WrapperWillLend, truncator_answers, wrapper_answers}
 use Rattle.tui_para.specs.declared.text_lines.TextLines.{TextLines}
 use Rattle.tui_para.specs.declared.truncator.LineTruncator.{LineTruncator}
 use Rattle.tui_para.specs.declared.wrapper.WordWrapper.{WordWrapper}
-use Rattle.tui_para.proofs.LinesExist.{lines_exist, truncator_cuts, wrapper_cuts}
-use Rattle.tui_para.proofs.TextCut.{glyphs_will, glyph_lines_will}
+use Rattle.tui_para.proofs.LinesExist.{lines_exist, truncator_lines, wrapper_lines}
+use Rattle.tui_para.proofs.TextOnce.{glyphs_will, glyph_lines_will}
 
 source_known : (source : Option Graphemes) → (glyphs : List Glyph) × SourceGives (WillGive gives_graphemes IsGlyph) source glyphs
 source_known None = ([], refl)
@@ -25,7 +25,7 @@ pub wrapper_known : (s : WordWrapper TextLines Graphemes) → (lines : List Glyp
 wrapper_known s =
     let (glyphs, source) = source_known s.current.source in
     let (ts, texts) = texts_known s.done s.lines in
-    lines_exist (wrapper_answers gives_lines gives_graphemes s).will (WrapperCuts s) (wrapper_cuts s) ((glyphs, ts), (source, texts)) s.current.width
+    lines_exist (wrapper_answers gives_lines gives_graphemes s).will (WrapperLines s) (wrapper_lines s) ((glyphs, ts), (source, texts)) s.current.width
 
 pub truncator_known : (s : LineTruncator TextLines Graphemes) → (lines : List GlyphLine) × TruncatorWillLend gives_lines gives_graphemes s lines
-truncator_known s = lines_exist (truncator_answers gives_lines gives_graphemes s).will (TruncatorCuts s) (truncator_cuts s) (texts_known s.done s.lines) s.width
+truncator_known s = lines_exist (truncator_answers gives_lines gives_graphemes s).will (TruncatorLines s) (truncator_lines s) (texts_known s.done s.lines) s.width

@@ -1,4 +1,4 @@
--- The line of a text line that is cut is one.
+-- A text line that is truncated has one line.
 use Rattle.std.proofs.Common.{◌≡◌, ℕ, ◌-◌, ◌<◌, ◌≤◌, List, [], ◌∷◌, ◌++◌, length, Bool, true, false, refl, sym, ap, ◌∙◌, Some, subst, arith, ⊎_elim}
 use Rattle.std.specs.Prelude.{◌≢◌, ◌⊎◌, sum_by, nat_le, nat_lt, ◌&&◌}
 use Rattle.std.proofs.lemmas.List.Sums.{sum_by-cons}
@@ -11,7 +11,7 @@ use Rattle.tui_para.specs.Lines.{GlyphLine, is_left, IsFirstOf, TruncatesLine}
 use Rattle.tui_para.specs.Truncated.{IsLongestPrefix, FitsIn, IsPassedBy, Truncated, fitting_prefix, left_by, truncate}
 use Rattle.tui_para.specs.Wrapped.{not_wider, IsTheOne}
 use Rattle.tui_para.proofs.Filled.{no_cons}
-use Rattle.tui_para.proofs.Unique.{cuts}
+use Rattle.tui_para.proofs.Unique.{prefixes}
 
 no_shorter : {A : Type 0} (k m : List A) (y : A) (ys : List A) → k ≡ m ++ y ∷ ys → length k ≤ length m → ⊥
 no_shorter k m y ys e l = let a = length-append m (y ∷ ys) in let b = ap length e in omega arith
@@ -25,7 +25,7 @@ same_prefix P xs front after other more f g =
     (⊎_elim
     (λ s. absurd (no_shorter other front s.0 s.1 s.2 (f.longest other more g.joined g.holds)))
     (λ s. absurd (no_shorter front other s.0 s.1 s.2 (g.longest front after f.joined f.holds))))
-    (cuts front after other more whole) in
+    (prefixes front after other more whole) in
     (same, append_cancel_left front after more (whole ∙ ap (λ t. t ++ more) (sym same)))
 
 nothing : {A : Type 0} (other more : List A) → [] ≡ other ++ more → length other ≤ 0
@@ -174,10 +174,10 @@ module _ {A : Type 0} (size : A → ℕ) where
   left_by_none (x ∷ xs) = refl
 
 -- the one line of a text line
-pub cut_first : (w offset : ℕ) (t : GlyphLine) (line : List Glyph) → line ≡ truncate glyph_width w (is_left t.alignment) offset t.glyphs → IsFirstOf (Some line) (TruncatesLine w offset t) (λ parts. parts ≡ [])
-cut_first w offset t line cut =
+pub truncated_first : (w offset : ℕ) (t : GlyphLine) (line : List Glyph) → line ≡ truncate glyph_width w (is_left t.alignment) offset t.glyphs → IsFirstOf (Some line) (TruncatesLine w offset t) (λ parts. parts ≡ [])
+truncated_first w offset t line is_shown =
     let is = truncates_once glyph_width w (is_left t.alignment) offset t.glyphs in
     record {
-      lends = λ parts none. (line, subst (Truncated glyph_width w (is_left t.alignment) offset t.glyphs) (sym cut) is.meets, ap (λ k. line ∷ k) none);
-      takes = λ parts (other, h, e). ([], e ∙ ap (λ k. k ∷ []) (is.alone other h ∙ sym cut), refl);
+      lends = λ parts none. (line, subst (Truncated glyph_width w (is_left t.alignment) offset t.glyphs) (sym is_shown) is.meets, ap (λ k. line ∷ k) none);
+      takes = λ parts (other, h, e). ([], e ∙ ap (λ k. k ∷ []) (is.alone other h ∙ sym is_shown), refl);
     }

@@ -17,18 +17,18 @@ module _ {A : Type 0} (rule : Rule A) where
   begins_blank [] h = h
   begins_blank (x ∷ a) h = grind (arith, h)
 
-  pub begins_cut : (a : List A) → begins rule.cut a ≡ true → begins (ends_piece rule) a ≡ true
-  begins_cut [] h = h
-  begins_cut (x ∷ a) h = grind (arith, h)
+  pub begins_split : (a : List A) → begins rule.split a ≡ true → begins (ends_piece rule) a ≡ true
+  begins_split [] h = h
+  begins_split (x ∷ a) h = grind (arith, h)
 
   -- and where a piece ends and what follows is too wide there is one of the two
   pub breaks_there : (room : ℕ) (line after : List A) → ends_in (no_blank rule.blank) false line ≡ true → begins (ends_piece rule) after ≡ true →
       room < sum_by rule.size (next_piece rule after) → Breaks rule room line after
   breaks_there room line [] word next wide = absurd (cc)
   breaks_there room line (x ∷ after) word next wide = ⊎_elim
-      (λ cut. inr (inl (record { word_before = word; next = cut; too_wide = wide })))
-      (λ no_cut. inl (record { word_before = word; next = grind (arith, next, no_cut); too_wide = wide }))
-      (cases_Bool (rule.cut x))
+      (λ split. inr (inl (record { word_before = word; next = split; too_wide = wide })))
+      (λ no_split. inl (record { word_before = word; next = grind (arith, next, no_split); too_wide = wide }))
+      (cases_Bool (rule.split x))
 
 -- a piece doesn't go on past its end
 piece_stops : {A : Type 0} (test : A → Bool) (k : List A) (y : A) (ys : List A) → test y ≡ true → up_to test (k ++ y ∷ ys) ≡ k ++ y ∷ ys → ⊥
@@ -78,7 +78,7 @@ no_longer rule k y ys a l m =
     (⊎_elim
     (λ soft. longer_ends soft.word_before (begins_blank rule a soft.next))
     (⊎_elim
-    (λ hyphen. longer_ends hyphen.word_before (begins_cut rule a hyphen.next))
+    (λ hyphen. longer_ends hyphen.word_before (begins_split rule a hyphen.next))
     (λ hard. one_piece_stops rule false k y ys refl ends hard.one_piece)))
     m.breaks in
     ⊎_elim
@@ -86,22 +86,22 @@ no_longer rule k y ys a l m =
     (⊎_elim
     (λ soft. at_piece (soft.word_before, begins_blank rule (y ∷ ys ++ a) soft.next) soft.too_wide)
     (⊎_elim
-    (λ hyphen. at_piece (hyphen.word_before, begins_cut rule (y ∷ ys ++ a) hyphen.next) hyphen.too_wide)
+    (λ hyphen. at_piece (hyphen.word_before, begins_split rule (y ∷ ys ++ a) hyphen.next) hyphen.too_wide)
     (λ hard. let t = hard.too_wide in omega arith)))
     l.breaks
 
--- the parts that two cuts of one list have first: the same, or one of them is longer
-abbrev pub Cuts : {A : Type 0} → List A → List A → List A → List A → Type 0
-Cuts {A} k a m b = (k ≡ m) ⊎ (((y : A) × (ys : List A) × (m ≡ k ++ y ∷ ys) × (a ≡ y ∷ ys ++ b)) ⊎ ((y : A) × (ys : List A) × (k ≡ m ++ y ∷ ys) × (b ≡ y ∷ ys ++ a)))
+-- two prefixes of one list: the same, or one of them is longer
+abbrev pub Prefixes : {A : Type 0} → List A → List A → List A → List A → Type 0
+Prefixes {A} k a m b = (k ≡ m) ⊎ (((y : A) × (ys : List A) × (m ≡ k ++ y ∷ ys) × (a ≡ y ∷ ys ++ b)) ⊎ ((y : A) × (ys : List A) × (k ≡ m ++ y ∷ ys) × (b ≡ y ∷ ys ++ a)))
 
-pub cuts : {A : Type 0} (k a m b : List A) → k ++ a ≡ m ++ b → Cuts k a m b
-cuts [] a [] b e = inl refl
-cuts [] a (y ∷ m) b e = inr (inl (y, m, refl, e))
-cuts (y ∷ k) a [] b e = inr (inr (y, k, refl, sym e))
-cuts (x ∷ k) a (y ∷ m) b e =
+pub prefixes : {A : Type 0} (k a m b : List A) → k ++ a ≡ m ++ b → Prefixes k a m b
+prefixes [] a [] b e = inl refl
+prefixes [] a (y ∷ m) b e = inr (inl (y, m, refl, e))
+prefixes (y ∷ k) a [] b e = inr (inr (y, k, refl, sym e))
+prefixes (x ∷ k) a (y ∷ m) b e =
     let h : x ≡ y = cc in
     let t : k ++ a ≡ m ++ b = cc in
-    ⊎_elim (λ s. inl (cc)) (⊎_elim (λ s. inr (inl (s.0, s.1, cc s.2, s.3))) (λ s. inr (inr (s.0, s.1, cc s.2, s.3)))) (cuts k a m b t)
+    ⊎_elim (λ s. inl (cc)) (⊎_elim (λ s. inr (inl (s.0, s.1, cc s.2, s.3))) (λ s. inr (inr (s.0, s.1, cc s.2, s.3)))) (prefixes k a m b t)
 
 -- a list has at most one line at its front
 pub same_line : {A : Type 0} (rule : Rule A) (k a m b : List A) → k ++ a ≡ m ++ b → IsLine rule k a → IsLine rule m b → k ≡ m
@@ -110,7 +110,7 @@ same_line rule k a m b e l n =
     (⊎_elim
     (λ s. absurd (no_longer rule k s.0 s.1 b (subst (λ t. IsLine rule k t) s.3 l) (subst (λ t. IsLine rule t b) s.2 n)))
     (λ s. absurd (no_longer rule m s.0 s.1 a (subst (λ t. IsLine rule m t) s.3 n) (subst (λ t. IsLine rule t a) s.2 l))))
-    (cuts k a m b e)
+    (prefixes k a m b e)
 
 pub same_next : {A : Type 0} (rule : Rule A) (xs ys k m r t : List A) → xs ≡ ys → IsNextLine rule xs k r → IsNextLine rule ys m t → (k ≡ m) × (r ≡ t)
 same_next rule xs ys k m r t e h g =

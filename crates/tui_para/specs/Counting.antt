@@ -7,7 +7,7 @@ use Rattle.tui_para.specs.declared.wrap.Wrap.{Wrap}
 use Rattle.tui_text.specs.Graphemes.{line_graphemes}
 use Rattle.tui_text.specs.Line.{LineData}
 use Rattle.tui_text.specs.Text.{TextData}
-use Rattle.tui_text.specs.Width.{saturated}
+use Rattle.tui_clusters.specs.Width.{saturated}
 use Rattle.tui_para.specs.declared.counting.counter.Counter.{Counter}
 
 -- nothing is read
@@ -73,9 +73,9 @@ steps rule c (x ∷ xs) = steps rule (step rule.width rule.trim c (rule.size x) 
 abbrev pub counted : Counter → ℕ
 counted c = c.lines + (if c.some then 1 else 0)
 
--- the same numbers, with the lines cut at the greatest number of 64 bits
-abbrev pub cut_count : Counter → Counter
-cut_count c = record c { lines = saturated c.lines }
+-- the same numbers, with the lines saturated at the greatest number of 64 bits
+abbrev pub saturated_count : Counter → Counter
+saturated_count c = record c { lines = saturated c.lines }
 
 -- the lines into which a text line is wrapped
 abbrev pub wrapped_len : ℕ → Wrap → Style → LineData → ℕ

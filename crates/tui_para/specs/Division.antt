@@ -8,7 +8,7 @@ group_width size [] = 0
 group_width size (v ∷ []) = sum_by size v
 group_width size (v ∷ u ∷ vs) = sum_by size v + 1 + group_width size (u ∷ vs)
 
--- the words can be cut into n groups, in order, none of which is wider than w
+-- the words can be divided into n groups, in order, none of which is wider than w
 pub record HasDivision {A : Type 0} (size : A → ℕ) (words : List (List A)) (w n : ℕ) : Type 0 where
   pub groups : List (List (List A))
   pub in_order : flat_map (λ g. g) groups ≡ words

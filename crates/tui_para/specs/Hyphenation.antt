@@ -1,4 +1,4 @@
--- Where words are cut, told from what stands directly before.
+-- Where words are split, told from what stands directly before.
 use Rattle.std.specs.Prelude.{Bool, true, false, if◌then◌else◌, ◌&&◌, List, [], ◌∷◌}
 use Rattle.tui_para.specs.Hyphens.{is_hyphen, is_letter}
 use Rattle.tui_para.specs.declared.wrapping.hyphenation.Hyphenation.{Hyphenation}
@@ -46,7 +46,7 @@ after_letter Apart = false
 after_letter Letter = true
 after_letter Hyphen = false
 
--- graphemes, each with whether its word is cut before it
+-- graphemes, each with whether its word is split before it
 abbrev pub marked_from : Hyphenation → List Glyph → List (Glyph × Bool)
 marked_from before [] = []
 marked_from before (g ∷ gs) = (g, after_hyphen before && is_letter g) ∷ marked_from (behind before g) gs

@@ -1,4 +1,4 @@
--- How the graphemes of a text line are wrapped: where words are cut, and into which lines.
+-- How the graphemes of a text line are wrapped: where words are split, and into which lines.
 use Rattle.std.specs.Prelude.{◌≡◌, ℕ, Bool, false, not, ◌&&◌, List, [], ◌∷◌, map, nat_eq}
 use Rattle.std.specs.Cmp.Lexicographic.{pointwise}
 use Rattle.tui_para.specs.Places.{wrap_kept}
@@ -23,33 +23,33 @@ is_hyphen g = is_hyphen_text g.text
 abbrev pub is_letter : Glyph → Bool
 is_letter g = not (is_hyphen g) && not (glyph_blank g)
 
--- whether a word is cut before a grapheme, where these stand before it, the last one first: a `-` is the last of them, and
+-- whether a word is split before a grapheme, where these stand before it, the last one first: a `-` is the last of them, and
 -- stands in their word directly between two graphemes that aren't `-`
-abbrev pub is_cut : List Glyph → Glyph → Bool
-is_cut [] g = false
-is_cut (h ∷ []) g = false
-is_cut (h ∷ l ∷ before) g = is_letter l && is_hyphen h && is_letter g
+abbrev pub is_split : List Glyph → Glyph → Bool
+is_split [] g = false
+is_split (h ∷ []) g = false
+is_split (h ∷ l ∷ before) g = is_letter l && is_hyphen h && is_letter g
 
--- graphemes behind others, each with whether its word is cut before it; without `hyphens` none is
-abbrev pub with_cuts : Bool → List Glyph → List Glyph → List (Glyph × Bool)
-with_cuts hyphens before [] = []
-with_cuts hyphens before (g ∷ gs) = (g, hyphens && is_cut before g) ∷ with_cuts hyphens (g ∷ before) gs
+-- graphemes behind others, each with whether its word is split before it; without `hyphens` none is
+abbrev pub with_splits : Bool → List Glyph → List Glyph → List (Glyph × Bool)
+with_splits hyphens before [] = []
+with_splits hyphens before (g ∷ gs) = (g, hyphens && is_split before g) ∷ with_splits hyphens (g ∷ before) gs
 
 -- the rule for such graphemes
 abbrev pub glyph_rule : ℕ → Wrap → Rule (Glyph × Bool)
-glyph_rule w wrap = record { blank = λ p. glyph_blank p.0; cut = λ p. p.1; size = λ p. glyph_width p.0; width = w; trim = wrap.trim }
+glyph_rule w wrap = record { blank = λ p. glyph_blank p.0; split = λ p. p.1; size = λ p. glyph_width p.0; width = w; trim = wrap.trim }
 
--- lines of them without what tells of cuts
-abbrev pub uncut : List (List (Glyph × Bool)) → List (List Glyph)
-uncut lines = map (map (λ p. p.0)) lines
+-- lines of them without what tells of splits
+abbrev pub unsplit : List (List (Glyph × Bool)) → List (List Glyph)
+unsplit lines = map (map (λ p. p.0)) lines
 
 -- the same for lines that a relation admits
-abbrev pub Uncut : (List (List (Glyph × Bool)) → Type 0) → List (List Glyph) → Type 0
-Uncut R lines = (parts : List (List (Glyph × Bool))) × R parts × (lines ≡ uncut parts)
+abbrev pub Unsplit : (List (List (Glyph × Bool)) → Type 0) → List (List Glyph) → Type 0
+Unsplit R lines = (parts : List (List (Glyph × Bool))) × R parts × (lines ≡ unsplit parts)
 
 -- graphemes behind others, none of them wider than w, are wrapped into these lines
 abbrev pub WrappedBehind : ℕ → Wrap → List Glyph → List Glyph → List (List Glyph) → Type 0
-WrappedBehind w wrap before glyphs lines = Uncut (WrapsKept (glyph_rule w wrap) (with_cuts wrap.hyphens before glyphs)) lines
+WrappedBehind w wrap before glyphs lines = Unsplit (WrapsKept (glyph_rule w wrap) (with_splits wrap.hyphens before glyphs)) lines
 
 -- the graphemes, without those that are wider than w, are wrapped into these lines
 abbrev pub Wrapped : ℕ → Wrap → List Glyph → List (List Glyph) → Type 0
@@ -57,4 +57,4 @@ Wrapped w wrap glyphs lines = WrappedBehind w wrap [] (not_wider glyph_width w g
 
 -- the lines into which they are wrapped: the one list that `Wrapped` admits
 abbrev pub wrap : ℕ → Wrap → List Glyph → List (List Glyph)
-wrap w way glyphs = uncut (wrap_kept (glyph_rule w way) (with_cuts way.hyphens [] (not_wider glyph_width w glyphs)))
+wrap w way glyphs = unsplit (wrap_kept (glyph_rule w way) (with_splits way.hyphens [] (not_wider glyph_width w glyphs)))

@@ -5,7 +5,7 @@ pub mod Hyphens
 pub mod LinesLeft
 pub mod Hyphenation
 pub mod Truncated
-pub mod Cut
+pub mod Truncation
 pub mod Counting
 pub mod Division
 pub mod Mark

@@ -1,4 +1,4 @@
--- Lines of graphemes, and how text lines are cut into them.
+-- Lines of graphemes, and the lines of text lines.
 use Rattle.std.specs.Prelude.{◌≡◌, ◌⊎◌, ◌<◌, ℕ, Bool, true, false, List, [], ◌∷◌, ◌++◌, map, flat_map, Option, Some, None}
 use Rattle.tui_text.specs.Grapheme.{Glyph, glyph_width}
 use Rattle.tui_text.specs.declared.alignment.Alignment.{Alignment}
@@ -17,15 +17,15 @@ pub record GlyphLine : Type 0 where
 abbrev pub glyph_line : Alignment → List Glyph → GlyphLine
 glyph_line alignment glyphs = record { glyphs = glyphs; alignment = alignment }
 
--- each line is cut into parts as R says, and these follow one another with its alignment
-abbrev pub CutAll : (GlyphLine → List (List Glyph) → Type 0) → List GlyphLine → List GlyphLine → Type 0
-CutAll R [] lines = lines ≡ []
-CutAll R (t ∷ ts) lines =
-    (parts : List (List Glyph)) × R t parts × ((rest : List GlyphLine) × CutAll R ts rest × (lines ≡ map (glyph_line t.alignment) parts ++ rest))
+-- the lines of each text line: parts of it as R says, one after another with its alignment
+abbrev pub LinesOfEach : (GlyphLine → List (List Glyph) → Type 0) → List GlyphLine → List GlyphLine → Type 0
+LinesOfEach R [] lines = lines ≡ []
+LinesOfEach R (t ∷ ts) lines =
+    (parts : List (List Glyph)) × R t parts × ((rest : List GlyphLine) × LinesOfEach R ts rest × (lines ≡ map (glyph_line t.alignment) parts ++ rest))
 
 -- the same where a function gives the parts
-abbrev pub cut_all : (GlyphLine → List (List Glyph)) → List GlyphLine → List GlyphLine
-cut_all f ts = flat_map (λ t. map (glyph_line t.alignment) (f t)) ts
+abbrev pub lines_of_each : (GlyphLine → List (List Glyph)) → List GlyphLine → List GlyphLine
+lines_of_each f ts = flat_map (λ t. map (glyph_line t.alignment) (f t)) ts
 
 -- it is wrapped
 abbrev pub WrapsLine : ℕ → Wrap → GlyphLine → List (List Glyph) → Type 0
@@ -37,28 +37,28 @@ is_left Left = true
 is_left Center = false
 is_left Right = false
 
--- it is cut to one line, the offset being left out of Left lines
+-- it is truncated to one line, the offset being left out of Left lines
 abbrev pub TruncatesLine : ℕ → ℕ → GlyphLine → List (List Glyph) → Type 0
 TruncatesLine w offset t parts = (line : List Glyph) × Truncated glyph_width w (is_left t.alignment) offset t.glyphs line × (parts ≡ line ∷ [])
 
--- lines of a width above 0 into which something is cut that is given; none at width 0
+-- lines of a width above 0 that R has of something that is given; none at width 0
 abbrev pub LinesFrom : {X : Type 0} → (X → Type 0) → (X → List GlyphLine → Type 0) → ℕ → List GlyphLine → Type 0
-LinesFrom {X} given cuts w lines = ((w ≡ 0) × (lines ≡ [])) ⊎ ((0 < w) × ((x : X) × given x × cuts x lines))
+LinesFrom {X} given R w lines = ((w ≡ 0) × (lines ≡ [])) ⊎ ((0 < w) × ((x : X) × given x × R x lines))
 
 -- those that may come, and those that come in any case, where something of `given` comes
 abbrev pub lines_from : {X : Type 0} → Answers X → (X → List GlyphLine → Type 0) → ℕ → Answers (List GlyphLine)
-lines_from given cuts w = record { may = LinesFrom given.may cuts w; will = LinesFrom given.will cuts w }
+lines_from given R w = record { may = LinesFrom given.may R w; will = LinesFrom given.will R w }
 
--- those into which one of the lists of text lines is cut
+-- those of one of the lists of text lines
 abbrev pub LinesOf : (List GlyphLine → Type 0) → (GlyphLine → List (List Glyph) → Type 0) → ℕ → List GlyphLine → Type 0
-LinesOf texts R w lines = LinesFrom texts (CutAll R) w lines
+LinesOf texts R w lines = LinesFrom texts (LinesOfEach R) w lines
 
 -- the lines of a text line that was begun and of those after it: the parts left of the first one, which `Begun` tells, in
 -- its alignment, and then all parts of the others
-abbrev pub PartsThenLines : (Begun : List (List Glyph) → Type 0) → Alignment → (Cuts : GlyphLine → List (List Glyph) → Type 0) → List GlyphLine →
+abbrev pub PartsThenLines : (Begun : List (List Glyph) → Type 0) → Alignment → (Whole : GlyphLine → List (List Glyph) → Type 0) → List GlyphLine →
     List GlyphLine → Type 0
-PartsThenLines Begun alignment Cuts others lines =
-    (parts : List (List Glyph)) × Begun parts × ((rest : List GlyphLine) × CutAll Cuts others rest × (lines ≡ map (glyph_line alignment) parts ++ rest))
+PartsThenLines Begun alignment Whole others lines =
+    (parts : List (List Glyph)) × Begun parts × ((rest : List GlyphLine) × LinesOfEach Whole others rest × (lines ≡ map (glyph_line alignment) parts ++ rest))
 
 -- the text lines that are still given: none where this is done, else those that `Given` tells
 abbrev pub GivenUnlessDone : (done : Bool) → (Given : List GlyphLine → Type 0) → List GlyphLine → Type 0

@@ -11,7 +11,7 @@ turned [] before = before
 turned (g ∷ gs) before = turned gs (g ∷ before)
 
 -- the first k lines are those of a front of the graphemes, and the lines from the k-th on are those of the rest, of which words
--- are cut as in the whole; without breaks after hyphens they are the wrapping of the rest alone
+-- are split as in the whole; without breaks after hyphens they are the wrapping of the rest alone
 pub record GoesOnAfter (w : ℕ) (wrap : Wrap) (glyphs : List Glyph) (lines : List (List Glyph)) (k : ℕ) : Type 0 where
   pub front : List Glyph
   pub rest : List Glyph

@@ -7,21 +7,21 @@ use Rattle.tui_para.specs.Rule.{Rule}
 use Rattle.tui_para.specs.declared.wrap.Wrap.{Wrap}
 use Rattle.tui_para.specs.declared.wrapping.mark.Mark.{Mark}
 
--- of one with whether its word is cut before it
+-- of one with whether its word is split before it
 abbrev pub mark_of : Glyph × Bool → Mark
-mark_of p = record { width = glyph_width p.0; blank = glyph_blank p.0; cut = p.1 }
+mark_of p = record { width = glyph_width p.0; blank = glyph_blank p.0; split = p.1 }
 
 -- whether the grapheme is blank
 abbrev pub is_blank : Mark → Bool
 is_blank m = m.blank
 
--- its word is cut before it
-abbrev pub is_cut : Mark → Bool
-is_cut m = m.cut
+-- its word is split before it
+abbrev pub is_split : Mark → Bool
+is_split m = m.split
 
 -- a piece of a word ends before it
 abbrev pub ends_before : Mark → Bool
-ends_before m = m.cut || m.blank
+ends_before m = m.split || m.blank
 
 -- its columns
 abbrev pub size_of : Mark → ℕ
@@ -29,9 +29,9 @@ size_of m = m.width
 
 -- the rule by which marks are wrapped
 abbrev pub mark_rule : ℕ → Wrap → Rule Mark
-mark_rule w wrap = record { blank = is_blank; cut = is_cut; size = size_of; width = w; trim = wrap.trim }
+mark_rule w wrap = record { blank = is_blank; split = is_split; size = size_of; width = w; trim = wrap.trim }
 
 -- each grapheme has its mark
 pub record AreMarks (graphemes : List StyledGrapheme) (marks : List Mark) : Type 0 where
   pub together : length graphemes ≡ length marks
-  pub marked : marks ≡ map mark_of (zip (map glyph_of graphemes) (map is_cut marks))
+  pub marked : marks ≡ map mark_of (zip (map glyph_of graphemes) (map is_split marks))

@@ -5,30 +5,30 @@ use Rattle.tui_text.specs.Grapheme.{Glyph, glyph_of, glyph_width}
 use Rattle.tui_text.specs.declared.grapheme.StyledGrapheme.{StyledGrapheme}
 use Rattle.tui_para.specs.Hyphenation.{behind_all, marked_from}
 use Rattle.tui_para.specs.Wrapped.{not_wider}
-use Rattle.tui_para.specs.Mark.{is_cut}
+use Rattle.tui_para.specs.Mark.{is_split}
 use Rattle.tui_para.specs.declared.wrapping.hyphenation.Hyphenation.{Hyphenation}
 use Rattle.tui_para.specs.declared.wrapping.hyphenation.Hyphenation.TheVariants.{Off}
 use Rattle.tui_para.specs.declared.wrapping.marked.Marked.{Marked}
 use Rattle.tui_para.specs.declared.wrapping.part.Part.{Part}
 
--- each with whether its word is cut before it
-abbrev pub cuts_of : Marked → List (Glyph × Bool)
-cuts_of m = zip (map glyph_of m.graphemes.items) (map is_cut m.marks.items)
+-- each with whether its word is split before it
+abbrev pub splits_of : Marked → List (Glyph × Bool)
+splits_of m = zip (map glyph_of m.graphemes.items) (map is_split m.marks.items)
 
 -- the graphemes alone
 abbrev pub glyphs_of : Marked → List Glyph
-glyphs_of m = map (λ p. p.0) (cuts_of m)
+glyphs_of m = map (λ p. p.0) (splits_of m)
 
--- behind the graphemes that were there stand those of `taken` that are not wider than w, with their words cut as behind `before`
+-- behind the graphemes that were there stand those of `taken` that are not wider than w, with their words split as behind `before`
 abbrev pub StandBehind : Hyphenation → ℕ → List StyledGrapheme → Marked → Marked → Type 0
-StandBehind before w taken old new = cuts_of new ≡ cuts_of old ++ marked_from before (not_wider glyph_width w (map glyph_of taken))
+StandBehind before w taken old new = splits_of new ≡ splits_of old ++ marked_from before (not_wider glyph_width w (map glyph_of taken))
 
 -- so as behind the graphemes that were there
 pub record HasKept (w : ℕ) (taken : List StyledGrapheme) (old new : Marked) : Type 0 where
   pub behind : StandBehind old.hyphenation w taken old new
   pub goes_on : new.hyphenation ≡ behind_all old.hyphenation (not_wider glyph_width w (map glyph_of taken))
 
--- the same with no word cut, which is told later
+-- the same with no word split, which is told later
 pub record HasPut (w : ℕ) (taken : List StyledGrapheme) (old new : Marked) : Type 0 where
   pub behind : StandBehind Off w taken old new
   pub same : new.hyphenation ≡ old.hyphenation

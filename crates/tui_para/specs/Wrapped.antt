@@ -74,9 +74,9 @@ pub record BreaksBefore {A : Type 0} (rule : Rule A) (test : A → Bool) (room :
 abbrev pub IsSoftBreak : {A : Type 0} → Rule A → ℕ → List A → List A → Type 0
 IsSoftBreak rule room line after = BreaksBefore rule rule.blank room line after
 
--- a line is broken where a word may be cut
+-- a line is broken where a word may be split
 abbrev pub IsHyphenBreak : {A : Type 0} → Rule A → ℕ → List A → List A → Type 0
-IsHyphenBreak rule room line after = BreaksBefore rule rule.cut room line after
+IsHyphenBreak rule room line after = BreaksBefore rule rule.split room line after
 
 -- the line is blanks and then a part of one piece, and the next grapheme is wider than the room
 pub record IsHardBreak {A : Type 0} (rule : Rule A) (room : ℕ) (line after : List A) : Type 0 where

@@ -1,8 +1,8 @@
--- The lines into which a text is cut.
+-- The lines of a text.
 use Rattle.std.specs.Prelude.{ℕ, All, List, [], ◌∷◌, map, unwrap_or}
 use Rattle.tui_cells.specs.declared.style.Style.{Style}
 use Rattle.tui_para.specs.Division.{SpacedWithin}
-use Rattle.tui_para.specs.Lines.{GlyphLine, glyph_line, is_left, CutAll, cut_all, WrapsLine, TruncatesLine}
+use Rattle.tui_para.specs.Lines.{GlyphLine, glyph_line, is_left, LinesOfEach, lines_of_each, WrapsLine, TruncatesLine}
 use Rattle.tui_para.specs.Hyphens.{wrap}
 use Rattle.tui_para.specs.Truncated.{truncate}
 use Rattle.tui_para.specs.declared.wrap.Wrap.{Wrap}
@@ -23,19 +23,19 @@ text_glyph_lines text alignment = map (text_glyph_line text.style alignment) tex
 
 -- the text is wrapped into these lines: those of each text line, in order
 abbrev pub WrappedText : ℕ → Wrap → Alignment → TextData → List GlyphLine → Type 0
-WrappedText w wrap alignment text lines = CutAll (WrapsLine w wrap) (text_glyph_lines text alignment) lines
+WrappedText w wrap alignment text lines = LinesOfEach (WrapsLine w wrap) (text_glyph_lines text alignment) lines
 
--- the text is not wrapped and is cut into these lines: one of each text line
+-- the text is not wrapped and has these lines: one of each text line
 abbrev pub TruncatedText : ℕ → ℕ → Alignment → TextData → List GlyphLine → Type 0
-TruncatedText w offset alignment text lines = CutAll (TruncatesLine w offset) (text_glyph_lines text alignment) lines
+TruncatedText w offset alignment text lines = LinesOfEach (TruncatesLine w offset) (text_glyph_lines text alignment) lines
 
 -- the same as functions
 abbrev pub wrap_text : ℕ → Wrap → Alignment → TextData → List GlyphLine
-wrap_text w way alignment text = cut_all (λ t. wrap w way t.glyphs) (text_glyph_lines text alignment)
+wrap_text w way alignment text = lines_of_each (λ t. wrap w way t.glyphs) (text_glyph_lines text alignment)
 
--- the lines of a text that is not wrapped, each cut at the width
+-- the lines of a text that is not wrapped, each truncated at the width
 abbrev pub truncate_text : ℕ → ℕ → Alignment → TextData → List GlyphLine
-truncate_text w offset alignment text = cut_all (λ t. truncate glyph_width w (is_left t.alignment) offset t.glyphs ∷ []) (text_glyph_lines text alignment)
+truncate_text w offset alignment text = lines_of_each (λ t. truncate glyph_width w (is_left t.alignment) offset t.glyphs ∷ []) (text_glyph_lines text alignment)
 
 -- each line of the text is the words given for it, parted by single blanks of width 1, none of them wider than w
 abbrev pub IsTextOf : (LineData → List (List Glyph)) → ℕ → TextData → Type 0

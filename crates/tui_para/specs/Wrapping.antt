@@ -7,10 +7,10 @@ use Rattle.tui_text.specs.declared.alignment.Alignment.{Alignment}
 use Rattle.tui_text.specs.declared.grapheme.StyledGrapheme.{StyledGrapheme}
 use Rattle.tui_para.specs.Answers.{Answers, both}
 use Rattle.tui_para.specs.Given.{AllReady, Ready, SourceReads, line_answers, source_answers}
-use Rattle.tui_para.specs.Lines.{GlyphLine, glyph_line, CutAll, IsFirst, IsFirstOf, PartsThenLines, TruncatesLine, WrapsLine, lines_from}
-use Rattle.tui_para.specs.Marked.{IsPart, cuts_of, glyphs_of, part_of}
+use Rattle.tui_para.specs.Lines.{GlyphLine, glyph_line, LinesOfEach, IsFirst, IsFirstOf, PartsThenLines, TruncatesLine, WrapsLine, lines_from}
+use Rattle.tui_para.specs.Marked.{IsPart, splits_of, glyphs_of, part_of}
 use Rattle.tui_para.specs.Hyphenation.{behind_all, marked_from}
-use Rattle.tui_para.specs.Hyphens.{Uncut, glyph_rule}
+use Rattle.tui_para.specs.Hyphens.{Unsplit, glyph_rule}
 use Rattle.tui_para.specs.Wrapped.{HasLines, WrapsKept, not_wider}
 use Rattle.tui_para.specs.declared.wrap.Wrap.{Wrap}
 use Rattle.tui_para.specs.declared.wrapping.breaking.Place.{Place}
@@ -19,9 +19,9 @@ use Rattle.tui_para.specs.declared.wrapping.text_line.TextLine.{TextLine}
 use Rattle.tui_para.specs.declared.truncator.LineTruncator.{LineTruncator}
 use Rattle.tui_para.specs.declared.wrapper.WordWrapper.{WordWrapper}
 
--- the graphemes of a text line from a place on, where these are still to be read, each with whether its word is cut before it
+-- the graphemes of a text line from a place on, where these are still to be read, each with whether its word is split before it
 abbrev pub glyphs_from : {I : Type 0} → TextLine I → ℕ → List Glyph → List (Glyph × Bool)
-glyphs_from s place glyphs = drop place (cuts_of s.line) ++ marked_from s.line.hyphenation (not_wider glyph_width s.width glyphs)
+glyphs_from s place glyphs = drop place (splits_of s.line) ++ marked_from s.line.hyphenation (not_wider glyph_width s.width glyphs)
 
 -- the lines of the graphemes that are left of a text line: one at least where none was lent
 abbrev pub LinesOfRest : Bool → ℕ → Wrap → List (Glyph × Bool) → List (List (Glyph × Bool)) → Type 0
@@ -29,22 +29,22 @@ LinesOfRest is_new w wrap glyphs parts = ((is_new ≡ true) × WrapsKept (glyph_
     ⊎ ((is_new ≡ false) × HasLines (glyph_rule w wrap) glyphs parts)
 
 -- those that are not lent yet, where these graphemes are still to be read
-abbrev pub CutPartsWith : {I : Type 0} → TextLine I → List Glyph → List (List (Glyph × Bool)) → Type 0
-CutPartsWith s glyphs = LinesOfRest s.is_new s.width s.wrap (glyphs_from s s.place glyphs)
+abbrev pub SplitPartsWith : {I : Type 0} → TextLine I → List Glyph → List (List (Glyph × Bool)) → Type 0
+SplitPartsWith s glyphs = LinesOfRest s.is_new s.width s.wrap (glyphs_from s s.place glyphs)
 
 -- likewise as graphemes alone
 abbrev pub PartsWith : {I : Type 0} → TextLine I → List Glyph → List (List Glyph) → Type 0
-PartsWith s glyphs = Uncut (CutPartsWith s glyphs)
+PartsWith s glyphs = Unsplit (SplitPartsWith s glyphs)
 
 -- the first of them is what stands at this place, and those after it begin at the next
 abbrev pub FirstLine : {I : Type 0} → TextLine I → Place → List Glyph → Type 0
-FirstLine s p glyphs = IsFirstOf (Some (between p.start p.end (cuts_of s.line))) (CutPartsWith s glyphs)
+FirstLine s p glyphs = IsFirstOf (Some (between p.start p.end (splits_of s.line))) (SplitPartsWith s glyphs)
     (HasLines (glyph_rule s.width s.wrap) (glyphs_from s p.next glyphs))
 
 -- the place is that of the first line, whatever is still to be read
 pub record IsNextPlace {I : Type 0} (s : TextLine I) (p : Place) : Type 0 where
   pub order : p.start ≤ p.end
-  pub within : (p.end ≤ length (cuts_of s.line)) × (p.next ≤ length (cuts_of s.line))
+  pub within : (p.end ≤ length (splits_of s.line)) × (p.next ≤ length (splits_of s.line))
   pub columns : p.width ≡ sum_by glyph_width (between p.start p.end (glyphs_of s.line))
   pub first : (glyphs : List Glyph) → (s.source ≡ None → glyphs ≡ []) → FirstLine s p glyphs
 
@@ -52,8 +52,8 @@ pub record IsNextPlace {I : Type 0} (s : TextLine I) (p : Place) : Type 0 where
 pub record HasRead {I : Type 0} (gives : I → Option StyledGrapheme → I → Type 0) (old new : TextLine I) : Type 0 where
   pub taken : List StyledGrapheme
   pub reads : SourceReads gives old.source taken new.source
-  pub behind : drop new.place (cuts_of new.line)
-      ≡ drop old.place (cuts_of old.line) ++ marked_from old.line.hyphenation (not_wider glyph_width old.width (map glyph_of taken))
+  pub behind : drop new.place (splits_of new.line)
+      ≡ drop old.place (splits_of old.line) ++ marked_from old.line.hyphenation (not_wider glyph_width old.width (map glyph_of taken))
   pub goes_on : new.line.hyphenation ≡ behind_all old.line.hyphenation (not_wider glyph_width old.width (map glyph_of taken))
   pub is_new : new.is_new ≡ old.is_new
   pub width : new.width ≡ old.width
@@ -70,12 +70,12 @@ pub record FindsPart {I : Type 0} (gives : I → Option StyledGrapheme → I →
   pub ends : found ≡ None → new.source ≡ None
 
 -- the lines of a wrapper, where these are the graphemes and the text lines that its iterators still give
-abbrev pub WrapperCuts : {O I : Type 0} → WordWrapper O I → List Glyph × List GlyphLine → List GlyphLine → Type 0
-WrapperCuts s x = PartsThenLines (PartsWith s.current x.0) s.alignment (WrapsLine s.current.width s.current.wrap) x.1
+abbrev pub WrapperLines : {O I : Type 0} → WordWrapper O I → List Glyph × List GlyphLine → List GlyphLine → Type 0
+WrapperLines s x = PartsThenLines (PartsWith s.current x.0) s.alignment (WrapsLine s.current.width s.current.wrap) x.1
 
 -- those of a truncator, where these text lines are still given
-abbrev pub TruncatorCuts : {O I : Type 0} → LineTruncator O I → List GlyphLine → List GlyphLine → Type 0
-TruncatorCuts s = CutAll (TruncatesLine s.width s.offset)
+abbrev pub TruncatorLines : {O I : Type 0} → LineTruncator O I → List GlyphLine → List GlyphLine → Type 0
+TruncatorLines s = LinesOfEach (TruncatesLine s.width s.offset)
 
 module _ {O I : Type 0} (outer : O → Option (I × Alignment) → O → Type 0) (inner : I → Option StyledGrapheme → I → Type 0) where
   -- what their iterators still give
@@ -87,10 +87,10 @@ module _ {O I : Type 0} (outer : O → Option (I × Alignment) → O → Type 0)
 
   -- and so the lines that they may lend, and those that they lend in any case
   abbrev pub wrapper_lends : WordWrapper O I → Answers (List GlyphLine)
-  wrapper_lends s = lines_from (wrapper_answers s) (WrapperCuts s) s.current.width
+  wrapper_lends s = lines_from (wrapper_answers s) (WrapperLines s) s.current.width
 
   abbrev pub truncator_lends : LineTruncator O I → Answers (List GlyphLine)
-  truncator_lends s = lines_from (truncator_answers s) (TruncatorCuts s) s.width
+  truncator_lends s = lines_from (truncator_answers s) (TruncatorLines s) s.width
 
   abbrev pub WrapperMayLend : WordWrapper O I → List GlyphLine → Type 0
   WrapperMayLend s = (wrapper_lends s).may
@@ -110,7 +110,7 @@ module _ {O I : Type 0} (outer : O → Option (I × Alignment) → O → Type 0)
     pub first : IsFirst (option_map (λ p. glyph_line new.alignment (part_of (glyphs_of new.current.line) p)) found) (wrapper_lends old) (wrapper_lends new)
 
   -- a truncator found its next line, which is what it keeps and has so many columns, or that there is none
-  pub record FindsCut (old new : LineTruncator O I) (found : Option ℕ) : Type 0 where
+  pub record FindsTruncated (old new : LineTruncator O I) (found : Option ℕ) : Type 0 where
     pub columns : IfSome found (λ n. n ≡ sum_by glyph_width (map glyph_of new.shown.items))
     pub first : IsFirst (option_map (λ _. glyph_line new.alignment (map glyph_of new.shown.items)) found) (truncator_lends old) (truncator_lends new)
 

@@ -4,7 +4,7 @@ ghost use Rattle.std.specs.Prelude.{◌≡◌, ◌<◌, ◌^◌};
 ghost use Rattle.tui_para.specs.Counting.{wrapped_len, wrapped_text_len};
 ghost use Rattle.tui_text.specs.Line.{line_data};
 ghost use Rattle.tui_text.specs.Text.{text_data};
-ghost use Rattle.tui_text.specs.Width.{saturated};
+ghost use Rattle.tui_clusters.specs.Width.{saturated};
 
 mod counter;
 
@@ -14,7 +14,7 @@ use crate::wrapping::hyphenation::Hyphenation;
 use tui_cells::Style;
 use tui_text::{Line, Text};
 
-/// How many lines a text line is wrapped into, cut at the greatest number of 64 bits.
+/// How many lines a text line is wrapped into, saturated at the greatest number of 64 bits.
 fn line_count(line: &Line<'_>, base: Style, width: usize, wrap: Wrap) -> usize
     requires { width < 2 ^ 16 }
     ensures { result ≡ saturated (wrapped_len width wrap base (line_data line.now)) }
@@ -31,7 +31,7 @@ fn line_count(line: &Line<'_>, base: Style, width: usize, wrap: Wrap) -> usize
     counter.count().max(1)
 }
 
-/// How many lines the text lines are wrapped into together, cut at the greatest number of 64 bits.
+/// How many lines the text lines are wrapped into together, saturated at the greatest number of 64 bits.
 pub(crate) fn wrapped_count(text: &Text<'_>, width: usize, wrap: Wrap) -> usize
     requires { width < 2 ^ 16 }
     ensures { result ≡ saturated (wrapped_text_len width wrap (text_data text.now)) }

@@ -33,7 +33,7 @@ pub fn wrapping_leaves_out_blanks()
         → LeavesOutBlanks glyph_blank (not_wider glyph_width w graphemes) lines }
 {}
 
-/// The lines of a wrapping from any of them on are those of the graphemes that are left there, cut where their words are cut
+/// The lines of a wrapping from any of them on are those of the graphemes that are left there, split where their words are split
 /// in the whole. Without breaks after hyphens they are the wrapping of these graphemes alone, so that a text line can be
 /// wrapped on from the beginning of any of its lines.
 pub fn wrapping_goes_on()

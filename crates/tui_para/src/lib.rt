@@ -3,7 +3,6 @@
 
 pub mod composer;
 mod counting;
-mod cutting;
 mod ends;
 mod laws;
 pub mod logo;
@@ -11,6 +10,7 @@ mod painting;
 pub mod paragraph;
 pub mod size;
 pub mod text_lines;
+mod truncating;
 pub mod truncator;
 pub mod wrap;
 pub mod wrapper;

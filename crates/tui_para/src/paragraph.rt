@@ -11,7 +11,8 @@ ghost use Rattle.tui_text.specs.Grapheme.{Glyph, glyph_width};
 ghost use Rattle.tui_text.specs.Line.{LineData};
 ghost use Rattle.tui_text.specs.Text.{text_data};
 ghost use Rattle.tui_text.specs.declared.alignment.Alignment.TheVariants.{Left, Center, Right};
-ghost use Rattle.tui_text.specs.Width.{text_width, saturated};
+ghost use Rattle.tui_clusters.specs.Width.{saturated};
+ghost use Rattle.tui_text.specs.Width.{text_width};
 
 mod rendering;
 
@@ -22,7 +23,7 @@ use tui_cells::{Mem, Position, Style, Styled};
 use tui_frames::{Block, beside, clone_if_some, columns_if_some, rows_if_some};
 use tui_text::{Alignment, Text};
 
-/// A text shown in rows. Without a wrap each line of the text has one row and is cut at its right
+/// A text shown in rows. Without a wrap each line of the text has one row and is truncated at its right
 /// end; with one it is broken into rows of the width that there is.
 #[derive(Debug, PartialEq, Eq, Hash)]
 pub struct Paragraph<'a> {
@@ -143,7 +144,7 @@ impl<'a> Paragraph<'a> {
         })
     }
 
-    /// The number of lines at a width, and the rows of a block above and below them, cut at the greatest number of 64 bits. It is 0
+    /// The number of lines at a width, and the rows of a block above and below them, saturated at the greatest number of 64 bits. It is 0
     /// at width 0. Without a wrap it is the number of the text's lines. The width is that of the lines, without the block's
     /// columns. It takes no memory.
     pub fn line_count(&self, _alloc: Global, width: u16) -> Mem<usize>
@@ -187,7 +188,7 @@ impl<'a> Paragraph<'a> {
         }
     }
 
-    /// The columns of the widest line of the text, and those of a block beside it, cut at the greatest number of 64 bits.
+    /// The columns of the widest line of the text, and those of a block beside it, saturated at the greatest number of 64 bits.
     pub fn line_width(&self) -> usize
         ensures { result ≡ beside (saturated (text_width (paragraph_data self.now).text)) (block_columns (paragraph_data self.now)) }
     {

@@ -1,4 +1,4 @@
-//! The lines of a text, to be cut.
+//! The lines of a text, to be wrapped or truncated.
 
 ghost use Rattle.std.specs.Prelude.{◌≡◌, drop};
 ghost use Rattle.std.specs.Iterator.{item_count, YieldsFirstBy};

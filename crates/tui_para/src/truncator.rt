@@ -1,20 +1,20 @@
-//! Text lines that are cut.
+//! Text lines that are truncated.
 
 ghost use Rattle.std.specs.Prelude.{◌≡◌, ◌↔◌, ℕ, List, false, true, IfOk, MatchResult};
 ghost use Rattle.tui_para.specs.Given.{AllReady, MayGive, MayBe, WillGive, WillBe};
 ghost use Rattle.tui_para.specs.Lines.{GlyphLine, LinesOf, TruncatesLine, GivenUnlessDone};
-ghost use Rattle.tui_para.specs.Wrapping.{FindsCut, TruncatorCanLend, TruncatorMayLend, TruncatorWillLend};
+ghost use Rattle.tui_para.specs.Wrapping.{FindsTruncated, TruncatorCanLend, TruncatorMayLend, TruncatorWillLend};
 
 use crate::composer::{LineComposer, WrappedLine};
-use crate::cutting::cut::Cut;
-use crate::cutting::truncating::refill;
 use crate::ends::read_lines;
+use crate::truncating::refilling::refill;
+use crate::truncating::truncation::Truncation;
 use std::alloc::Global;
 use std::marker::PhantomData;
 use tui_cells::{Mem, NoMemory};
 use tui_text::{Alignment, StyledGrapheme};
 
-/// Cuts text lines at a width: of each the graphemes that fit, with its alignment. It reads each to its end, and keeps
+/// Truncates text lines at a width: of each the graphemes that fit, with its alignment. It reads each to its end, and keeps
 /// what is shown of it alone.
 #[derive(Drop)]
 pub struct LineTruncator<'a, O, I> {
@@ -68,7 +68,7 @@ where
         requires { TruncatorCanLend O.Iterator I.Iterator self.old }
         ensures ready { TruncatorCanLend O.Iterator I.Iterator self.new }
         ensures failed { MatchResult result (λ _. (self.old.failed ≡ false) × (self.new.failed ≡ false)) (λ _. self.new.failed ≡ true) }
-        ensures found { IfOk result (FindsCut O.next_gives I.next_gives self.old self.new) }
+        ensures found { IfOk result (FindsTruncated O.next_gives I.next_gives self.old self.new) }
     {
         if self.failed {
             return Err(NoMemory);
@@ -83,8 +83,8 @@ where
             }
             Some((line, alignment)) => {
                 self.alignment = alignment;
-                let cut = Cut::new(self.width, alignment, self.offset);
-                match refill(&mut self.shown, line, cut) {
+                let truncation = Truncation::new(self.width, alignment, self.offset);
+                match refill(&mut self.shown, line, truncation) {
                     Err(_) => {
                         self.failed = true;
                         Err(NoMemory)

@@ -1,7 +1,4 @@
-pub mod Causes
-pub mod Gathers
-pub mod Laws
-pub mod Limits
-pub mod Memory
-pub mod Print
-pub mod Runs
+pub use Rattle.tui_outside.specs as outside
+pub use Rattle.tui_print.specs as print
+pub use Rattle.tui_rows.specs as rows
+pub use Rattle.tui_schema.specs as schema

@@ -1,24 +1,10 @@
-//! The outside of the program: what it reads from, what it writes to, and the print of a screen.
+//! The outside, the print and the schema under one name: what programs call of the crates below to read a scene and to print it.
 #![tactic(auto)]
 
-mod laws;
-mod memory_sink;
-mod memory_source;
-mod print;
-mod put;
-mod read;
-mod sink;
-mod source;
-mod standard;
-mod write;
-
-pub use laws::print_laws;
-pub use memory_sink::MemSink;
-pub use memory_source::MemSource;
-pub use print::Print;
-pub use put::put_all;
-pub use read::{CHUNK, LIMIT, ReadEnd, read_all};
-pub use sink::{Sink, WriteFault};
-pub use source::{Failed, Source};
-pub use standard::{StdSink, StdSource};
-pub use write::{write_rows, write_screen};
+pub use tui_outside::{
+    CHUNK, Failed, LIMIT, MemSink, MemSource, Print, ReadEnd, Sink, Source, StdSink, StdSource,
+    WriteFault, put_all, read_all,
+};
+pub use tui_print::{print_laws, put_runs, put_screen, put_states, write_screen};
+pub use tui_rows::{put_rows, put_symbols, write_rows};
+pub use tui_schema::{Field, Reading, SceneError, constraint_of, item_of, scene_of};

@@ -4,12 +4,12 @@ use Rattle.std.specs.Prelude.{IsUtf8}
 use Rattle.std.proofs.lemmas.List.{append-nil, length-append}
 use Rattle.std.specs.Io.KnownBytes.{Consumes, IsAtEnd}
 use Rattle.serde_json.specs.Data.{Data}
-use Rattle.tui_port.specs.Causes.{Rose}
-use Rattle.tui_port.specs.Limits.{limit}
-use Rattle.tui_program.specs.Call.{Call, ReadJson, ReadWhole}
+use Rattle.tui_outside.specs.Causes.{HasFailed}
+use Rattle.tui_outside.specs.Limits.{limit}
+use Rattle.tui_program.specs.Transcript.{ReadJson, ReadWhole, Transcript}
 use Rattle.tui_program.specs.Complete.{AreJson, CallFor, IsCompleteBy, IsCompleteReading, IsCompleteTelling}
 use Rattle.tui_program.specs.Endings.{EndsBy, EndsReading, EndsTelling}
-use Rattle.tui_program.specs.Rules.{Reading, Rules, Task, reads, tells}
+use Rattle.tui_program.specs.Rules.{JobRules, Rules, Task, reads, tells}
 use Rattle.tui_program.specs.Runs.{IsRun}
 use Rattle.tui_program.specs.declared.broken.Broken.TheVariants as broken
 use Rattle.tui_program.specs.declared.ending.Ending.{Ending}
@@ -24,64 +24,64 @@ no_longer : (bytes xs : List ℕ) (left : Option (List ℕ)) → Consumes (Some 
 no_longer bytes xs None c = absurd c
 no_longer bytes xs (Some ys) c = omega (arith, ap length c, length-append xs ys)
 
-whole_is : (call : Call) (bytes xs : List ℕ) → call.source.bytes ≡ Some bytes → ReadWhole call xs → xs ≡ bytes
-whole_is call bytes xs e w = is_all bytes xs call.source_then.bytes (rw e at w.taken) w.end
+whole_is : (t : Transcript) (bytes xs : List ℕ) → t.source.bytes ≡ Some bytes → ReadWhole t xs → xs ≡ bytes
+whole_is t bytes xs e w = is_all bytes xs t.source_then.bytes (rw e at w.taken) w.end
 
-json_of : (call : Call) (bytes xs : List ℕ) (d : Data) → call.source.bytes ≡ Some bytes → ReadJson call xs d → AreJson bytes d
-json_of call bytes xs d e json =
-    let same = whole_is call bytes xs e json.whole in
+json_of : (t : Transcript) (bytes xs : List ℕ) (d : Data) → t.source.bytes ≡ Some bytes → ReadJson t xs d → AreJson bytes d
+json_of t bytes xs d e json =
+    let same = whole_is t bytes xs e json.whole in
     record { within = subst (λ (b : List ℕ). length b ≤ limit) same json.whole.within; utf8 = subst IsUtf8 same json.utf8; json = rw same at json.json }
 
 -- a run without faults that had its memory ends as the bytes call for
-called : {R : Type 0} (r : Reading R) (call : Call) (e : Ending R) → EndsReading r call e →
-    (Rose call.source.faults call.source_then.faults → ⊥) → (Rose call.sink.faults call.sink_then.faults → ⊥) → e ≢ ending.Broken broken.NoMemory
-    → (bytes : List ℕ) → call.source.bytes ≡ Some bytes → CallFor r bytes e
-called r call (ending.Written written.Output) h quiet writes some bytes left =
+called : {R : Type 0} (r : JobRules R) (t : Transcript) (e : Ending R) → EndsReading r t e →
+    (HasFailed t.source t.source_then → ⊥) → (HasFailed t.sink t.sink_then → ⊥) → e ≢ ending.Broken broken.NoMemory
+    → (bytes : List ℕ) → t.source.bytes ≡ Some bytes → CallFor r bytes e
+called r t (ending.Written written.Output) h quiet writes some bytes left =
     let w = h.1 in
-    (w.1, json_of call bytes w.0 w.1 left w.2, (w.3.0, w.3.1))
-called r call (ending.Written (written.Refused x)) h quiet writes some bytes left =
+    (w.1, json_of t bytes w.0 w.1 left w.2, (w.3.0, w.3.1))
+called r t (ending.Written (written.Refused x)) h quiet writes some bytes left =
     let w = h.1 in
-    (w.1, json_of call bytes w.0 w.1 left w.2, w.3.0)
-called r call (ending.Written written.TooLong) h quiet writes some bytes left =
+    (w.1, json_of t bytes w.0 w.1 left w.2, w.3.0)
+called r t (ending.Written written.TooLong) h quiet writes some bytes left =
     let gave = h.1.0.gave in
-    omega (arith, no_longer bytes gave.bytes call.source_then.bytes (rw left at gave.taken), gave.enough)
-called r call (ending.Written written.NotJson) h quiet writes some bytes left =
+    omega (arith, no_longer bytes gave.bytes t.source_then.bytes (rw left at gave.taken), gave.enough)
+called r t (ending.Written written.NotJson) h quiet writes some bytes left =
     let w = h.1.0 in
-    let same = whole_is call bytes w.0 left w.1 in
+    let same = whole_is t bytes w.0 left w.1 in
     (subst (λ (b : List ℕ). length b ≤ limit) same w.1.within, λ utf8. rw same at (w.2 (subst IsUtf8 (sym same) utf8)))
-called r call (ending.Written written.Usage) h quiet writes some bytes left = absurd h.1.3
-called r call (ending.Broken broken.NoMemory) h quiet writes some bytes left = absurd (some refl)
-called r call (ending.Broken broken.ReadFault) h quiet writes some bytes left = absurd (quiet h.2)
-called r call (ending.Broken broken.WriteFault) h quiet writes some bytes left = absurd (writes h.3.cause)
+called r t (ending.Written written.Usage) h quiet writes some bytes left = absurd h.1.3
+called r t (ending.Broken broken.NoMemory) h quiet writes some bytes left = absurd (some refl)
+called r t (ending.Broken broken.ReadFault) h quiet writes some bytes left = absurd (quiet h.2)
+called r t (ending.Broken broken.WriteFault) h quiet writes some bytes left = absurd (writes h.3.cause)
 
 -- bytes call for one ending
-one_call : {R : Type 0} (r : Reading R) (bytes : List ℕ) (e due : Ending R) → CallFor r bytes e → CallFor r bytes due → e ≡ due
+one_call : {R : Type 0} (r : JobRules R) (bytes : List ℕ) (e due : Ending R) → CallFor r bytes e → CallFor r bytes due → e ≡ due
 one_call r bytes e due a b = grind arith
 
-complete_reading : {R : Type 0} (r : Reading R) (call : Call) (e : Ending R) → EndsReading r call e → IsCompleteReading r call e
-complete_reading r call e h quiet writes some bytes left due =
-    let call_for = called r call e h quiet writes some bytes left in
+complete_reading : {R : Type 0} (r : JobRules R) (t : Transcript) (e : Ending R) → EndsReading r t e → IsCompleteReading r t e
+complete_reading r t e h quiet writes some bytes left due =
+    let call_for = called r t e h quiet writes some bytes left in
     (λ same. subst (CallFor r bytes) same call_for, λ other. one_call r bytes e due call_for other)
 
-complete_telling : {R : Type 0} (due : List ℕ → Type 0) (call : Call) (e : Ending R) → EndsTelling due call e → IsCompleteTelling call e
-complete_telling due call (ending.Written written.Output) h writes some = refl
-complete_telling due call (ending.Written (written.Refused x)) h writes some = absurd h.1.1
-complete_telling due call (ending.Written written.TooLong) h writes some = absurd h.1.1
-complete_telling due call (ending.Written written.NotJson) h writes some = absurd h.1.1
-complete_telling due call (ending.Written written.Usage) h writes some = absurd h.1.1
-complete_telling due call (ending.Broken broken.NoMemory) h writes some = absurd (some refl)
-complete_telling due call (ending.Broken broken.ReadFault) h writes some = absurd h.1
-complete_telling due call (ending.Broken broken.WriteFault) h writes some = absurd (writes h.1.3.cause)
+complete_telling : {R : Type 0} (due : List ℕ → Type 0) (t : Transcript) (e : Ending R) → EndsTelling due t e → IsCompleteTelling t e
+complete_telling due t (ending.Written written.Output) h writes some = refl
+complete_telling due t (ending.Written (written.Refused x)) h writes some = absurd h.1.1
+complete_telling due t (ending.Written written.TooLong) h writes some = absurd h.1.1
+complete_telling due t (ending.Written written.NotJson) h writes some = absurd h.1.1
+complete_telling due t (ending.Written written.Usage) h writes some = absurd h.1.1
+complete_telling due t (ending.Broken broken.NoMemory) h writes some = absurd (some refl)
+complete_telling due t (ending.Broken broken.ReadFault) h writes some = absurd h.1
+complete_telling due t (ending.Broken broken.WriteFault) h writes some = absurd (writes h.1.3.cause)
 
-complete_by : {R : Type 0} (task : Task R) (call : Call) (e : Ending R) → EndsBy task call e → IsCompleteBy task call e
-complete_by (reads r) call e h = complete_reading r call e h
-complete_by (tells due) call e h = complete_telling due call e h
+complete_by : {R : Type 0} (task : Task R) (t : Transcript) (e : Ending R) → EndsBy task t e → IsCompleteBy task t e
+complete_by (reads r) t e h = complete_reading r t e h
+complete_by (tells due) t e h = complete_telling due t e h
 
 -- the run of the command that the words name
-pub named_run : {C R : Type 0} (rules : Rules C R) (words : List (String Global)) (call : Call) (e : Ending R) (command : C) →
-    rules.named command words × ((other : C) → rules.named other words → other ≡ command) → EndsBy (rules.task command) call e → IsRun rules words call e
-named_run rules words call e command one h = record {
+pub named_run : {C R : Type 0} (rules : Rules C R) (words : List (String Global)) (t : Transcript) (e : Ending R) (command : C) →
+    rules.named command words × ((other : C) → rules.named other words → other ≡ command) → EndsBy (rules.task command) t e → IsRun rules words t e
+named_run rules words t e command one h = record {
   ends = inl (command, one.0, h);
-  complete = λ other are. complete_by (rules.task other) call e (subst (λ c. EndsBy (rules.task c) call e) (sym (one.1 other are)) h);
+  complete = λ other are. complete_by (rules.task other) t e (subst (λ c. EndsBy (rules.task c) t e) (sym (one.1 other are)) h);
   usage = λ wrong. absurd (wrong command one.0);
 }

@@ -1,8 +1,8 @@
-pub mod Call
-pub mod Rules
-pub mod Endings
 pub mod Complete
-pub mod Status
-pub mod Words
-pub mod Runs
+pub mod Endings
 pub mod FieldLine
+pub mod Rules
+pub mod Runs
+pub mod Status
+pub mod Transcript
+pub mod Words

@@ -4,7 +4,7 @@ use Rattle.std.specs.declared.alloc.Global.{Global}
 use Rattle.serde_json.specs.Data.{Data}
 
 -- what a command does with the JSON value that it reads, where R is what it may refuse of one
-pub record Reading (R : Type 0) : Type 1 where
+pub record JobRules (R : Type 0) : Type 1 where
   -- what an accepted value says
   pub Input : Type 0
   -- that, or what is refused: the first of the tests that fails
@@ -18,7 +18,7 @@ pub record Reading (R : Type 0) : Type 1 where
 
 -- a command reads a JSON value, or it reads nothing and has an output
 pub data Task (R : Type 0) : Type 1 where
-  reads : Reading R → Task R
+  reads : JobRules R → Task R
   tells : (List ℕ → Type 0) → Task R
 
 -- the words that name a command, and what it has to do
@@ -27,5 +27,5 @@ pub record Rules (C R : Type 0) : Type 1 where
   pub task : C → Task R
 
 -- those of a program whose commands all read a value
-abbrev pub reading_rules : {C R : Type 0} → (C → List (String Global) → Type 0) → (C → Reading R) → Rules C R
-reading_rules named reading = record { named = named; task = λ command. reads (reading command) }
+abbrev pub reading_rules : {C R : Type 0} → (C → List (String Global) → Type 0) → (C → JobRules R) → Rules C R
+reading_rules named job = record { named = named; task = λ command. reads (job command) }

@@ -23,7 +23,7 @@ IsOnly {A} P None = (x : A) → P x → ⊥
 abbrev pub AreTexts : List (List ℕ) → List (String Global) → Type 0
 AreTexts texts words = map string_bytes words ≡ texts
 
--- there are so many words, of which this is the first
+-- there are `count` words, of which this is the first
 abbrev pub Begin : List ℕ → ℕ → List (String Global) → Type 0
 Begin word count words = (rest : List (List ℕ)) × AreTexts (word ∷ rest) words × (length words ≡ count)
 

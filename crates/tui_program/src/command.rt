@@ -2,7 +2,7 @@
 
 ghost use Rattle.std.specs.Prelude.{List, String};
 ghost use Rattle.std.specs.declared.alloc.Global.{Global};
-ghost use Rattle.tui_program.specs.Call.{call_of};
+ghost use Rattle.tui_program.specs.Transcript.{transcript_of};
 ghost use Rattle.tui_program.specs.Endings.{EndsBy};
 ghost use Rattle.tui_program.specs.Rules.{Rules};
 ghost use Rattle.tui_program.specs.Words.{IsOnly};
@@ -10,7 +10,7 @@ ghost use Rattle.tui_program.specs.Words.{IsOnly};
 use crate::ending::Ending;
 use crate::leftovers::Leftovers;
 use std::alloc::Global;
-use tui_port::{Sink, Source};
+use tui_outside::{Sink, Source};
 
 /// A command of a program, that words name.
 pub trait Command: Sized {
@@ -34,5 +34,5 @@ pub trait Command: Sized {
     ) -> Ending<Self::Refusal>
         requires { (words : List (String Global)) × rules.named self.now words }
         ensures { EndsBy (rules.task self.now)
-            (call_of (S.told source.old) (S.told source.new) (K.told sink.old) (K.told sink.new)) result };
+            (transcript_of (S.told source.old) (S.told source.new) (K.told sink.old) (K.told sink.new)) result };
 }

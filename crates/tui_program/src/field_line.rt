@@ -1,10 +1,10 @@
 //! The lines of fields that are refused.
 
 ghost use Rattle.std.specs.Prelude.{[], None, Some};
-ghost use Rattle.tui_port.specs.Causes.{Writes};
+ghost use Rattle.tui_outside.specs.Causes.{Writes};
 ghost use Rattle.tui_program.specs.FieldLine.{refused_field, refused_in_scene};
 
-use tui_port::{Print, Sink, WriteFault};
+use tui_outside::{Print, Sink, WriteFault};
 
 /// Writes `refused: field NAME`, or `refused: field NAME at I` for a field of the part with that number from 0, as a line of its
 /// own. `WriteFault`: the sink has taken the first bytes, but not all of them. Takes no memory.

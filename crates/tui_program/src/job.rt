@@ -1,10 +1,10 @@
 //! Commands that read a JSON value.
 
 ghost use Rattle.serde_json.specs.View.{view};
-ghost use Rattle.tui_port.specs.Causes.{Writes};
-ghost use Rattle.tui_program.specs.Call.{call_of};
+ghost use Rattle.tui_outside.specs.Causes.{Writes};
+ghost use Rattle.tui_program.specs.Transcript.{transcript_of};
 ghost use Rattle.tui_program.specs.Endings.{Answers, EndsReading, EndsWith, IsDueFor, IsPart};
-ghost use Rattle.tui_program.specs.Rules.{Reading};
+ghost use Rattle.tui_program.specs.Rules.{JobRules};
 
 use crate::broken::Broken;
 use crate::ending::Ending;
@@ -14,7 +14,7 @@ use crate::stop::Stop;
 use crate::written::Written;
 use serde_json::Value;
 use std::alloc::Global;
-use tui_port::{ReadEnd, Sink, Source, WriteFault, put_all, read_all};
+use tui_outside::{ReadEnd, Sink, Source, WriteFault, put_all, read_all};
 
 /// What a command does with the JSON value that it reads.
 pub trait Job {
@@ -22,7 +22,7 @@ pub trait Job {
     type Refusal: Copy;
 
     // What a value says, what is refused of it, and what is written.
-    ghost reading: { Self → Reading Self.Refusal };
+    ghost job_rules: { Self → JobRules Self.Refusal };
 
     /// Tests a value, and writes the output that is due for it. `Refused`: nothing is written yet.
     fn answer<K: Sink>(
@@ -32,11 +32,11 @@ pub trait Job {
         sink: &mut K,
         leftovers: Leftovers,
     ) -> Result<(), Stop<Self::Refusal>>
-        ensures { Answers (reading self.now) (view value.now) (K.told sink.old) (K.told sink.new) result };
+        ensures { Answers (job_rules self.now) (view value.now) (K.told sink.old) (K.told sink.new) result };
 
     /// Writes the line of a refusal. `WriteFault`: the sink has taken the first bytes, but not all of them. Takes no memory.
     fn refuse<K: Sink>(&self, refusal: Self::Refusal, sink: &mut K) -> Result<(), WriteFault>
-        ensures { Writes (K.told sink.old) (K.told sink.new) result ((reading self.now).line refusal) };
+        ensures { Writes (K.told sink.old) (K.told sink.new) result ((job_rules self.now).line refusal) };
 }
 
 /// Reads a source to its end, as JSON, and writes what is due for the value.
@@ -47,8 +47,8 @@ pub fn run_json<J: Job, S: Source, K: Sink>(
     sink: &mut K,
     leftovers: Leftovers,
 ) -> Ending<J::Refusal>
-    ensures { EndsReading (J.reading job.now)
-        (call_of (S.told source.old) (S.told source.new) (K.told sink.old) (K.told sink.new)) result }
+    ensures { EndsReading (J.job_rules job.now)
+        (transcript_of (S.told source.old) (S.told source.new) (K.told sink.old) (K.told sink.new)) result }
 {
     let bytes = match read_all(alloc, source) {
         Ok(bytes) => bytes,
@@ -78,7 +78,7 @@ fn run_value<J: Job, K: Sink>(
     sink: &mut K,
     leftovers: Leftovers,
 ) -> Ending<J::Refusal>
-    ensures { EndsWith (IsDueFor (J.reading job.now) (view value.now)) (IsPart (J.reading job.now) (view value.now))
+    ensures { EndsWith (IsDueFor (J.job_rules job.now) (view value.now)) (IsPart (J.job_rules job.now) (view value.now))
         (K.told sink.old) (K.told sink.new) result }
 {
     match job.answer(alloc, value, sink, leftovers) {

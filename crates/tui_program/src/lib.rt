@@ -24,6 +24,6 @@ pub use leftovers::Leftovers;
 pub use numerals::{Numerals, number_after, numbers_after};
 pub use program::{run, run_program};
 pub use reader::Reader;
-pub use stop::{Stop, told};
+pub use stop::{Stop, ending_after};
 pub use words::{are_none, is_word, words_of};
 pub use written::Written;

@@ -5,7 +5,7 @@ ghost use Rattle.tui_program.specs.Words.{HaveNumber, HaveNumbers, IsOnly, Write
 
 use crate::words::begin;
 
-/// Which numbers a word may write: in decimal digits of ASCII alone, so many at most, and within two bounds.
+/// Which numbers a word may write: in decimal digits of ASCII alone, at most `digits` of them, and within two bounds.
 #[derive(Clone, Copy, Debug, PartialEq, Eq)]
 pub struct Numerals {
     /// The most digits that the word may have, zeros before the number included.
@@ -18,7 +18,7 @@ pub struct Numerals {
 
 impl Numerals {
     /// The number that a word writes; None exactly where it writes none of these.
-    pub fn number_of(self, word: &str) -> Option<u32>
+    pub fn number_in(self, word: &str) -> Option<u32>
         ensures some { IfSome result (Write self word.now) }
         ensures none { IsNone result → (n : ℕ) → Write self word.now n → ⊥ }
     {
@@ -47,7 +47,7 @@ pub fn number_after(words: &[String], word: &str, allowed: Numerals) -> Option<u
     ensures { IsOnly (λ n. HaveNumber word.now allowed n words.now) result }
 {
     if begin(words, 2, word) {
-        allowed.number_of(words[1].as_str())
+        allowed.number_in(words[1].as_str())
     } else {
         None
     }
@@ -58,8 +58,8 @@ pub fn numbers_after(words: &[String], word: &str, allowed: Numerals) -> Option<
     ensures { IsOnly (λ p. HaveNumbers word.now allowed p.0 p.1 words.now) result }
 {
     if begin(words, 3, word) {
-        let first = allowed.number_of(words[1].as_str());
-        first.zip(allowed.number_of(words[2].as_str()))
+        let first = allowed.number_in(words[1].as_str());
+        first.zip(allowed.number_in(words[2].as_str()))
     } else {
         None
     }

@@ -1,6 +1,6 @@
 //! A whole run, from the words and the bytes that are read to the bytes that are written.
 
-ghost use Rattle.tui_program.specs.Call.{call_of};
+ghost use Rattle.tui_program.specs.Transcript.{transcript_of};
 ghost use Rattle.tui_program.specs.Runs.{IsRun, IsRunFrom};
 
 use crate::broken::Broken;
@@ -13,7 +13,7 @@ use std::alloc::Global;
 use std::env::Args;
 use std::io;
 use tui_cells::NoMemory;
-use tui_port::{Sink, Source, put_all};
+use tui_outside::{Sink, Source, put_all};
 
 /// Runs the command that the words name. Where they name none, nothing is read, and the line of the usage is written, for which
 /// no memory is wanted.
@@ -25,7 +25,7 @@ pub fn run<C: Command + Drop, S: Source, K: Sink>(
     leftovers: Leftovers,
 ) -> Ending<C::Refusal>
     ensures { IsRun C.rules words.now
-        (call_of (S.told source.old) (S.told source.new) (K.told sink.old) (K.told sink.new)) result }
+        (transcript_of (S.told source.old) (S.told source.new) (K.told sink.old) (K.told sink.new)) result }
 {
     match C::of_words(words) {
         Some(command) => command.run(alloc, source, sink, leftovers),
@@ -43,7 +43,7 @@ pub fn run_program<C: Command + Drop, S: Source, K: Sink>(
     sink: &mut K,
 ) -> Ending<C::Refusal>
     ensures { IsRunFrom C.rules args
-        (call_of (S.told source.old) (S.told source.new) (K.told sink.old) (K.told sink.new)) result }
+        (transcript_of (S.told source.old) (S.told source.new) (K.told sink.old) (K.told sink.new)) result }
 {
     match words_of(alloc, args) {
         Ok(words) => run::<C, S, K>(alloc, &words, source, sink, Leftovers::Left),

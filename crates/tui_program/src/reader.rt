@@ -10,7 +10,7 @@ use crate::ending::Ending;
 use crate::job::{Job, run_json};
 use crate::leftovers::Leftovers;
 use std::alloc::Global;
-use tui_port::{Sink, Source};
+use tui_outside::{Sink, Source};
 
 /// A command of a program whose commands all read a JSON value. It is a `Command`, whose run is `run_json`.
 pub trait Reader: Job + Sized {
@@ -25,7 +25,7 @@ pub trait Reader: Job + Sized {
 impl<C: Reader> Command for C {
     type Refusal = C::Refusal;
 
-    ghost rules = { reading_rules C.named C.reading };
+    ghost rules = { reading_rules C.named C.job_rules };
 
     fn of_words(words: &[String]) -> Option<C> {
         C::reader_of(words)

@@ -8,7 +8,8 @@ use crate::ending::Ending;
 use crate::written::Written;
 use std::alloc::{AllocError, AllocFailed};
 use tui_cells::NoMemory;
-use tui_port::WriteFault;
+use tui_json::InputError;
+use tui_outside::WriteFault;
 
 /// Why a command did not write its output whole, once its input was read.
 #[derive(Clone, Copy, Debug, PartialEq, Eq)]
@@ -29,6 +30,21 @@ impl<R> From<NoMemory> for Stop<R> {
 
     fn from(_error: NoMemory) -> Stop<R> {
         Stop::NoMemory
+    }
+}
+
+impl<R> From<InputError<R>> for Stop<R> {
+    ghost use Rattle.std.specs.Prelude.{◌≡◌};
+    ghost use Rattle.tui_json.specs.Refusals.{by_error};
+    ghost use Rattle.tui_program.specs.declared.stop.Stop.TheVariants as stops;
+
+    ghost from_gives = { λ error stop. stop ≡ by_error stops.Refused stops.NoMemory error };
+
+    fn from(error: InputError<R>) -> Stop<R> {
+        match error {
+            InputError::Refused(refusal) => Stop::Refused(refusal),
+            InputError::NoMemory => Stop::NoMemory,
+        }
     }
 }
 
@@ -66,7 +82,7 @@ impl<R, T: Drop> From<AllocFailed<T>> for Stop<R> {
 }
 
 /// How a run ends after this answer of a command that read nothing.
-pub fn told<R: Copy>(answer: Result<(), Stop<R>>) -> Ending<R>
+pub fn ending_after<R: Copy>(answer: Result<(), Stop<R>>) -> Ending<R>
     ensures { result ≡ ending_after answer }
 {
     match answer {

@@ -50,7 +50,7 @@ pub fn is_word(words: &[String], word: &str) -> bool
     begin(words, 1, word)
 }
 
-/// Whether there are so many words, of which this is the first.
+/// Whether there are `count` words, of which this is the first.
 pub(crate) fn begin(words: &[String], count: usize, word: &str) -> bool
     requires { 0 < count }
     ensures { IsTrue result ↔ Begin word.now count words.now }

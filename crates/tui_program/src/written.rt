@@ -6,7 +6,7 @@ ghost use Rattle.tui_program.specs.declared.ending.Ending.TheVariants as ending;
 
 use crate::broken::Broken;
 use crate::ending::Ending;
-use tui_port::WriteFault;
+use tui_outside::WriteFault;
 
 /// What a run has written whole, where R is what its program may refuse of the value that it reads: the output, or one line that
 /// says what is wrong.

@@ -6,8 +6,7 @@ use Rattle.std.specs.List.{AllByRecursion}
 use Rattle.std.proofs.lemmas.List.{get_or-set_other, get_or-set_same, length-set}
 use Rattle.std.proofs.lemmas.List.Sums.{sum_by-cons}
 use Rattle.std.proofs.lemmas.List.Elements.{All-get_or, recursion_from_All}
-use Rattle.std.proofs.lemmas.Bool.{cases_lt, cases_eq, cond-true, cond-false}
-use Rattle.std.proofs.lemmas.Bool.Decides.{nat_tests}
+use Rattle.std.proofs.lemmas.Bool.{cases_lt, cases_eq, cond-true, cond-false, eq-eqb, ne_eqb}
 use Rattle.tui_cells.specs.Cell.{Look}
 use Rattle.tui_cells.specs.Layers.{Layer, StayIn, layers_at}
 use Rattle.tui_cells.proofs.Painting.{layers_at-append}
@@ -69,21 +68,15 @@ sole_at x y d (a ∷ xs) (suc i) lt h =
 
 -- in an order one place stands once
 
-eq_test : (a b : ℕ) → a ≡ b → (a == b) ≡ true
-eq_test a b h = grind (arith, nat_tests)
-
-ne_test : (a b : ℕ) → a ≢ b → (a == b) ≡ false
-ne_test a b h = grind (arith, nat_tests)
-
 counted : (i j : ℕ) (order : List ℕ) → count_by (λ k. k == i) (j ∷ order) ≡ (if j == i then 1 else 0) + count_by (λ k. k == i) order
 counted i j order = sum_by-cons (λ k. if k == i then 1 else 0) j order
 
 counted_here : (i j : ℕ) (order : List ℕ) → j ≡ i → count_by (λ k. k == i) (j ∷ order) ≡ 1 + count_by (λ k. k == i) order
-counted_here i j order e = counted i j order ∙ ap (λ n. n + count_by (λ k. k == i) order) (cond-true _ _ _ (eq_test j i e))
+counted_here i j order e = counted i j order ∙ ap (λ n. n + count_by (λ k. k == i) order) (cond-true _ _ _ (eq-eqb j i e))
 
 counted_elsewhere : (i j : ℕ) (order : List ℕ) → j ≢ i → count_by (λ k. k == i) (j ∷ order) ≡ count_by (λ k. k == i) order
 counted_elsewhere i j order n =
-    counted i j order ∙ ap (λ n. n + count_by (λ k. k == i) order) (cond-false _ _ _ (ne_test j i n))
+    counted i j order ∙ ap (λ n. n + count_by (λ k. k == i) order) (cond-false _ _ _ (ne_eqb j i n))
     ∙ (let z : 0 + count_by (λ k. k == i) order ≡ count_by (λ k. k == i) order = omega arith in z)
 
 none_counted : (i : ℕ) (order : List ℕ) → count_by (λ j. j == i) order ≡ 0 → AllByRecursion (λ j. j ≢ i) order

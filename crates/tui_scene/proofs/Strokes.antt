@@ -1,10 +1,10 @@
 -- Strokes of widgets, what they leave alone, and the states that they leave.
-use Rattle.std.proofs.Common.{◌≡◌, ℕ, Bool, ◌&&◌, ◌||◌, true, false, List, ◌++◌, [], ◌∷◌, refl, ◌∙◌, ap, sym, Some, None, Option, option_map, map}
+use Rattle.std.proofs.Common.{◌≡◌, ℕ, Bool, ◌&&◌, ◌||◌, true, false, List, ◌++◌, [], ◌∷◌, refl, ◌∙◌, ap, sym, Some, None, option_map, if◌then◌else◌, map}
 use Rattle.std.proofs.lemmas.List.Concat.{flat_map-append}
 use Rattle.std.proofs.lemmas.List.{map-append}
 use Rattle.tui_cells.specs.declared.rect.Rect.{Rect}
-use Rattle.tui_cells.specs.Rect.{intersection_of}
-use Rattle.tui_cells.specs.Buffer.{cell_at}
+use Rattle.tui_cells.specs.Rect.{covers, intersection_of}
+use Rattle.tui_cells.specs.Buffer.{Screen, look_at}
 use Rattle.tui_cells.specs.Cell.{Look}
 use Rattle.tui_cells.specs.Layers.{Layer, layers_at}
 use Rattle.tui_cells.proofs.Painting.{Painted-nowhere, layers_at-append}
@@ -34,23 +34,30 @@ two area p q qs x y c =
     layers_at-append (placed_layers area p) (scene_layers area (q ∷ qs)) x y c
     ∙ layers_at-append (placed_layers area q) (scene_layers area qs) x y (layers_at (placed_layers area p) x y c)
 
-swapped_cell : (area : Rect) (ps : List PlacedData) (p q : PlacedData) (qs : List PlacedData) (x y : ℕ) →
-    (placed_footprint area p x y && placed_footprint area q x y) ≡ false → (o : Option Look) →
-    option_map (layers_at (scene_layers area (ps ++ p ∷ q ∷ qs)) x y) o ≡ option_map (layers_at (scene_layers area (ps ++ q ∷ p ∷ qs)) x y) o
-swapped_cell area ps p q qs x y apart None = refl
-swapped_cell area ps p q qs x y apart (Some c) =
+swapped_look : (area : Rect) (ps : List PlacedData) (p q : PlacedData) (qs : List PlacedData) (x y : ℕ) →
+    (placed_footprint area p x y && placed_footprint area q x y) ≡ false → (c : Look) →
+    layers_at (scene_layers area (ps ++ p ∷ q ∷ qs)) x y c ≡ layers_at (scene_layers area (ps ++ q ∷ p ∷ qs)) x y c
+swapped_look area ps p q qs x y apart c =
     let k = layers_at (scene_layers area ps) x y c in
     let turned : layers_at (placed_layers area q) x y (layers_at (placed_layers area p) x y k)
     ≡ layers_at (placed_layers area p) x y (layers_at (placed_layers area q) x y k) =
     swapped (placed_layers area p) (placed_layers area q) (placed_footprint area p x y) (placed_footprint area q x y) x y apart
     (λ out j. ((item_drawing p.item).stays (intersection_of p.area area)).cell x y out j)
     (λ out j. ((item_drawing q.item).stays (intersection_of q.area area)).cell x y out j) k in
-    ap Some (through area ps (p ∷ q ∷ qs) x y c ∙ (two area p q qs x y k
-    ∙ (ap (layers_at (scene_layers area qs) x y) turned ∙ sym (through area ps (q ∷ p ∷ qs) x y c ∙ two area q p qs x y k))))
+    through area ps (p ∷ q ∷ qs) x y c ∙ (two area p q qs x y k
+    ∙ (ap (layers_at (scene_layers area qs) x y) turned ∙ sym (through area ps (q ∷ p ∷ qs) x y c ∙ two area q p qs x y k)))
+
+-- outside a buffer there is no cell
+swapped_cell : (a : Screen) (ps : List PlacedData) (p q : PlacedData) (qs : List PlacedData) (x y : ℕ) (here : Bool) → covers a.area x y ≡ here →
+    (covers a.area x y ≡ true → (placed_footprint a.area p x y && placed_footprint a.area q x y) ≡ false) →
+    option_map (layers_at (scene_layers a.area (ps ++ p ∷ q ∷ qs)) x y) (if here then Some (look_at a x y) else None)
+    ≡ option_map (layers_at (scene_layers a.area (ps ++ q ∷ p ∷ qs)) x y) (if here then Some (look_at a x y) else None)
+swapped_cell a ps p q qs x y true is apart = ap Some (swapped_look a.area ps p q qs x y (apart is) (look_at a x y))
+swapped_cell a ps p q qs x y false is apart = refl
 
 pub order : DisjointItemsCommute
 order ps p q qs firsts seconds a b c apart first second = (
-  λ x y. first.cells.cells x y ∙ (swapped_cell a.area ps p q qs x y (apart x y) (cell_at a x y) ∙ sym (second.cells.cells x y)),
+  λ x y. first.cells.cells x y ∙ (swapped_cell a ps p q qs x y (covers a.area x y) refl (apart x y) ∙ sym (second.cells.cells x y)),
   record {
     before = map (placed_after a.area) ps;
     one = placed_after a.area p;

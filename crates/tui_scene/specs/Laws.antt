@@ -3,7 +3,7 @@ use Rattle.std.specs.Prelude.{◌≡◌, ℕ, ◌&&◌, List, ◌∷◌, ◌++�
 use Rattle.tui_cells.specs.declared.rect.Rect.{Rect}
 use Rattle.tui_cells.specs.Buffer.{Screen, cell_at}
 use Rattle.tui_cells.specs.Layers.{Painted}
-use Rattle.tui_cells.specs.Rect.{intersection_of, is_empty}
+use Rattle.tui_cells.specs.Rect.{covers, intersection_of, is_empty}
 use Rattle.tui_scene.specs.Item.{PlacedData, placed_after, placed_footprint, placed_layers}
 use Rattle.tui_scene.specs.Drawn.{IsDrawn}
 use Rattle.tui_scene.specs.Scene.{scene_layers}
@@ -29,11 +29,11 @@ pub record AreSwapped (first second : List PlacedData) : Type 0 where
   pub first_is : first ≡ before ++ one ∷ other ∷ behind
   pub second_is : second ≡ before ++ other ∷ one ∷ behind
 
--- Two neighbours anywhere in a scene whose footprints have no position in common may be drawn in either order: the cells are
--- the same, and so are the states, in turn.
+-- Two neighbours anywhere in a scene whose footprints have no position of the buffer in common may be drawn in either order: the
+-- cells are the same, and so are the states, in turn.
 abbrev pub DisjointItemsCommute : Type 0
 DisjointItemsCommute = (ps : List PlacedData) (p q : PlacedData) (qs first second : List PlacedData) (a b c : Screen) →
-    ((x y : ℕ) → (placed_footprint a.area p x y && placed_footprint a.area q x y) ≡ false) →
+    ((x y : ℕ) → covers a.area x y ≡ true → (placed_footprint a.area p x y && placed_footprint a.area q x y) ≡ false) →
     Draws (ps ++ p ∷ q ∷ qs) first a b → Draws (ps ++ q ∷ p ∷ qs) second a c →
     ((x y : ℕ) → cell_at b x y ≡ cell_at c x y) × AreSwapped first second
 

@@ -4,9 +4,9 @@ ghost use Rattle.tui_scene.specs.Laws.{AgreementIsKept, DisjointItemsCommute, Dr
 ghost use Rattle.tui_scene.specs.Redraw.{DrawnIsFresh, OrderIsFree, ReplacedIsFresh, StaysFresh};
 ghost use Rattle.tui_scene.specs.Shadow.{ClipIsFootprint};
 
-/// Two buffers that agree at a position agree there after the same drawing; two neighbours whose footprints have no position in
-/// common may be drawn in either order, states included; widgets drawn again keep their states and have the same layers; what
-/// does not meet the buffer changes nothing; and widgets on a blank buffer leave one screen and one list of states.
+/// Two buffers that agree at a position agree there after the same drawing; two neighbours whose footprints have no position of
+/// the buffer in common may be drawn in either order, states included; widgets drawn again keep their states and have the same
+/// layers; what does not meet the buffer changes nothing; and widgets on a blank buffer leave one screen and one list of states.
 pub fn drawing_laws()
     ensures agreement { AgreementIsKept }
     ensures order { DisjointItemsCommute }

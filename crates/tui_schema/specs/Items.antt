@@ -50,10 +50,11 @@ use Rattle.tui_schema.specs.Items.TableFields.{shown_table}
 use Rattle.tui_schema.specs.Items.TabsFields.{shown_tabs}
 use Rattle.tui_schema.specs.Kinds.Area.{area_of}
 use Rattle.tui_json.specs.Refusals.{◌>>=◌, numbered}
-use Rattle.tui_schema.specs.Refusals.{Refusal, required}
+use Rattle.tui_schema.specs.Refusals.{required}
+use Rattle.tui_schema.specs.declared.bad_field.BadField.{BadField}
 
 -- the fields of a widget
-abbrev pub shown_of : Widget → Option ℕ → Data → Result ItemData Refusal
+abbrev pub shown_of : Widget → Option ℕ → Data → Result ItemData BadField
 shown_of widgets.Clear i d = Ok (still clear)
 shown_of widgets.Fill i d = do
   x ← fill_of i d
@@ -96,20 +97,25 @@ shown_of widgets.Logo i d = do
   Ok (still (logo size))
 
 -- the item of number i of a scene
-unfoldable pub placed_of : ℕ → Data → Result PlacedData Refusal
+unfoldable pub placed_of : ℕ → Data → Result PlacedData BadField
 placed_of i d = do
   widget ← required widget_of (Some i) fields.Widget d
   area ← required area_of (Some i) fields.Area d
   shown ← shown_of widget (Some i) d
   Ok (record { area = area; item = shown })
 
--- the item in a given area: the same tests without that of `area`
-unfoldable pub item_of : Rect → ℕ → Data → Result PlacedData Refusal
-item_of area i d = do
+-- the item of this number, whose area is given by what holds it: the same tests without that of `area`
+unfoldable pub item_without_area : ℕ → Data → Result ItemData BadField
+item_without_area i d = do
   widget ← required widget_of (Some i) fields.Widget d
-  shown ← shown_of widget (Some i) d
-  Ok (record { area = area; item = shown })
+  shown_of widget (Some i) d
+
+-- the same in a given area
+unfoldable pub item_of : Rect → ℕ → Data → Result PlacedData BadField
+item_of area i d = do
+  item ← item_without_area i d
+  Ok (record { area = area; item = item })
 
 -- the items of a scene from number i on
-abbrev pub items_of : ℕ → Items → Result (List PlacedData) Refusal
+abbrev pub items_of : ℕ → Items → Result (List PlacedData) BadField
 items_of = numbered placed_of

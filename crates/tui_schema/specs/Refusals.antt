@@ -1,38 +1,37 @@
 -- The first field whose test fails.
-use Rattle.std.specs.Prelude.{ℕ, Option, Some, None, Result}
+use Rattle.std.specs.Prelude.{ℕ, Option, Some, None, Result, Ok, Err}
 use Rattle.serde_json.specs.Data.{Data}
 use Rattle.tui_json.specs.Refusals as tests
+use Rattle.tui_json.specs.declared.input_error.InputError.{InputError}
+use Rattle.tui_json.specs.declared.input_error.InputError.TheVariants as inputs
 use Rattle.tui_schema.specs.Field.{field_name}
-use Rattle.tui_schema.specs.declared.field.Field.{Field}
+use Rattle.tui_schema.specs.declared.bad_field.BadField.{BadField}
 use Rattle.tui_schema.specs.declared.error.SceneError.{SceneError}
 use Rattle.tui_schema.specs.declared.error.SceneError.TheVariants as errors
+use Rattle.tui_schema.specs.declared.field.Field.{Field}
 
--- the item, where it is an item's field, and the field
-pub record Refusal : Type 0 where
-  pub item : Option ℕ
-  pub field : Field
+-- a refusal by its item, where it is an item's field, and the field
+abbrev pub bad_field : Option ℕ → Field → BadField
+bad_field i f = record { item = i; field = f }
 
--- a refusal by its item and field
-abbrev pub refusal : Option ℕ → Field → Refusal
-refusal i f = record { item = i; field = f }
+-- the schema's error as that of any input
+abbrev pub input_error : SceneError → InputError BadField
+input_error (errors.BadField i f) = inputs.Refused (bad_field i f)
+input_error errors.NoMemory = inputs.NoMemory
 
--- what an error refuses: nothing where it is want of memory
-abbrev pub refused : SceneError → Option Refusal
-refused errors.NoMemory = None
-refused (errors.BadField i f) = Some (refusal i f)
-
--- what a reader answers, seen by view, is what the tests give, unless memory ran out
-abbrev pub Gives : {X Y : Type 0} → (X → Y) → Result X SceneError → Result Y Refusal → Type 0
-Gives view answer read = tests.Gives view refused answer read
+-- an answer with it as that of any input's reader
+abbrev pub as_input : {X : Type 0} → Result X SceneError → Result X (InputError BadField)
+as_input (Ok x) = Ok x
+as_input (Err e) = Err (input_error e)
 
 -- a field that has to be there
-abbrev pub required : {A : Type 0} → (Data → Option A) → Option ℕ → Field → Data → Result A Refusal
-required kind i f d = tests.required kind (field_name f) (refusal i f) d
+abbrev pub required : {A : Type 0} → (Data → Option A) → Option ℕ → Field → Data → Result A BadField
+required kind i f d = tests.required kind (field_name f) (bad_field i f) d
 
 -- a field that may be absent or null
-abbrev pub optional : {A : Type 0} → (Data → Option A) → Option ℕ → Field → Data → Result (Option A) Refusal
-optional kind i f d = tests.optional kind (field_name f) (refusal i f) d
+abbrev pub optional : {A : Type 0} → (Data → Option A) → Option ℕ → Field → Data → Result (Option A) BadField
+optional kind i f d = tests.optional kind (field_name f) (bad_field i f) d
 
 -- a field that may be absent, and for which null is a value
-abbrev pub given : {A : Type 0} → (Data → Option A) → Option ℕ → Field → Data → Result (Option A) Refusal
-given kind i f d = tests.given kind (field_name f) (refusal i f) d
+abbrev pub given : {A : Type 0} → (Data → Option A) → Option ℕ → Field → Data → Result (Option A) BadField
+given kind i f d = tests.given kind (field_name f) (bad_field i f) d

@@ -8,7 +8,8 @@ use Rattle.tui_schema.specs.Items.{items_of}
 use Rattle.tui_json.specs.Members.{elements_within}
 use Rattle.tui_json.specs.Number.{within}
 use Rattle.tui_json.specs.Refusals.{◌>>=◌}
-use Rattle.tui_schema.specs.Refusals.{Refusal, required}
+use Rattle.tui_schema.specs.Refusals.{required}
+use Rattle.tui_schema.specs.declared.bad_field.BadField.{BadField}
 
 -- a scene: its size in columns and rows, and its items in order
 pub record SceneData : Type 0 where
@@ -29,7 +30,7 @@ abbrev pub item_values_of : Data → Option Items
 item_values_of = elements_within 0 256
 
 -- What is no object has no fields, so it is refused at `width`.
-unfoldable pub scene_of : Data → Result SceneData Refusal
+unfoldable pub scene_of : Data → Result SceneData BadField
 scene_of d = do
   width ← required side_of None fields.Width d
   height ← required side_of None fields.Height d

@@ -2,10 +2,10 @@
 
 ghost use Rattle.std.specs.Prelude.{◌≡◌};
 
+use crate::bad_field::BadField;
 use crate::field::Field;
-use std::alloc::{AllocError, AllocFailed};
 use thiserror::Error;
-use tui_cells::NoMemory;
+use tui_json::InputError;
 
 /// Why a value is no scene.
 #[derive(Clone, Copy, Debug, PartialEq, Eq, Error)]
@@ -19,32 +19,15 @@ pub enum SceneError {
     NoMemory,
 }
 
-impl From<AllocError> for SceneError {
-    ghost use Rattle.tui_schema.specs.declared.error.SceneError.TheVariants.{NoMemory};
+impl From<InputError<BadField>> for SceneError {
+    ghost use Rattle.tui_schema.specs.Refusals.{input_error};
 
-    ghost from_gives = { λ _ e. e ≡ NoMemory };
+    ghost from_gives = { λ input error. input_error error ≡ input };
 
-    fn from(_error: AllocError) -> SceneError {
-        SceneError::NoMemory
-    }
-}
-
-impl<T: Drop> From<AllocFailed<T>> for SceneError {
-    ghost use Rattle.tui_schema.specs.declared.error.SceneError.TheVariants.{NoMemory};
-
-    ghost from_gives = { λ _ e. e ≡ NoMemory };
-
-    fn from(_error: AllocFailed<T>) -> SceneError {
-        SceneError::NoMemory
-    }
-}
-
-impl From<NoMemory> for SceneError {
-    ghost use Rattle.tui_schema.specs.declared.error.SceneError.TheVariants as errors;
-
-    ghost from_gives = { λ _ e. e ≡ errors.NoMemory };
-
-    fn from(_error: NoMemory) -> SceneError {
-        SceneError::NoMemory
+    fn from(input: InputError<BadField>) -> SceneError {
+        match input {
+            InputError::Refused(BadField { item, field }) => SceneError::BadField { item, field },
+            InputError::NoMemory => SceneError::NoMemory,
+        }
     }
 }

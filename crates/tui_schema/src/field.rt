@@ -1,6 +1,6 @@
 //! The fields of the schema.
 
-use crate::error::SceneError;
+use crate::bad_field::BadField;
 use tui_json::Fields;
 
 /// A field of a scene or of an item in JSON.
@@ -171,30 +171,22 @@ impl Field {
 
 impl Fields for Field {
     ghost use Rattle.tui_schema.specs.Field.{field_name};
-    ghost use Rattle.tui_schema.specs.Refusals.{Refusal, refusal, refused};
+    ghost use Rattle.tui_schema.specs.Refusals.{bad_field};
 
-    type Error = SceneError;
-
-    ghost Refusal = { Refusal };
+    type Refusal = BadField;
 
     ghost key = { field_name };
 
-    ghost refusal = { refusal };
-
-    ghost refused = { refused };
+    ghost refusal = { bad_field };
 
     fn key(&self) -> &'static str {
         self.name()
     }
 
-    fn error(self, at: Option<usize>) -> SceneError {
-        SceneError::BadField {
+    fn refusal(self, at: Option<usize>) -> BadField {
+        BadField {
             item: at,
             field: self,
         }
-    }
-
-    fn no_memory() -> SceneError {
-        SceneError::NoMemory
     }
 }

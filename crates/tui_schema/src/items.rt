@@ -17,9 +17,11 @@ mod widget;
 
 ghost use Rattle.serde_json.specs.View.{view};
 ghost use Rattle.tui_scene.specs.Item.{item_data, placed_data};
-ghost use Rattle.tui_schema.specs.Items.{item_of, placed_of, shown_of};
-ghost use Rattle.tui_schema.specs.Refusals.{Gives};
+ghost use Rattle.tui_schema.specs.Items.{item_of, item_without_area, placed_of, shown_of};
+ghost use Rattle.tui_json.specs.Refusals.{Gives};
+ghost use Rattle.tui_schema.specs.Refusals.{as_input};
 
+use crate::bad_field::BadField;
 use crate::error::SceneError;
 use crate::field::Field;
 use crate::items::bar_chart::read_bar_chart;
@@ -40,7 +42,7 @@ use serde_json::Value;
 use std::alloc::Global;
 use tui_cells::Rect;
 use tui_frames::Clear;
-use tui_json::required;
+use tui_json::{InputError, Numbered, required};
 use tui_scene::{Item, Placed};
 
 fn read_shown<'v>(
@@ -48,7 +50,7 @@ fn read_shown<'v>(
     widget: Widget,
     item: Option<usize>,
     value: &'v Value,
-) -> Result<Item<'v>, SceneError>
+) -> Result<Item<'v>, InputError<BadField>>
     ensures { Gives item_data result (shown_of widget item (view value.now)) }
 {
     Ok(match widget {
@@ -78,25 +80,50 @@ fn read_shown<'v>(
     })
 }
 
-/// The item of this number, from 0, of a scene.
-#[tactic(auto, unfolding(crate::specs::Items::placed_of))]
-pub(crate) fn read_placed<'v>(
-    alloc: Global,
-    item: usize,
-    value: &'v Value,
-) -> Result<Placed<'v>, SceneError>
-    ensures { Gives placed_data result (placed_of item (view value.now)) }
-{
-    let item = Some(item);
-    let widget = required(alloc, item, Field::Widget, value)?;
-    let area = required(alloc, item, Field::Area, value)?;
-    let item = read_shown(alloc, widget, item, value)?;
-    Ok(Placed { area, item })
+/// The items of a scene.
+impl<'v> Numbered<'v, Field> for Placed<'v> {
+    ghost use Rattle.tui_scene.specs.Item.{PlacedData};
+
+    type Known = ();
+
+    ghost Seen = { PlacedData };
+
+    ghost seen = { placed_data };
+
+    ghost tests = { λ known. placed_of };
+
+    #[tactic(auto, unfolding(crate::specs::Items::placed_of))]
+    fn read(
+        alloc: Global,
+        _known: (),
+        number: usize,
+        value: &'v Value,
+    ) -> Result<Placed<'v>, InputError<BadField>> {
+        let item = Some(number);
+        let widget = required(alloc, item, Field::Widget, value)?;
+        let area = required(alloc, item, Field::Area, value)?;
+        let item = read_shown(alloc, widget, item, value)?;
+        Ok(Placed { area, item })
+    }
 }
 
-/// The item that the value is, in this area: its `widget` and then the fields of that widget are tested, in the order of the
-/// schema's tables, and `area` is a key that is not named. It is refused at the first field that is missing though required or
-/// whose value is not of its kind; then `index` is the number of the item in the refusal.
+/// The item that the value is, whose area is given by what holds it: its `widget` and then the fields of that widget are tested, in
+/// the order of the schema's tables, and `area` is a key that is not named. It is refused at the first field that is missing though
+/// required or whose value is not of its kind; then `index` is the number of the item in the refusal.
+#[tactic(auto, unfolding(crate::specs::Items::item_without_area))]
+pub fn item_without_area<'v>(
+    alloc: Global,
+    value: &'v Value,
+    index: usize,
+) -> Result<Item<'v>, InputError<BadField>>
+    ensures { Gives item_data result (item_without_area index (view value.now)) }
+{
+    let index = Some(index);
+    let widget = required(alloc, index, Field::Widget, value)?;
+    read_shown(alloc, widget, index, value)
+}
+
+/// The item that the value is, in this area, by the tests of `item_without_area`.
 #[tactic(auto, unfolding(crate::specs::Items::item_of))]
 pub fn item_of<'v>(
     alloc: Global,
@@ -104,10 +131,8 @@ pub fn item_of<'v>(
     index: usize,
     area: Rect,
 ) -> Result<Placed<'v>, SceneError>
-    ensures { Gives placed_data result (item_of area index (view value.now)) }
+    ensures { Gives placed_data (as_input result) (item_of area index (view value.now)) }
 {
-    let index = Some(index);
-    let widget = required(alloc, index, Field::Widget, value)?;
-    let item = read_shown(alloc, widget, index, value)?;
+    let item = item_without_area(alloc, value, index)?;
     Ok(Placed { area, item })
 }

@@ -1,14 +1,16 @@
 //! Scenes in JSON: the schema, and why a value is no scene.
 #![tactic(auto)]
 
+mod bad_field;
 mod error;
 mod field;
 mod items;
 mod kinds;
 mod reading;
 
+pub use bad_field::BadField;
 pub use error::SceneError;
 pub use field::Field;
-pub use items::item_of;
-pub use reading::{Reading, scene_of};
+pub use items::{item_of, item_without_area};
+pub use reading::{Reading, read_scene, scene_of};
 pub use tui_json::constraint_of;

@@ -3,7 +3,7 @@
 
 use std::process::ExitCode;
 use std::{env, io};
-use tui_port::{StdSink, StdSource};
+use tui_outside::{StdSink, StdSource};
 use tui_show_run::run_program;
 
 fn main(rt: HostRuntime) -> ExitCode {

@@ -5,7 +5,7 @@ use Rattle.tui_para.specs.Lines.{GlyphLine}
 use Rattle.tui_para.specs.Paragraph.{ParagraphData, block_rows}
 use Rattle.tui_para.specs.Wrapped.{IsTheOne}
 use Rattle.tui_para.specs.WrappedText.{WrappedText, wrap_text}
-use Rattle.tui_text.specs.Width.{saturated}
+use Rattle.tui_clusters.specs.Width.{saturated}
 use Rattle.tui_text.specs.declared.alignment.Alignment.TheVariants.{Left}
 use Rattle.tui_show_run.specs.Demo.Scene.{HasLines, demo_paragraph, demo_wrap, one_line}
 use Rattle.tui_show_run.specs.Demo.Text.{demo_text}

@@ -7,8 +7,8 @@ use Rattle.tui_show_run.specs.Demo.Text.{demo_text}
 use Rattle.tui_para.specs.Wrapped.{IsTheOne}
 use Rattle.tui_para.specs.declared.wrap.Wrap.{Wrap}
 use Rattle.tui_para.specs.WrappedText.{WrappedText, wrap_text}
-use Rattle.tui_port.specs.Laws.{PrintIsUnique}
-use Rattle.tui_port.specs.Print.{row_line}
+use Rattle.tui_print.specs.Laws.{PrintIsUnique}
+use Rattle.tui_rows.specs.RowLine.{row_line}
 use Rattle.tui_scene.proofs.Drawn.{one_drawing}
 use Rattle.tui_show_run.specs.Demo.{demo_offset}
 use Rattle.tui_show_run.specs.Laws.{DemoIsUnique, OutputIsUnique}

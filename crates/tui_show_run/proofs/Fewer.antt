@@ -9,14 +9,15 @@ use Rattle.unicode_segmentation.specs.Segments.{Rule, cut, prepend, segments}
 use Rattle.tui_cells.specs.declared.style.Style.{Style}
 use Rattle.tui_para.specs.Rule.{Rule as Way, ends_piece}
 use Rattle.tui_para.specs.declared.wrap.Wrap.{Wrap}
-use Rattle.tui_para.specs.Hyphens.{glyph_rule, with_cuts, wrap}
+use Rattle.tui_para.specs.Hyphens.{glyph_rule, with_splits, wrap}
 use Rattle.tui_para.specs.Places.{line_len, lines_of, wrap_kept}
 use Rattle.tui_para.specs.Wrapped.{after_break, not_wider, line_start}
 use Rattle.tui_para.specs.WrappedText.{wrap_text}
 use Rattle.tui_cells.specs.Style.{no_style, patched}
 use Rattle.tui_para.specs.Lines.{glyph_line}
 use Rattle.tui_text.specs.Grapheme.{Glyph, glyph_width}
-use Rattle.tui_text.specs.Graphemes.{clusters, glyph_in, is_shown, line_graphemes}
+use Rattle.tui_clusters.specs.Shown.{clusters, is_shown}
+use Rattle.tui_text.specs.Graphemes.{glyph_in, line_graphemes}
 use Rattle.tui_text.specs.Line.{raw_line}
 use Rattle.tui_text.specs.declared.alignment.Alignment.{Alignment}
 use Rattle.tui_show_run.specs.Demo.Scene.{one_line}
@@ -68,19 +69,19 @@ length-wrap_kept : {A : Type 0} (rule : Way A) (xs : List A) → length (wrap_ke
 length-wrap_kept rule [] = omega arith
 length-wrap_kept rule (x ∷ xs) = omega (arith, length-lines_of rule (length (x ∷ xs)) (x ∷ xs))
 
-length-with_cuts : (hyphens : Bool) (before gs : List Glyph) → length (with_cuts hyphens before gs) ≡ length gs
-length-with_cuts hyphens before [] = refl
-length-with_cuts hyphens before (g ∷ gs) = ap suc (length-with_cuts hyphens (g ∷ before) gs)
+length-with_splits : (hyphens : Bool) (before gs : List Glyph) → length (with_splits hyphens before gs) ≡ length gs
+length-with_splits hyphens before [] = refl
+length-with_splits hyphens before (g ∷ gs) = ap suc (length-with_splits hyphens (g ∷ before) gs)
 
 length-wrap : (w : ℕ) (way : Wrap) (xs : List Glyph) → length (wrap w way xs) ≤ 1 + length xs
 length-wrap w way xs =
     let kept_xs = not_wider glyph_width w xs in
-    let marked = with_cuts way.hyphens [] kept_xs in
+    let marked = with_splits way.hyphens [] kept_xs in
     omega (
       arith,
       length-map (wrap_kept (glyph_rule w way) marked) (map (λ (p : Glyph × Bool). p.0)),
       length-wrap_kept (glyph_rule w way) marked,
-      length-with_cuts way.hyphens [] kept_xs,
+      length-with_splits way.hyphens [] kept_xs,
       length-filter (λ x. nat_le (glyph_width x) w) xs,
     )
 

@@ -9,7 +9,7 @@ use Rattle.tui_show_run.specs.Demo.Line.{demo_line}
 use Rattle.tui_show_run.specs.Demo.Scene.{HasLines, demo_item, demo_items, demo_list, demo_scene, demo_state}
 use Rattle.tui_show_run.proofs.ItemLists.{heights_of-demo_items}
 use Rattle.tui_lists.specs.List.{list_after}
-use Rattle.tui_port.specs.Print.{row_line}
+use Rattle.tui_rows.specs.RowLine.{row_line}
 use Rattle.tui_scene.specs.Item.{PlacedData, placed_after}
 use Rattle.tui_show_run.specs.Demo.{IsDemo, demo_offset, first_offset}
 use Rattle.tui_scene.specs.Drawn.{IsDrawn}

@@ -7,7 +7,7 @@ use Rattle.tui_cells.specs.Buffer.{Screen}
 use Rattle.tui_show_run.specs.Demo.Line.{demo_line}
 use Rattle.tui_show_run.specs.Demo.Scene.{HasLines, demo_heights, demo_scene}
 use Rattle.tui_layout.specs.Found.{window_of}
-use Rattle.tui_port.specs.Print.{row_line}
+use Rattle.tui_rows.specs.RowLine.{row_line}
 use Rattle.tui_scene.specs.Item.{ItemData, PlacedData, list}
 use Rattle.tui_scene.specs.Drawn.{IsDrawn}
 

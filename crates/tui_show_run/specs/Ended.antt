@@ -5,7 +5,7 @@ use Rattle.tui_program.specs.declared.broken.Broken.TheVariants as broken
 use Rattle.tui_program.specs.declared.ending.Ending.{Ending}
 use Rattle.tui_program.specs.declared.ending.Ending.TheVariants as ending
 use Rattle.tui_program.specs.declared.written.Written.TheVariants as written
-use Rattle.tui_show_run.specs.declared.bad_field.BadField.{BadField}
+use Rattle.tui_schema.specs.declared.bad_field.BadField.{BadField}
 use Rattle.tui_show_run.specs.declared.ended.Ended.{Ended}
 use Rattle.tui_show_run.specs.declared.ended.Ended.TheVariants as ended
 

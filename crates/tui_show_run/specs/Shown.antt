@@ -1,7 +1,7 @@
 -- What is written for a scene.
 use Rattle.std.specs.Prelude.{ℕ, List}
 use Rattle.tui_cells.specs.Buffer.{Screen}
-use Rattle.tui_port.specs.Print.{IsPrint}
+use Rattle.tui_print.specs.Print.{IsPrint}
 use Rattle.tui_scene.specs.Drawn.{IsDrawn}
 use Rattle.tui_scene.specs.Item.{PlacedData}
 use Rattle.tui_schema.specs.Scene.{SceneData}

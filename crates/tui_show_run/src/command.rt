@@ -4,17 +4,17 @@ ghost use Rattle.tui_program.specs.Endings.{AnswersWith, no_refusal, nothing};
 ghost use Rattle.tui_schema.specs.Scene.{reading_data};
 ghost use Rattle.tui_show_run.specs.Shown.{IsShown};
 
-use crate::bad_field::BadField;
 use crate::demo::show_demo;
 use serde_json::Value;
 use std::alloc::Global;
-use tui_port::{Sink, Source, WriteFault, write_screen};
+use tui_outside::{Sink, Source, WriteFault};
+use tui_print::write_screen;
 use tui_program::{
-    Command, Ending, Job, Leftovers, Numerals, Stop, is_word, number_after, put_refused_in_scene,
-    run_json, told,
+    Command, Ending, Job, Leftovers, Numerals, Stop, ending_after, is_word, number_after,
+    put_refused_in_scene, run_json,
 };
 use tui_scene::draw_new;
-use tui_schema::{Reading, SceneError, scene_of};
+use tui_schema::{BadField, Reading, read_scene};
 
 /// A command of the program.
 #[derive(Clone, Copy, Debug, PartialEq, Eq)]
@@ -56,17 +56,17 @@ impl Command for ShowCommand {
     ) -> Ending<BadField> {
         match self {
             ShowCommand::Scene => run_json(self, alloc, source, sink, leftovers),
-            ShowCommand::Demo(n) => told(show_demo(alloc, *n, sink)),
+            ShowCommand::Demo(n) => ending_after(show_demo(alloc, *n, sink)),
         }
     }
 }
 
 impl Job for ShowCommand {
-    ghost use Rattle.tui_show_run.specs.Endings.{scene_reading};
+    ghost use Rattle.tui_show_run.specs.Endings.{scene_job};
 
     type Refusal = BadField;
 
-    ghost reading = { λ _. scene_reading };
+    ghost job_rules = { λ _. scene_job };
 
     fn answer<K: Sink>(
         &self,
@@ -75,18 +75,10 @@ impl Job for ShowCommand {
         sink: &mut K,
         leftovers: Leftovers,
     ) -> Result<(), Stop<BadField>> {
-        match scene_of(alloc, value) {
-            Ok(mut reading) => {
-                let answer = show_scene(alloc, &mut reading, sink, leftovers);
-                leftovers.done_with(reading);
-                answer
-            }
-            Err(SceneError::BadField { item, field }) => Err(Stop::Refused(BadField {
-                item,
-                field,
-            })),
-            Err(SceneError::NoMemory) => Err(Stop::NoMemory),
-        }
+        let mut reading = read_scene(alloc, value)?;
+        let answer = show_scene(alloc, &mut reading, sink, leftovers);
+        leftovers.done_with(reading);
+        answer
     }
 
     fn refuse<K: Sink>(&self, refusal: BadField, sink: &mut K) -> Result<(), WriteFault> {

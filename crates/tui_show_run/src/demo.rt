@@ -1,7 +1,7 @@
 //! The command `demo`: a list of items beside a paragraph of words, as many of both as a number says.
 
 ghost use Rattle.std.specs.Prelude.{◌≡◌, ◌≤◌, ◌++◌, IfOk, flat_map, string_bytes};
-ghost use Rattle.tui_port.specs.Print.{row_line};
+ghost use Rattle.tui_rows.specs.RowLine.{row_line};
 ghost use Rattle.tui_program.specs.Endings.{AnswersWith, no_refusal, nothing};
 ghost use Rattle.tui_scene.specs.Item.{item_data};
 ghost use Rattle.tui_show_run.specs.Demo.{IsDemo, first_offset, offset_in};
@@ -12,15 +12,16 @@ mod line;
 mod scene;
 mod text;
 
-use crate::bad_field::BadField;
 use crate::demo::line::demo_line;
 use crate::demo::scene::demo_scene;
 use crate::demo::text::demo_text;
 use std::alloc::Global;
 use tui_cells::{Buffer, Mem};
-use tui_port::{Sink, write_rows};
+use tui_outside::Sink;
 use tui_program::Stop;
+use tui_rows::write_rows;
 use tui_scene::{Item, Scene, draw_new};
+use tui_schema::BadField;
 
 /// Draws the demonstration of n items and n words, and writes a line on it and the rows of its screen.
 pub(crate) fn show_demo<K: Sink>(alloc: Global, n: u32, sink: &mut K) -> Result<(), Stop<BadField>>

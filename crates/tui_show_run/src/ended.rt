@@ -2,10 +2,9 @@
 
 ghost use Rattle.std.specs.Prelude.{◌≡◌};
 
-use crate::bad_field::BadField;
 use std::process::ExitCode;
 use tui_program::{Broken, Ending, Written};
-use tui_schema::Field;
+use tui_schema::{BadField, Field};
 
 /// How a run ends. Only `Ok` has written a screen whole; the endings from `Usage` to `BadField` have written one line that says so.
 #[derive(Clone, Copy, Debug, PartialEq, Eq)]

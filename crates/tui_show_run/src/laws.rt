@@ -5,7 +5,7 @@ ghost use Rattle.tui_show_run.specs.ByEnding.{SaysTheSame};
 ghost use Rattle.tui_show_run.specs.Laws.{DemoIsUnique, OutputIsUnique};
 
 use tui_para::text_wraps_exactly_once;
-use tui_port::print_laws;
+use tui_print::print_laws;
 
 /// The widgets of a scene leave one screen and one list of states, a scene has one output, and so has a demonstration.
 pub fn scene_laws()

@@ -1,18 +1,18 @@
 //! A whole run, from the words and the bytes read to the bytes written.
 
 ghost use Rattle.std.specs.Prelude.{◌≡◌, ◌⊎◌};
-ghost use Rattle.tui_program.specs.Call.{call_of};
+ghost use Rattle.tui_program.specs.Transcript.{transcript_of};
 ghost use Rattle.tui_program.specs.Runs.{IsRunFrom};
 ghost use Rattle.tui_show_run.specs.Commands.{AreWrong};
 ghost use Rattle.tui_show_run.specs.Ended.{ending_of};
-ghost use Rattle.tui_show_run.specs.Endings.{Ends, IsComplete, IsCompleteDemo, show_rules};
+ghost use Rattle.tui_show_run.specs.Endings.{ShowEnds, IsCompleteScene, IsCompleteDemo, show_rules};
 
 use crate::command::ShowCommand;
 use crate::ended::Ended;
 use std::alloc::Global;
 use std::env::Args;
 use std::io;
-use tui_port::{Sink, Source};
+use tui_outside::{Sink, Source};
 use tui_program::{Leftovers, run};
 
 /// Runs the command that the words name: `scene` alone reads a scene in JSON (docs/SCENE.md) from the source, draws it and
@@ -29,9 +29,9 @@ pub fn show<S: Source, K: Sink>(
     source: &mut S,
     sink: &mut K,
 ) -> Ended
-    ensures ends { Ends words.now (call_of (S.told source.old) (S.told source.new) (K.told sink.old) (K.told sink.new)) result }
-    ensures complete { IsComplete words.now (call_of (S.told source.old) (S.told source.new) (K.told sink.old) (K.told sink.new)) result }
-    ensures demo { IsCompleteDemo words.now (call_of (S.told source.old) (S.told source.new) (K.told sink.old) (K.told sink.new)) result }
+    ensures ends { ShowEnds words.now (transcript_of (S.told source.old) (S.told source.new) (K.told sink.old) (K.told sink.new)) result }
+    ensures complete { IsCompleteScene words.now (transcript_of (S.told source.old) (S.told source.new) (K.told sink.old) (K.told sink.new)) result }
+    ensures demo { IsCompleteDemo words.now (transcript_of (S.told source.old) (S.told source.new) (K.told sink.old) (K.told sink.new)) result }
     ensures usage { AreWrong words.now → (result ≡ Ended.Usage) ⊎ (result ≡ Ended.WriteFault) }
 {
     run::<ShowCommand, S, K>(alloc, words, source, sink, Leftovers::Dropped).into()
@@ -47,7 +47,7 @@ pub fn run_program<S: Source, K: Sink>(
     sink: &mut K,
 ) -> Ended
     ensures { IsRunFrom show_rules args
-        (call_of (S.told source.old) (S.told source.new) (K.told sink.old) (K.told sink.new)) (ending_of result) }
+        (transcript_of (S.told source.old) (S.told source.new) (K.told sink.old) (K.told sink.new)) (ending_of result) }
 {
     tui_program::run_program::<ShowCommand, S, K>(alloc, args, source, sink).into()
 }

@@ -1,15 +1,4 @@
-pub mod EmptyText
-pub mod OneByte
-pub mod PartClusters
-pub mod PlainChars
-pub mod PlainParts
-pub mod Ideographs
-pub mod Leads
-pub mod Letters
 pub mod LightTexts
-pub mod LoneChars
-pub mod QuickParts
-pub mod Seams
 pub mod Texts
 pub mod RowStays
 pub mod RowStrokes
@@ -17,9 +6,6 @@ pub mod SetStays
 pub mod Settings
 pub mod Runs
 pub mod PaintedRuns
-pub mod RunColumns
-pub mod Signs
 pub mod TextRows
 pub mod Elements
-pub mod Computing
 pub mod ShownCells

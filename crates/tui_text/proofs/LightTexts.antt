@@ -1,54 +1,28 @@
 -- Texts of printable bytes take no memory: each of their graphemes is one byte.
-use Rattle.std.proofs.Common.{◌≡◌, ℕ, ◌+◌, ◌%◌, ◌<◌, ◌≤◌, ◌^◌, zero, suc, true, List, [], ◌∷◌, ◌++◌, All, length, refl, arith}
+use Rattle.std.proofs.Common.{◌≡◌, ℕ, ◌+◌, ◌%◌, ◌<◌, ◌^◌, true, List, [], ◌∷◌, ◌++◌, All, map, refl, arith}
 use Rattle.std.specs.Prelude.{decimal}
 use Rattle.std.specs.List.{list_all}
-use Rattle.std.specs.Str.{IsAscii}
-use Rattle.std.proofs.lemmas.Bool.{and_parts}
 use Rattle.std.proofs.lemmas.Bool.Decides.{nat_tests}
 use Rattle.std.proofs.lemmas.Fmt.{decimal_by_steps_wide}
 use Rattle.std.proofs.lemmas.List.Elements.{All-cons}
 use Rattle.std.proofs.lemmas.List.Folds.{list_all-append}
-use Rattle.std.proofs.lemmas.Str.{IsUtf8-from_ascii}
 use Rattle.tui_cells.specs.Cell.{IsLight}
 use Rattle.tui_cells.specs.declared.style.Style.{Style}
-use Rattle.tui_text.specs.Graphemes.{clusters}
-use Rattle.tui_text.specs.Part.{IsSeam, is_printable}
+use Rattle.tui_clusters.specs.Shown.{clusters, one_byte}
+use Rattle.tui_clusters.specs.Printable.{is_printable}
 use Rattle.tui_text.specs.Setting.{AreLight, styled_text}
 use Rattle.tui_text.specs.Span.{raw_span}
-use Rattle.tui_text.proofs.EmptyText.{clusters-nil}
-use Rattle.tui_text.proofs.PartClusters.{graphemes-part, shown-one}
-
-below_128 : (b : ℕ) → is_printable b ≡ true → b < 128
-below_128 b e = grind (arith, nat_tests)
-
-printable_range : (b : ℕ) → is_printable b ≡ true → (32 ≤ b) × (b ≤ 126)
-printable_range b e = (grind (arith, nat_tests), grind (arith, nat_tests))
-
-pub printable_ascii : (text : List ℕ) → list_all is_printable text ≡ true → IsAscii text
-printable_ascii [] e i = omega arith
-printable_ascii (b ∷ bs) e zero = below_128 b (and_parts (is_printable b) _ e).0
-printable_ascii (b ∷ bs) e (suc i) = printable_ascii bs (and_parts (is_printable b) _ e).1 i
-
-first_seam : (b : ℕ) (bs : List ℕ) → list_all is_printable (b ∷ bs) ≡ true → 1 < length (b ∷ bs) → IsSeam (b ∷ bs) 1
-first_seam b [] e lt = absurd (omega arith)
-first_seam b (c ∷ cs) e lt =
-    let both = and_parts (is_printable b) _ e in
-    record { before = both.0; after = (and_parts (is_printable c) _ both.1).0 }
-
--- its first byte is the first grapheme
-first_cluster : (b : ℕ) (bs : List ℕ) → list_all is_printable (b ∷ bs) ≡ true → clusters (b ∷ bs) ≡ (b ∷ []) ∷ clusters bs
-first_cluster b bs e =
-    let range = printable_range b (and_parts (is_printable b) _ e).0 in
-    shown-one [] [] (b ∷ bs) (b ∷ []) bs b refl refl
-    (graphemes-part (b ∷ bs) 1 (IsUtf8-from_ascii (b ∷ bs) (printable_ascii (b ∷ bs) e)) (omega arith) (omega arith) (first_seam b bs e)) refl range.0 range.1
+use Rattle.tui_clusters.proofs.Runs.{printable_clusters}
 
 none : {X : Type 0} (P : X → Type 0) → All P []
 none P k d lt = absurd (omega arith)
 
+ones_light : (text : List ℕ) → All IsLight (map one_byte text)
+ones_light [] = none IsLight
+ones_light (b ∷ bs) = All-cons IsLight (b ∷ []) (map one_byte bs) (omega arith) (ones_light bs)
+
 pub clusters_light : (text : List ℕ) → list_all is_printable text ≡ true → All IsLight (clusters text)
-clusters_light [] e = rw clusters-nil (none IsLight)
-clusters_light (b ∷ bs) e =
-    rw (first_cluster b bs e) (All-cons IsLight (b ∷ []) (clusters bs) (omega arith) (clusters_light bs (and_parts (is_printable b) _ e).1))
+clusters_light text e = rw (printable_clusters text e) (ones_light text)
 
 -- a text whose graphemes are light, as a span
 pub light_styled : (text : List ℕ) (style : Style) → All IsLight (clusters text) → AreLight (styled_text text style)

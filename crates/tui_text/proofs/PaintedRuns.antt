@@ -15,14 +15,17 @@ use Rattle.tui_cells.specs.Layers.{KeptOutside, Painted, ascii_layers}
 use Rattle.tui_cells.specs.Rect.{bottom_of, covers, right_of}
 use Rattle.tui_cells.specs.Style.{no_style, patched}
 use Rattle.tui_cells.proofs.Painting.{KeptOutside-weaker, Painted-then}
-use Rattle.tui_text.specs.Grapheme.{Glyph, width_of}
-use Rattle.tui_text.specs.Graphemes.{clusters, glyph_in, one_byte, span_graphemes}
+use Rattle.tui_clusters.specs.Width.{width_of}
+use Rattle.tui_text.specs.Grapheme.{Glyph}
+use Rattle.tui_clusters.specs.Shown.{clusters, one_byte}
+use Rattle.tui_text.specs.Graphemes.{glyph_in, span_graphemes}
 use Rattle.tui_text.specs.Painting.{cells_at, column_at, line_part, shown_glyph, shown_glyphs}
-use Rattle.tui_text.specs.Part.{is_printable}
+use Rattle.tui_clusters.specs.Printable.{is_printable}
 use Rattle.tui_text.specs.Row.{InRow, ShownUpTo}
 use Rattle.tui_text.specs.Setting.{set_cluster, set_clusters}
 use Rattle.tui_text.specs.Span.{SpanData}
-use Rattle.tui_text.proofs.Runs.{byte_width, kept_spelt, set_spelt}
+use Rattle.tui_clusters.proofs.OneByte.{byte_width}
+use Rattle.tui_text.proofs.Runs.{kept_spelt, set_spelt}
 use Rattle.tui_text.proofs.Settings.{fits, pick_true, set_none}
 
 column_in : (row : Rect) (skip place x : ℕ) → skip ≤ place → x ≡ row.x + (place - skip) → x < right_of row → row.y < bottom_of row →

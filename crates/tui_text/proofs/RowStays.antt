@@ -30,7 +30,8 @@ use Rattle.tui_text.specs.Painting.{
   text_layers,
 }
 use Rattle.tui_text.specs.Text.{TextData}
-use Rattle.tui_text.specs.Width.{line_width, saturated}
+use Rattle.tui_clusters.specs.Width.{saturated}
+use Rattle.tui_text.specs.Width.{line_width}
 use Rattle.tui_text.specs.declared.alignment.Alignment.{Alignment}
 
 place_out : (row : Rect) (x y a b : ℕ) → covers row x y ≡ true → covers row a b ≡ false → at_place x y a b ≡ false

@@ -1,11 +1,9 @@
--- Runs of printable bytes: each byte is a cluster by itself, and they are set in one stroke each.
-use Rattle.std.proofs.Common.{◌≡◌, ℕ, zero, suc, ◌+◌, ◌-◌, ◌<◌, ◌≤◌, Bool, true, false, ◌&&◌, nat_le, List, [], ◌∷◌, ◌++◌, All, map, length, length-append, take, drop, slice_index, Some, None, option_map, if◌then◌else◌, refl, sym, ap, ap₂, subst, ◌∙◌, arith}
+-- Runs of printable bytes, set in one stroke each.
+use Rattle.std.proofs.Common.{◌≡◌, ℕ, ◌+◌, ◌-◌, ◌<◌, ◌≤◌, Bool, true, false, nat_le, List, [], ◌∷◌, ◌++◌, All, map, length, Some, None, option_map, if◌then◌else◌, refl, sym, ap, ap₂, subst, ◌∙◌, arith}
 use Rattle.std.specs.List.{list_all}
-use Rattle.std.specs.Str.{IsCharBoundary, IsUtf8}
 use Rattle.std.proofs.lemmas.Bool.{and_parts}
 use Rattle.std.proofs.lemmas.Bool.Decides.{nat_tests}
 use Rattle.std.proofs.lemmas.List.Elements.{All-tail}
-use Rattle.std.proofs.lemmas.Str.{IsCharBoundary-from_take, IsUtf8-drop, IsUtf8-from_ascii}
 use Rattle.tui_cells.specs.declared.style.Style.{Style}
 use Rattle.tui_cells.specs.Buffer.{Screen, look_at}
 use Rattle.tui_cells.specs.Cell.{IsLight, Look, dress, put}
@@ -13,81 +11,15 @@ use Rattle.tui_cells.specs.Layers.{KeptOutside, Layer, Painted, ascii_layers, at
 use Rattle.tui_cells.specs.Rect.{covers}
 use Rattle.tui_cells.proofs.Painting.{Painted-inside, Painted-none, Painted-then, layers_at-append}
 use Rattle.tui_cells.proofs.Spelling.{ascii_stays}
-use Rattle.tui_text.specs.Grapheme.{width_of}
-use Rattle.tui_text.specs.Graphemes.{clusters, one_byte}
+use Rattle.tui_clusters.specs.Width.{width_of}
+use Rattle.tui_clusters.specs.Shown.{one_byte}
 use Rattle.tui_text.specs.Painting.{cells_at}
-use Rattle.tui_text.specs.Part.{is_printable}
-use Rattle.tui_text.specs.Plain.{IsPlainFirst, IsRun, plain_len}
+use Rattle.tui_clusters.specs.Printable.{is_printable}
 use Rattle.tui_text.specs.Setting.{set_cluster, set_clusters, set_end}
-use Rattle.tui_text.proofs.EmptyText.{clusters-nil}
-use Rattle.tui_text.proofs.LightTexts.{printable_ascii}
-use Rattle.tui_text.proofs.RunColumns.{byte_columns}
-use Rattle.tui_text.proofs.QuickParts.{quick_alone, quick_before, shown-first}
+use Rattle.tui_clusters.proofs.OneByte.{byte_width}
 use Rattle.tui_text.proofs.Settings.{end_more, fits, pick_true}
 
-printable_plain : (b : ℕ) → is_printable b ≡ true → 1 ≡ plain_len b
-unfolding plain_len
-printable_plain b e = grind (arith, nat_tests)
-
--- the run that ends before a printable byte behind which nothing is known
-printable_before : (n : ℕ) (text : List ℕ) → list_all is_printable (take (suc n) text) ≡ true → n < length text →
-    (list_all is_printable (take n text) ≡ true) × (is_printable (slice_index text n) ≡ true)
-printable_before n [] e lt = absurd (omega (arith, lt))
-printable_before zero (b ∷ bs) e lt = (refl, (and_parts (is_printable b) _ e).0)
-printable_before (suc n) (b ∷ bs) e lt =
-    let both = and_parts (is_printable b) _ e in
-    let rest = printable_before n bs both.1 (omega arith) in
-    (ap₂ ◌&&◌ both.0 rest.0, rest.1)
-
-pub shorter_run : (text bytes : List ℕ) (end n : ℕ) → bytes ≡ text → list_all is_printable (take end bytes) ≡ true → end < length bytes → n ≡ end - 1 → IsRun text n
-shorter_run text bytes zero n e all lt is =
-    let none : n ≡ 0 = omega (arith, is) in
-    subst (λ k. IsRun text k) (sym none) (record { within = omega arith; printable = refl; apart = λ some. absurd (omega (arith, some)) })
-shorter_run text bytes (suc end) n e all lt is =
-    let size = ap length e in
-    let before : n ≡ end = omega (arith, is) in
-    let last = printable_before end text (ap (λ t. list_all is_printable (take (suc end) t)) (sym e) ∙ all) (omega arith) in
-    let told = printable_plain (slice_index text end) last.1 in
-    subst (λ k. IsRun text k) (sym before) (record { within = omega arith; printable = last.0; apart = λ some less. omega arith })
-
--- a printable byte before a plain character, or at the end
-first_of_run : (b : ℕ) (bs : List ℕ) → IsUtf8 (b ∷ bs) → is_printable b ≡ true → (0 < length bs → 0 < plain_len (slice_index bs 0)) → IsPlainFirst (b ∷ bs) 1
-first_of_run b [] u e apart = quick_alone (b ∷ []) (b ∷ []) 1 u (omega arith) refl (printable_plain b e) (omega arith) (omega arith)
-first_of_run b (c ∷ cs) u e apart =
-    quick_before (b ∷ c ∷ cs) (b ∷ c ∷ cs) 1 (plain_len c) u (omega arith) refl (printable_plain b e) (omega arith) (omega arith) refl (apart (omega arith))
-
--- the byte behind the first one of a run
-next_apart : (n b : ℕ) (bs : List ℕ) → IsRun (b ∷ bs) (suc n) → 0 < length bs → 0 < plain_len (slice_index bs 0)
-next_apart zero b bs r some = r.apart (omega arith) (omega arith)
-next_apart (suc n) b [] r some = absurd (omega arith)
-next_apart (suc n) b (c ∷ cs) r some =
-    let here = printable_plain c (and_parts (is_printable c) _ (and_parts (is_printable b) _ r.printable).1).0 in
-    omega (arith, here)
-
-rest_of_run : (n b : ℕ) (bs : List ℕ) → IsRun (b ∷ bs) (suc n) → IsRun bs n
-rest_of_run n b bs r = record {
-  within = omega (arith, r.within);
-  printable = (and_parts (is_printable b) _ r.printable).1;
-  apart = λ some less. r.apart (omega arith) (omega arith);
-}
-
--- the clusters of a run are its bytes
-pub run_clusters : (n : ℕ) (text : List ℕ) → IsUtf8 text → IsRun text n → clusters text ≡ map one_byte (take n text) ++ clusters (drop n text)
-run_clusters zero text u r = refl
-run_clusters (suc n) [] u r = absurd (omega (arith, r.within))
-run_clusters (suc n) (b ∷ bs) u r =
-    let p = first_of_run b bs u (and_parts (is_printable b) _ r.printable).0 (next_apart n b bs r) in
-    shown-first [] [] (b ∷ bs) (b ∷ []) bs 1 refl refl p refl refl
-    ∙ ap (λ cs. (b ∷ []) ∷ cs) (run_clusters n bs (IsUtf8-drop (b ∷ bs) 1 u p.boundary) (rest_of_run n b bs r))
-
-pub run_boundary : (text : List ℕ) (n : ℕ) → IsUtf8 text → IsRun text n → IsCharBoundary text n
-run_boundary text n u r = IsCharBoundary-from_take text n u r.within (IsUtf8-from_ascii (take n text) (printable_ascii (take n text) r.printable))
-
 -- the strokes of one byte as a grapheme, at a place of a buffer
-pub byte_width : (b : ℕ) → is_printable b ≡ true → width_of (b ∷ []) ≡ 1
-unfolding width_of
-byte_width b e = byte_columns false b e
-
 byte_at : (x y u v b : ℕ) (style : Style) (c : Look) → u < 65535 → v < 65535 → width_of (b ∷ []) ≡ 1 →
     layers_at (set_cluster x y style (b ∷ [])) u v c ≡ layers_at (over (at_place x y) (put (b ∷ []) ∷ dress style ∷ [])) u v c
 byte_at x y u v b style c column row wide =
@@ -157,19 +89,8 @@ light_behind run cs all e light = behind run (subst (λ ts. All IsLight ts) e li
     behind [] light = light
     behind (b ∷ bs) light = behind bs (All-tail IsLight (b ∷ []) (map one_byte bs ++ cs) light)
 
-pub fewer_behind : (run : List ℕ) (cs all : List (List ℕ)) → all ≡ map one_byte run ++ cs → length cs ≤ length all
-fewer_behind run cs all e = omega (arith, ap length e, length-append (map one_byte run) cs)
-
 -- no byte, and no cluster
 pub none_spelt : (x y : ℕ) (style : Style) (run : List ℕ) (b : Screen) → length run ≡ 0 → Painted (ascii_layers x y style run) b b
 unfolding ascii_layers
 none_spelt x y style [] b e = Painted-none b
 none_spelt x y style (r ∷ rs) b e = absurd (omega (arith, e))
-
-pub clusters-none : (text : List ℕ) → length text ≡ 0 → clusters text ≡ []
-clusters-none [] e = clusters-nil
-clusters-none (b ∷ bs) e = absurd (omega (arith, e))
-
--- a run with no text behind it
-pub run_alone : (run rest : List ℕ) (all : List (List ℕ)) → all ≡ map one_byte run ++ clusters rest → length rest ≡ 0 → all ≡ map one_byte run ++ []
-run_alone run rest all e none = e ∙ ap (λ cs. map one_byte run ++ cs) (clusters-none rest none)

@@ -8,10 +8,11 @@ use Rattle.tui_cells.specs.Layers.{StayIn}
 use Rattle.tui_cells.specs.Rect.{bottom_of, covers, right_of}
 use Rattle.tui_cells.specs.Stays.{StayIn-append, StayIn-none}
 use Rattle.tui_cells.proofs.Regions.{StayIn-wider}
-use Rattle.tui_text.specs.Grapheme.{width_of}
-use Rattle.tui_text.specs.Graphemes.{clusters, glyph_in}
+use Rattle.tui_clusters.specs.Width.{width_of}
+use Rattle.tui_clusters.specs.Shown.{clusters}
+use Rattle.tui_text.specs.Graphemes.{glyph_in}
 use Rattle.tui_text.specs.Painting.{cells_at, glyph_at}
-use Rattle.tui_text.specs.Setting.{room_in, set_cluster, set_clusters, set_end, set_layers, spans_layers}
+use Rattle.tui_text.specs.Setting.{room_in, set_cluster, set_clusters, set_end, set_layers, spans_end, spans_layers}
 use Rattle.tui_text.specs.Span.{SpanData}
 use Rattle.tui_text.proofs.RowStays.{glyph_stays}
 
@@ -26,12 +27,23 @@ end_from : (x room w : ℕ) (fits : Bool) (end : ℕ) → nat_le w room ≡ fits
 end_from x room w true end e from to = let le : w ≤ room = grind (arith, nat_tests) in (omega arith, omega arith)
 end_from x room w false end e from to = (omega arith, omega arith)
 
-set_end_within : (x room : ℕ) (cs : List (List ℕ)) → (x ≤ set_end x room cs) × (set_end x room cs ≤ x + room)
+-- the column after the last one used lies in the room
+pub set_end_within : (x room : ℕ) (cs : List (List ℕ)) → (x ≤ set_end x room cs) × (set_end x room cs ≤ x + room)
 unfolding set_end
 set_end_within x room [] = (omega arith, omega arith)
 set_end_within x room (c ∷ cs) =
     let next = set_end_within (x + width_of c) (room - width_of c) cs in
     end_from x room (width_of c) (nat_le (width_of c) room) (set_end (x + width_of c) (room - width_of c) cs) refl next.0 next.1
+
+-- so for spans
+pub spans_end_within : (x room : ℕ) (spans : List SpanData) → (x ≤ spans_end x room spans) × (spans_end x room spans ≤ x + room)
+unfolding spans_end
+spans_end_within x room [] = (omega arith, omega arith)
+spans_end_within x room (s ∷ ss) =
+    let next = set_end x room (clusters s.content) in
+    let here = set_end_within x room (clusters s.content) in
+    let behind = spans_end_within next (room - (next - x)) ss in
+    (omega (arith, here.0, behind.0), omega (arith, here.0, here.1, behind.1))
 
 first_inside : (row : Rect) (x room w : ℕ) → Inside row x room → w ≤ room → nat_lt 0 w ≡ true → covers row x row.y ≡ true
 first_inside row x room w i le e = let p = i.left in let q = i.right in let h = i.high in grind (arith, nat_tests)

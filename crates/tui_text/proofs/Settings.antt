@@ -9,11 +9,12 @@ use Rattle.tui_cells.specs.Buffer.{Screen}
 use Rattle.tui_cells.specs.Layers.{KeptOutside, Layer, Painted}
 use Rattle.tui_cells.specs.Rect.{covers, right_of}
 use Rattle.tui_cells.proofs.Painting.{KeptOutside-weaker, Painted-none, Painted-then}
-use Rattle.tui_text.specs.Grapheme.{width_of}
+use Rattle.tui_clusters.specs.Width.{width_of}
 use Rattle.tui_text.specs.Painting.{cells_at}
-use Rattle.tui_text.specs.Graphemes.{clusters}
+use Rattle.tui_clusters.specs.Shown.{clusters}
 use Rattle.tui_text.specs.Setting.{room_in, set_cluster, set_clusters, set_column, set_end, set_layers, set_part, spans_end, spans_layers}
 use Rattle.tui_text.specs.Span.{SpanData}
+use Rattle.tui_text.proofs.SetStays.{set_end_within, spans_end_within}
 
 pub fits : (m n : ℕ) → m ≤ n → nat_le m n ≡ true
 fits m n le = grind (arith, nat_tests)
@@ -64,11 +65,41 @@ pub end_none : (x room : ℕ) (cs : List (List ℕ)) → cs ≡ [] → set_end x
 unfolding set_end
 end_none x room cs e = ap (set_end x room) e
 
-cells_in : (a x y r w u v : ℕ) → a ≤ x → x + w ≤ a + r → covers (cells_at a y r) u v ≡ false → covers (cells_at x y w) u v ≡ false
-cells_in a x y r w u v first last out = grind (arith, nat_tests)
+to_in : (a e x w y u v : ℕ) → a ≤ x → x + w ≤ e → covers (cells_at a y (e - a)) u v ≡ false → covers (cells_at x y w) u v ≡ false
+to_in a e x w y u v first last out = grind (arith, nat_tests)
 
-pub kept_in : (a x y r w : ℕ) (old new : Screen) → a ≤ x → x + w ≤ a + r → KeptOutside (covers (cells_at x y w)) old new → KeptOutside (covers (cells_at a y r)) old new
-kept_in a x y r w old new first last k = KeptOutside-weaker (λ u v out. cells_in a x y r w u v first last out) k
+-- columns of a room up to another one
+kept_to : (a e x w y : ℕ) (old new : Screen) → a ≤ x → x + w ≤ e → KeptOutside (covers (cells_at x y w)) old new →
+    KeptOutside (covers (cells_at a y (e - a))) old new
+kept_to a e x w y old new first last k = KeptOutside-weaker (λ u v out. to_in a e x w y u v first last out) k
+
+-- so what is set first, where the column after the last one used is the same for what is left
+pub kept_run : (a x room n end y : ℕ) (cs : List (List ℕ)) (old new : Screen) → a ≤ x → set_end (x + n) (room - n) cs ≡ end →
+    KeptOutside (covers (cells_at x y n)) old new → KeptOutside (covers (cells_at a y (end - a))) old new
+kept_run a x room n end y cs old new first e k =
+    kept_to a end x n y old new first (omega (arith, e, (set_end_within (x + n) (room - n) cs).0)) k
+
+-- what is set behind it
+pub kept_rest : (a x room end y : ℕ) (cs : List (List ℕ)) (old new : Screen) → a ≤ x →
+    KeptOutside (covers (cells_at x y (set_end x room cs - x))) old new → set_end x room cs ≡ end → KeptOutside (covers (cells_at a y (end - a))) old new
+kept_rest a x room end y cs old new first k e =
+    kept_to a end x (set_end x room cs - x) y old new first (omega (arith, e, (set_end_within x room cs).0)) k
+
+-- a grapheme that fits
+pub kept_first : (a x room w end y : ℕ) (cs : List (List ℕ)) (c : List ℕ) (rest : List (List ℕ)) (old new : Screen) → a ≤ x → cs ≡ c ∷ rest → w ≡ width_of c →
+    w ≤ room → set_end x room cs ≡ end → KeptOutside (covers (cells_at x y w)) old new → KeptOutside (covers (cells_at a y (end - a))) old new
+kept_first a x room w end y cs c rest old new first e wide le is k =
+    kept_run a x room w end y rest old new first
+    (end_more x room (x + w) (room - w) cs c rest e (omega (arith, wide, le)) (omega (arith, wide)) (omega (arith, wide)) ∙ is) k
+
+-- a span before others
+pub kept_span : (a x room end y : ℕ) (s : SpanData) (ss spans : List SpanData) (old new : Screen) → a ≤ x → spans ≡ s ∷ ss → spans_end x room spans ≡ end →
+    KeptOutside (covers (cells_at x y (set_end x room (clusters s.content) - x))) old new → KeptOutside (covers (cells_at a y (end - a))) old new
+unfolding spans_end
+kept_span a x room end y s ss spans old new first e is k =
+    let next = set_end x room (clusters s.content) in
+    let behind : next ≤ spans_end x room spans = rw e (spans_end_within next (room - (next - x)) ss).0 in
+    kept_to a end x (next - x) y old new first (omega (arith, is, behind, (set_end_within x room (clusters s.content)).0)) k
 
 -- one span alone
 pub one_span : (x y room : ℕ) (s : SpanData) (a b : Screen) → Painted (set_clusters x y room s.style (clusters s.content)) a b → Painted (spans_layers x y room (s ∷ [])) a b
@@ -78,6 +109,11 @@ one_span x y room s a b p = rw (append-nil (set_clusters x y room s.style (clust
 pub one_end : (x room : ℕ) (s : SpanData) → spans_end x room (s ∷ []) ≡ set_end x room (clusters s.content)
 unfolding spans_end
 one_end x room s = refl
+
+pub one_kept : (x y room : ℕ) (s : SpanData) (a b : Screen) → KeptOutside (covers (cells_at x y (set_end x room (clusters s.content) - x))) a b →
+    KeptOutside (covers (cells_at x y (spans_end x room (s ∷ []) - x))) a b
+unfolding spans_end
+one_kept x y room s a b k = k
 
 pub spans_more : (x y room next left : ℕ) (s : SpanData) (ss spans : List SpanData) (a b final : Screen) →
     spans ≡ s ∷ ss → next ≡ set_end x room (clusters s.content) → left ≡ room - (next - x) →
@@ -107,18 +143,17 @@ pub column_in : (clip : Rect) (at : Position) (spans : List SpanData) (room r x 
     x ≡ spans_end at.x r spans → x ≡ set_column clip at spans room
 column_in clip at spans room r x inside e p = rw inside (rw e at p)
 
-cells_out : (clip : Rect) (x y r u v : ℕ) → covers clip x y ≡ true → x + r ≤ right_of clip → covers clip u v ≡ false → covers (cells_at x y r) u v ≡ false
-cells_out clip x y r u v inside within out = grind (arith, nat_tests)
+-- what is set from a position of the clip on changes nothing outside the columns that it uses
+pub kept_part : (clip : Rect) (at : Position) (spans : List SpanData) (room r : ℕ) (a b : Screen) → covers clip at.x at.y ≡ true → r ≡ room_in clip at.x room →
+    KeptOutside (covers (cells_at at.x at.y (spans_end at.x r spans - at.x))) a b → KeptOutside (set_part clip at spans room) a b
+kept_part clip at spans room r a b inside e k = rw inside (rw e at k)
 
-pub kept_in_clip : (clip : Rect) (x y r : ℕ) (a b : Screen) → covers clip x y ≡ true → x + r ≤ right_of clip →
-    KeptOutside (covers (cells_at x y r)) a b → KeptOutside (covers clip) a b
-kept_in_clip clip x y r a b inside within k = KeptOutside-weaker (λ u v out. cells_out clip x y r u v inside within out) k
+part_out : (clip : Rect) (x y end u v : ℕ) → covers clip x y ≡ true → end ≤ x + (right_of clip - x) → covers clip u v ≡ false → covers (cells_at x y (end - x)) u v ≡ false
+part_out clip x y end u v inside within out = grind (arith, nat_tests)
 
-part_out : (clip : Rect) (at : Position) (room r u v : ℕ) → covers clip at.x at.y ≡ true → r ≡ room_in clip at.x room →
-    set_part clip at room u v ≡ false → covers (cells_at at.x at.y r) u v ≡ false
-part_out clip at room r u v inside e out = rw e (rw inside at out)
-
--- what is set from a position of the clip on changes nothing outside the room that it has there
-pub kept_part : (clip : Rect) (at : Position) (room r : ℕ) (a b : Screen) → covers clip at.x at.y ≡ true → r ≡ room_in clip at.x room →
-    KeptOutside (covers (cells_at at.x at.y r)) a b → KeptOutside (set_part clip at room) a b
-kept_part clip at room r a b inside e k = KeptOutside-weaker (λ u v out. part_out clip at room r u v inside e out) k
+-- and so nothing outside the clip
+pub kept_in_clip : (clip : Rect) (at : Position) (spans : List SpanData) (room r : ℕ) (a b : Screen) → covers clip at.x at.y ≡ true → r ≡ room_in clip at.x room →
+    KeptOutside (covers (cells_at at.x at.y (spans_end at.x r spans - at.x))) a b → KeptOutside (covers clip) a b
+kept_in_clip clip at spans room r a b inside e k =
+    let within = (spans_end_within at.x r spans).1 in
+    KeptOutside-weaker (λ u v out. part_out clip at.x at.y (spans_end at.x r spans) u v inside (omega (arith, within, e)) out) k

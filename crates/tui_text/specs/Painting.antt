@@ -33,7 +33,8 @@ use Rattle.tui_text.specs.Grapheme.{Glyph, glyph_width}
 use Rattle.tui_text.specs.Graphemes.{span_graphemes}
 use Rattle.tui_text.specs.Line.{LineData}
 use Rattle.tui_text.specs.Text.{TextData}
-use Rattle.tui_text.specs.Width.{line_width, saturated}
+use Rattle.tui_clusters.specs.Width.{saturated}
+use Rattle.tui_text.specs.Width.{line_width}
 use Rattle.tui_text.specs.declared.alignment.Alignment.{Alignment}
 use Rattle.tui_text.specs.declared.alignment.Alignment.TheVariants.{Left, Center, Right}
 

@@ -1,5 +1,5 @@
 -- The strokes of a text that is set from a position on.
-use Rattle.std.specs.Prelude.{ℕ, ◌+◌, ◌-◌, Bool, ◌&&◌, min, nat_le, nat_lt, List, [], ◌∷◌, ◌++◌, map, All, if◌then◌else◌}
+use Rattle.std.specs.Prelude.{ℕ, ◌+◌, ◌-◌, Bool, min, nat_le, nat_lt, List, [], ◌∷◌, ◌++◌, map, All, if◌then◌else◌}
 use Rattle.tui_cells.specs.declared.position.Position.{Position}
 use Rattle.tui_cells.specs.declared.rect.Rect.{Rect}
 use Rattle.tui_cells.specs.declared.style.Style.{Style}
@@ -7,8 +7,9 @@ use Rattle.tui_cells.specs.Cell.{IsLight}
 use Rattle.tui_cells.specs.Layers.{Layer}
 use Rattle.tui_cells.specs.Rect.{covers, right_of}
 use Rattle.tui_cells.specs.Style.{patched}
-use Rattle.tui_text.specs.Grapheme.{width_of}
-use Rattle.tui_text.specs.Graphemes.{clusters, glyph_in}
+use Rattle.tui_clusters.specs.Width.{width_of}
+use Rattle.tui_clusters.specs.Shown.{clusters}
+use Rattle.tui_text.specs.Graphemes.{glyph_in}
 use Rattle.tui_text.specs.Line.{LineData}
 use Rattle.tui_text.specs.Painting.{cells_at, glyph_at}
 use Rattle.tui_text.specs.Span.{SpanData}
@@ -48,10 +49,6 @@ spans_end x room (s ∷ ss) = let next = set_end x room (clusters s.content) in 
 abbrev pub room_in : Rect → ℕ → ℕ → ℕ
 room_in clip x room = min room (right_of clip - x)
 
--- the cells that spans set from a position of a clip on may change: those of the room that they have there
-abbrev pub set_part : Rect → Position → ℕ → ℕ → ℕ → Bool
-set_part clip at room x y = covers clip at.x at.y && covers (cells_at at.x at.y (room_in clip at.x room)) x y
-
 -- spans set from a position of the clip on
 abbrev pub set_layers : Rect → Position → List SpanData → ℕ → List Layer
 set_layers clip at spans room = if covers clip at.x at.y then spans_layers at.x at.y (room_in clip at.x room) spans else []
@@ -59,6 +56,10 @@ set_layers clip at spans room = if covers clip at.x at.y then spans_layers at.x 
 -- the column after the last one used, and the position's own where it lies outside the clip
 abbrev pub set_column : Rect → Position → List SpanData → ℕ → ℕ
 set_column clip at spans room = if covers clip at.x at.y then spans_end at.x (room_in clip at.x room) spans else at.x
+
+-- the cells that spans set from a position of a clip on may change: those of its row from there up to the column after the last one used
+abbrev pub set_part : Rect → Position → List SpanData → ℕ → ℕ → ℕ → Bool
+set_part clip at spans room = covers (cells_at at.x at.y (set_column clip at spans room - at.x))
 
 -- a text of one style
 abbrev pub styled_text : List ℕ → Style → List SpanData

@@ -2,7 +2,7 @@
 use Rattle.std.specs.Prelude.{ℕ, zero, suc, ◌+◌, ◌-◌, max, List, [], ◌∷◌, drop}
 use Rattle.std.specs.Borrow.{Bor}
 use Rattle.tui_cells.specs.Cell.{Look}
-use Rattle.tui_text.specs.Grapheme.{width_of}
+use Rattle.tui_clusters.specs.Width.{width_of}
 use Rattle.tui_text.specs.declared.visible.VisibleCells.{VisibleCells}
 
 -- the columns from a cell that shows to the next one: its width, but at least one

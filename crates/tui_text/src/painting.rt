@@ -16,7 +16,8 @@ ghost use Rattle.tui_text.specs.Painting.{
 ghost use Rattle.tui_text.specs.Setting.{AreLight};
 ghost use Rattle.tui_text.specs.Span.{span_data};
 ghost use Rattle.tui_text.specs.Text.{text_data};
-ghost use Rattle.tui_text.specs.Width.{saturated, span_width};
+ghost use Rattle.tui_clusters.specs.Width.{saturated};
+ghost use Rattle.tui_text.specs.Width.{span_width};
 
 use crate::alignment::Alignment;
 use crate::line::Line;

@@ -7,19 +7,19 @@ ghost use Rattle.tui_cells.specs.Layers.{KeptOutside, Painted, stroke};
 ghost use Rattle.tui_cells.specs.Rect.{covers, farthest_edge};
 ghost use Rattle.tui_cells.specs.Style.{no_style};
 ghost use Rattle.tui_text.specs.Grapheme.{Glyph, glyph_of, glyph_width};
-ghost use Rattle.tui_text.specs.Graphemes.{clusters, clusters_left, glyph_in, one_byte, span_graphemes};
+ghost use Rattle.tui_clusters.specs.Clusters.{clusters_left};
+ghost use Rattle.tui_clusters.specs.Shown.{clusters, one_byte};
+ghost use Rattle.tui_text.specs.Graphemes.{glyph_in, span_graphemes};
 ghost use Rattle.tui_text.specs.Painting.{cells_at, column_at, glyph_at, line_part, shown_glyph, shown_glyphs};
-ghost use Rattle.tui_text.specs.Part.{is_printable};
+ghost use Rattle.tui_clusters.specs.Printable.{is_printable};
 ghost use Rattle.tui_text.specs.Row.{InRow, ShownUpTo};
 ghost use Rattle.tui_text.specs.Setting.{AreLight};
 ghost use Rattle.tui_text.specs.Span.{span_data};
 
-use crate::clusters::{Clusters, split_run};
 use crate::grapheme::StyledGrapheme;
-use crate::plain::is_plain_char;
 use crate::span::Span;
-use crate::width::cell_width;
 use tui_cells::{Buffer, Mem, Position, Rect, Style};
+use tui_clusters::{Clusters, cell_width, is_plain_char, split_run};
 
 /// Makes the cells behind the first one of a grapheme blank. Mostly there is none.
 #[inline(always)]

@@ -5,11 +5,12 @@ ghost use Rattle.tui_cells.specs.Buffer.{Screen};
 ghost use Rattle.tui_cells.specs.Cell.{IsLight};
 ghost use Rattle.tui_cells.specs.Layers.{KeptOutside, Painted, ascii_layers};
 ghost use Rattle.tui_cells.specs.Rect.{covers, intersection_of, right_of, farthest_edge};
-ghost use Rattle.tui_text.specs.Grapheme.{width_of};
-ghost use Rattle.tui_text.specs.Graphemes.{clusters, clusters_left};
+ghost use Rattle.tui_clusters.specs.Width.{width_of};
+ghost use Rattle.tui_clusters.specs.Clusters.{clusters_left};
+ghost use Rattle.tui_clusters.specs.Shown.{clusters};
 ghost use Rattle.tui_text.specs.Line.{line_data};
 ghost use Rattle.tui_text.specs.Painting.{cells_at};
-ghost use Rattle.tui_text.specs.Plain.{IsPlainChar};
+ghost use Rattle.tui_clusters.specs.Plain.{IsPlainChar};
 ghost use Rattle.tui_text.specs.Span.{span_data};
 ghost use Rattle.tui_text.specs.Setting.{
   AreLight,
@@ -27,14 +28,12 @@ ghost use Rattle.tui_text.specs.Setting.{
   styled_text,
 };
 
-use crate::clusters::{Clusters, split_run};
 use crate::grapheme::StyledGrapheme;
 use crate::line::Line;
-use crate::plain::is_plain_char;
 use crate::row::put_glyph;
 use crate::span::Span;
-use crate::width::cell_width;
 use tui_cells::{Buffer, Mem, Position, Rect, Style};
+use tui_clusters::{Clusters, cell_width, is_plain_char, split_run};
 
 /// Puts a grapheme of a width in its columns, if it has any. Always inlined, as it is a step of the loop over graphemes.
 #[inline(always)]
@@ -81,7 +80,7 @@ fn set_run(
         → Painted (set_clusters at.x at.y room style (clusters_left clusters.old)) buf.old final }
     ensures end { set_end (at.x + result) (room - result) (clusters_left clusters.new) ≡ set_end at.x room (clusters_left clusters.old) }
     ensures within { result ≤ room }
-    ensures kept { KeptOutside (covers (cells_at at.x at.y room)) buf.old buf.new }
+    ensures kept { KeptOutside (covers (cells_at at.x at.y result)) buf.old buf.new }
     ensures light { All IsLight (clusters_left clusters.old) → All IsLight (clusters_left clusters.new) }
     ensures fewer { length (clusters_left clusters.new) ≤ length (clusters_left clusters.old) }
 {
@@ -97,7 +96,7 @@ fn set_clusters(buf: &mut Buffer, at: Position, room: u16, text: &str, style: St
     ensures ok { OnOk result (Painted (set_clusters at.x at.y room style (clusters text.now)) buf.old buf.new) }
     ensures end { IfOk result (λ x. x ≡ set_end at.x room (clusters text.now)) }
     ensures within { IfOk result (λ x. (at.x ≤ x) × (x ≤ at.x + room)) }
-    ensures kept { KeptOutside (covers (cells_at at.x at.y room)) buf.old buf.new }
+    ensures kept { KeptOutside (covers (cells_at at.x at.y (set_end at.x room (clusters text.now) - at.x))) buf.old buf.new }
     ensures light { All IsLight (clusters text.now) → IsOk result }
 {
     let (run, rest) = split_run(text, room as usize);
@@ -120,7 +119,7 @@ fn set_others(buf: &mut Buffer, at: Position, room: u16, text: &str, style: Styl
     ensures ok { OnOk result (Painted (set_clusters at.x at.y room style (clusters text.now)) buf.old buf.new) }
     ensures end { IfOk result (λ x. x ≡ set_end at.x room (clusters text.now)) }
     ensures within { IfOk result (λ x. (at.x ≤ x) × (x ≤ at.x + room)) }
-    ensures kept { KeptOutside (covers (cells_at at.x at.y room)) buf.old buf.new }
+    ensures kept { KeptOutside (covers (cells_at at.x at.y (set_end at.x room (clusters text.now) - at.x))) buf.old buf.new }
     ensures light { All IsLight (clusters text.now) → IsOk result }
 {
     if is_plain_char(text) {
@@ -137,7 +136,7 @@ fn set_lone(buf: &mut Buffer, at: Position, room: u16, text: &str, style: Style)
     ensures ok { OnOk result (Painted (set_clusters at.x at.y room style (clusters text.now)) buf.old buf.new) }
     ensures end { IfOk result (λ x. x ≡ set_end at.x room (clusters text.now)) }
     ensures within { IfOk result (λ x. (at.x ≤ x) × (x ≤ at.x + room)) }
-    ensures kept { KeptOutside (covers (cells_at at.x at.y room)) buf.old buf.new }
+    ensures kept { KeptOutside (covers (cells_at at.x at.y (set_end at.x room (clusters text.now) - at.x))) buf.old buf.new }
     ensures light { All IsLight (clusters text.now) → IsOk result }
 {
     let width = cell_width(text);
@@ -155,7 +154,7 @@ fn set_mixed(buf: &mut Buffer, at: Position, room: u16, text: &str, style: Style
     ensures ok { OnOk result (Painted (set_clusters at.x at.y room style (clusters text.now)) buf.old buf.new) }
     ensures end { IfOk result (λ x. x ≡ set_end at.x room (clusters text.now)) }
     ensures within { IfOk result (λ x. (at.x ≤ x) × (x ≤ at.x + room)) }
-    ensures kept { KeptOutside (covers (cells_at at.x at.y room)) buf.old buf.new }
+    ensures kept { KeptOutside (covers (cells_at at.x at.y (set_end at.x room (clusters text.now) - at.x))) buf.old buf.new }
     ensures light { All IsLight (clusters text.now) → IsOk result }
 {
     let mut clusters = Clusters::new(text);
@@ -189,7 +188,7 @@ fn set_spans(
     requires { at.x + room ≤ farthest_edge }
     ensures ok { OnOk result (Painted (spans_layers at.x at.y room (map (in_line style) (map span_data spans.now))) buf.old buf.new) }
     ensures end { IfOk result (λ x. x ≡ spans_end at.x room (map (in_line style) (map span_data spans.now))) }
-    ensures kept { KeptOutside (covers (cells_at at.x at.y room)) buf.old buf.new }
+    ensures kept { KeptOutside (covers (cells_at at.x at.y (spans_end at.x room (map (in_line style) (map span_data spans.now)) - at.x))) buf.old buf.new }
     ensures light { AreLight (map span_data spans.now) → IsOk result }
 {
     let mut x = at.x;
@@ -229,7 +228,7 @@ pub fn set_stringn_in(
     ensures ok { OnOk result (Painted (set_layers clip at (styled_text text.now style) room) buf.old buf.new) }
     ensures end { IfOk result (λ x. x ≡ set_column clip at (styled_text text.now style) room) }
     ensures kept { KeptOutside (covers clip) buf.old buf.new }
-    ensures part { KeptOutside (set_part clip at room) buf.old buf.new }
+    ensures part { KeptOutside (set_part clip at (styled_text text.now style) room) buf.old buf.new }
     ensures light { AreLight (styled_text text.now style) → IsOk result }
 {
     if !clip.contains(at) {
@@ -241,7 +240,7 @@ pub fn set_stringn_in(
 /// Sets a text from a position on in `room` columns at most, as far as the clip and the buffer go: each grapheme of width above
 /// 0 with the style, until the first that does not fit, the cells behind a wide one made blank. Answers the column after the
 /// last one used. A position outside the clip changes nothing, and the answer is its column. At NoMemory no cell has changed but
-/// those of the position's row from there on, in the room and the clip; graphemes of at most 8 bytes take no memory.
+/// those of the position's row from there up to that column; graphemes of at most 8 bytes take no memory.
 pub fn set_stringn(
     buf: &mut Buffer,
     clip: Rect,
@@ -253,7 +252,7 @@ pub fn set_stringn(
     ensures ok { OnOk result (Painted (set_layers (intersection_of clip buf.old.area) at (styled_text text.now style) room) buf.old buf.new) }
     ensures end { IfOk result (λ x. x ≡ set_column (intersection_of clip buf.old.area) at (styled_text text.now style) room) }
     ensures kept { KeptOutside (covers (intersection_of clip buf.old.area)) buf.old buf.new }
-    ensures part { KeptOutside (set_part (intersection_of clip buf.old.area) at room) buf.old buf.new }
+    ensures part { KeptOutside (set_part (intersection_of clip buf.old.area) at (styled_text text.now style) room) buf.old buf.new }
     ensures light { AreLight (styled_text text.now style) → IsOk result }
 {
     set_stringn_in(buf, clip.intersection(buf.area()), at, text, room, style)
@@ -270,7 +269,7 @@ pub fn set_span_in(
     ensures ok { OnOk result (Painted (set_layers clip at (span_data span.now ∷ []) room) buf.old buf.new) }
     ensures end { IfOk result (λ x. x ≡ set_column clip at (span_data span.now ∷ []) room) }
     ensures kept { KeptOutside (covers clip) buf.old buf.new }
-    ensures part { KeptOutside (set_part clip at room) buf.old buf.new }
+    ensures part { KeptOutside (set_part clip at (span_data span.now ∷ []) room) buf.old buf.new }
     ensures light { AreLight (span_data span.now ∷ []) → IsOk result }
 {
     set_stringn_in(buf, clip, at, span.content, room, span.style)
@@ -287,7 +286,7 @@ pub fn set_span(
     ensures ok { OnOk result (Painted (set_layers (intersection_of clip buf.old.area) at (span_data span.now ∷ []) room) buf.old buf.new) }
     ensures end { IfOk result (λ x. x ≡ set_column (intersection_of clip buf.old.area) at (span_data span.now ∷ []) room) }
     ensures kept { KeptOutside (covers (intersection_of clip buf.old.area)) buf.old buf.new }
-    ensures part { KeptOutside (set_part (intersection_of clip buf.old.area) at room) buf.old buf.new }
+    ensures part { KeptOutside (set_part (intersection_of clip buf.old.area) at (span_data span.now ∷ []) room) buf.old buf.new }
     ensures light { AreLight (span_data span.now ∷ []) → IsOk result }
 {
     set_span_in(buf, clip.intersection(buf.area()), at, span, room)
@@ -304,7 +303,7 @@ pub fn set_line_in(
     ensures ok { OnOk result (Painted (set_layers clip at (line_spans (line_data line.now)) room) buf.old buf.new) }
     ensures end { IfOk result (λ x. x ≡ set_column clip at (line_spans (line_data line.now)) room) }
     ensures kept { KeptOutside (covers clip) buf.old buf.new }
-    ensures part { KeptOutside (set_part clip at room) buf.old buf.new }
+    ensures part { KeptOutside (set_part clip at (line_spans (line_data line.now)) room) buf.old buf.new }
     ensures light { AreLight (line_data line.now).spans → IsOk result }
 {
     if !clip.contains(at) {
@@ -331,7 +330,7 @@ pub fn set_line(
     ensures ok { OnOk result (Painted (set_layers (intersection_of clip buf.old.area) at (line_spans (line_data line.now)) room) buf.old buf.new) }
     ensures end { IfOk result (λ x. x ≡ set_column (intersection_of clip buf.old.area) at (line_spans (line_data line.now)) room) }
     ensures kept { KeptOutside (covers (intersection_of clip buf.old.area)) buf.old buf.new }
-    ensures part { KeptOutside (set_part (intersection_of clip buf.old.area) at room) buf.old buf.new }
+    ensures part { KeptOutside (set_part (intersection_of clip buf.old.area) at (line_spans (line_data line.now)) room) buf.old buf.new }
     ensures light { AreLight (line_data line.now).spans → IsOk result }
 {
     set_line_in(buf, clip.intersection(buf.area()), at, line, room)

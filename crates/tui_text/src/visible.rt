@@ -4,8 +4,8 @@ ghost use Rattle.std.specs.Prelude.{◌≡◌};
 ghost use Rattle.std.specs.Iterator.{item_count, YieldsFirstBy};
 ghost use Rattle.tui_text.specs.Visible.{step_of, visible, visible_left};
 
-use crate::width::cell_width;
 use tui_cells::Cell;
+use tui_clusters::cell_width;
 
 /// The cells of a row that show, from the left, each behind its column.
 #[derive(Drop)]

@@ -6,7 +6,7 @@ use Rattle.std.proofs.lemmas.Str.{chars-IsAscii, chars-nil}
 use Rattle.std.proofs.lemmas.Bool.{and_parts, cond-true, cond-false, leb-true, or_cases, true≢false}
 use Rattle.unicode_width.proofs.Rules.{str_width-printable}
 use Rattle.tui_cells.specs.Cell.{Look, space}
-use Rattle.tui_text.specs.Grapheme.{width_of, columns_of}
+use Rattle.tui_clusters.specs.Width.{width_of, columns_of}
 use Rattle.tui_text.specs.Visible.{step_of}
 use Rattle.tui_tty.specs.declared.trust.Trust.{Trust}
 use Rattle.tui_tty.specs.declared.trust.Trust.TheVariants.{Common, Ascii}

@@ -24,7 +24,7 @@ ghost use Rattle.tui_cells.specs.Cell.{IsLight};
 ghost use Rattle.tui_cells.specs.Layers.{KeptOutside, Painted};
 ghost use Rattle.tui_cells.specs.Rect.{covers};
 ghost use Rattle.tui_layout.specs.declared.direction.Direction.TheVariants.{Vertical};
-ghost use Rattle.tui_text.specs.Graphemes.{clusters};
+ghost use Rattle.tui_clusters.specs.Shown.{clusters};
 ghost use Rattle.tui_text.specs.Line.{line_data};
 ghost use Rattle.tui_text.specs.Painting.{before_it};
 ghost use Rattle.tui_text.specs.Setting.{AreLight};

@@ -10,7 +10,7 @@ ghost use Rattle.tui_cells.specs.Layers.{KeptOutside, Painted};
 ghost use Rattle.tui_cells.specs.Rect.{covers, is_empty};
 ghost use Rattle.tui_frames.specs.Footprint.{footprint_if};
 ghost use Rattle.tui_frames.specs.InBlock.{IsLightIfBlock, in_block_layers};
-ghost use Rattle.tui_text.specs.Part.{is_printable};
+ghost use Rattle.tui_clusters.specs.Printable.{is_printable};
 ghost use Rattle.tui_text.specs.Setting.{set_layers, styled_text};
 
 use super::words::{day, heading};

@@ -5,7 +5,7 @@ ghost use Rattle.std.specs.Int.{IsInRange};
 ghost use Rattle.std.specs.List.{list_all};
 ghost use Rattle.tui_calendar.specs.Month.{date_data};
 ghost use Rattle.tui_calendar.specs.Monthly.{day_text, heading_text, month_name};
-ghost use Rattle.tui_text.specs.Part.{is_printable};
+ghost use Rattle.tui_clusters.specs.Printable.{is_printable};
 
 use arrayvec::ArrayString;
 use itoa::Buffer as Digits;

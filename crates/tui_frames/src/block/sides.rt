@@ -1,6 +1,6 @@
 //! The sides and corners of a block.
 
-ghost use Rattle.std.specs.Prelude.{◌≡◌, ◌≤◌, ◌&&◌, [], ◌∷◌, IsOk, OnOk};
+ghost use Rattle.std.specs.Prelude.{◌≡◌, ◌≤◌, ◌&&◌, [], ◌∷◌, IsOk, OnOk, true};
 ghost use Rattle.tui_cells.specs.Cell.{IsLight, dress, merge};
 ghost use Rattle.tui_cells.specs.Layers.{KeptOutside, Painted, over};
 ghost use Rattle.tui_cells.specs.Rect.{covers};
@@ -136,32 +136,50 @@ impl<'a> Block<'a> {
         row_of(clip, y).columns_from(first, clip.width.saturating_sub(first + last))
     }
 
-    /// The symbol and the border style in a part of the clip, if that border is set.
+    /// The symbol and the border style in a part of the clip.
     fn paint_border(
         &self,
         alloc: Global,
         buf: &mut Buffer,
         clip: Rect,
-        is_set: bool,
         part: Rect,
         symbol: &str,
     ) -> Mem<()>
-        ensures ok { OnOk result (Painted (border_layers (block_data self.now) clip is_set part symbol.now) buf.old buf.new) }
+        ensures ok { OnOk result (Painted (border_layers (block_data self.now) clip true part symbol.now) buf.old buf.new) }
         ensures kept { KeptOutside (covers clip) buf.old buf.new }
-        ensures light { IsLightIf is_set symbol.now → IsOk result }
+        ensures light { IsLight symbol.now → IsOk result }
     {
-        if is_set {
-            let part = clip.intersection(part);
-            join(
-                alloc,
-                buf,
-                part,
-                self.merge_borders,
-                symbol,
-                self.border_style,
-            )?;
+        let part = clip.intersection(part);
+        join(
+            alloc,
+            buf,
+            part,
+            self.merge_borders,
+            symbol,
+            self.border_style,
+        )
+    }
+
+    /// A side in its part of the clip, if its border is set.
+    fn paint_side(
+        &self,
+        alloc: Global,
+        buf: &mut Buffer,
+        clip: Rect,
+        side: Borders,
+        part: Rect,
+        symbol: &str,
+    ) -> Mem<()>
+        ensures ok { OnOk result
+            (Painted (border_layers (block_data self.now) clip (has (block_data self.now).borders side.bits) part symbol.now) buf.old buf.new) }
+        ensures kept { KeptOutside (covers clip) buf.old buf.new }
+        ensures light { IsLightIf (has (block_data self.now).borders side.bits) symbol.now → IsOk result }
+    {
+        if self.has(side) {
+            self.paint_border(alloc, buf, clip, part, symbol)
+        } else {
+            Ok(())
         }
-        Ok(())
     }
 
     #[tactic(auto, unfolding(crate::specs::Strokes::sides_layers))]
@@ -171,18 +189,21 @@ impl<'a> Block<'a> {
         ensures light { AreLightBorders (block_data self.now) → IsOk result }
     {
         let set = self.border_set;
-        let is_left = self.has(Borders::LEFT);
-        let is_top = self.has(Borders::TOP);
-        let is_right = self.has(Borders::RIGHT);
-        let is_bottom = self.has(Borders::BOTTOM);
         let left = self.column_side(clip, clip.x);
         let top = self.row_side(clip, clip.y);
         let right = self.column_side(clip, last_column(clip));
         let bottom = self.row_side(clip, last_row(clip));
-        self.paint_border(alloc, buf, clip, is_left, left, set.vertical_left)?;
-        self.paint_border(alloc, buf, clip, is_top, top, set.horizontal_top)?;
-        self.paint_border(alloc, buf, clip, is_right, right, set.vertical_right)?;
-        self.paint_border(alloc, buf, clip, is_bottom, bottom, set.horizontal_bottom)
+        self.paint_side(alloc, buf, clip, Borders::LEFT, left, set.vertical_left)?;
+        self.paint_side(alloc, buf, clip, Borders::TOP, top, set.horizontal_top)?;
+        self.paint_side(alloc, buf, clip, Borders::RIGHT, right, set.vertical_right)?;
+        self.paint_side(
+            alloc,
+            buf,
+            clip,
+            Borders::BOTTOM,
+            bottom,
+            set.horizontal_bottom,
+        )
     }
 
     /// A corner, if both borders that meet there are set.
@@ -202,8 +223,12 @@ impl<'a> Block<'a> {
             → IsOk result }
     {
         let is_set = self.has(sides.0) & self.has(sides.1);
-        let (x, y) = cell;
-        self.paint_border(alloc, buf, clip, is_set, cell_at(x, y), symbol)
+        if is_set {
+            let (x, y) = cell;
+            self.paint_border(alloc, buf, clip, cell_at(x, y), symbol)
+        } else {
+            Ok(())
+        }
     }
 
     #[tactic(auto, unfolding(crate::specs::Strokes::corners_layers))]

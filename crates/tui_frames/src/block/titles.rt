@@ -46,6 +46,13 @@ fn place_of(position: TitlePosition, alignment: Alignment) -> Place
     }
 }
 
+/// The columns of a row in which titles stand, and the clip of the block.
+#[derive(Clone, Copy)]
+struct Strip {
+    clip: Rect,
+    row: Rect,
+}
+
 /// The columns of a title that is cut at both ends.
 fn cut_width(strip: Rect, cut: u128, column: u16, width: u16) -> u16
     requires { column < strip.width }
@@ -69,13 +76,16 @@ fn cut_alignment(cut: u128, column: u16) -> Alignment
 
 impl<'a> Block<'a> {
     /// The row of a side without the columns of set borders.
-    fn strip(&self, clip: Rect, position: TitlePosition) -> Rect
-        ensures { result ≡ strip_of (block_data self.now) clip position }
+    fn strip(&self, clip: Rect, position: TitlePosition) -> Strip
+        ensures { result ≡ record { clip = clip; row = strip_of (block_data self.now) clip position } }
     {
         let left = self.left_edge();
         let right = self.right_edge();
         let row = row_of(clip, row_at(clip, position));
-        row.columns_from(left, clip.width.saturating_sub(left + right))
+        Strip {
+            clip,
+            row: row.columns_from(left, clip.width.saturating_sub(left + right)),
+        }
     }
 
     /// The title style, and the line, in a part of a row.
@@ -101,51 +111,43 @@ impl<'a> Block<'a> {
     fn paint_at(
         &self,
         buf: &mut Buffer,
-        clip: Rect,
-        strip: Rect,
+        strip: Strip,
         column: u16,
         place: Place,
         title: &Title<'_>,
     ) -> Mem<u32>
-        requires { column < strip.width }
+        requires { column < strip.row.width }
         ensures ok { IfOk result (λ next. (ts : List LineData) (final : Screen)
-            → Painted (titles_from (block_data self.now) clip strip next ts) buf.new final
-            → Painted (titles_from (block_data self.now) clip strip column (titles_in (block_data self.now) place (title_data title.now ∷ []) ++ ts))
+            → Painted (titles_from (block_data self.now) strip.clip strip.row next ts) buf.new final
+            → Painted (titles_from (block_data self.now) strip.clip strip.row column (titles_in (block_data self.now) place (title_data title.now ∷ []) ++ ts))
             buf.old final) }
-        ensures kept { KeptOutside (covers clip) buf.old buf.new }
+        ensures kept { KeptOutside (covers strip.clip) buf.old buf.new }
         ensures light { AreLight (title_data title.now).line.spans → IsOk result }
     {
         if !self.is_in(place, title) {
             return Ok(u32::from(column));
         }
         let width = title_width(&title.line);
-        let part = strip.columns_from(column, width);
+        let part = strip.row.columns_from(column, width);
         let alignment = title.line.line_alignment().unwrap_or(Alignment::Left);
-        self.paint_title(buf, clip, part, alignment, &title.line)?;
+        self.paint_title(buf, strip.clip, part, alignment, &title.line)?;
         Ok(u32::from(column) + u32::from(width) + 1)
     }
 
     /// Paints the titles of a place from a column on, while there is room.
-    fn paint_from(
-        &self,
-        buf: &mut Buffer,
-        clip: Rect,
-        strip: Rect,
-        column: u16,
-        place: Place,
-    ) -> Mem<()>
+    fn paint_from(&self, buf: &mut Buffer, strip: Strip, column: u16, place: Place) -> Mem<()>
         ensures ok { OnOk result
-            (Painted (titles_from (block_data self.now) clip strip column (titles_in (block_data self.now) place (block_data self.now).titles))
+            (Painted (titles_from (block_data self.now) strip.clip strip.row column (titles_in (block_data self.now) place (block_data self.now).titles))
             buf.old buf.new) }
-        ensures kept { KeptOutside (covers clip) buf.old buf.new }
+        ensures kept { KeptOutside (covers strip.clip) buf.old buf.new }
         ensures light { AreLightTitles (block_data self.now).titles → IsOk result }
     {
         let mut column = u32::from(column);
         for title in &self.titles {
-            if column >= u32::from(strip.width) {
+            if column >= u32::from(strip.row.width) {
                 return Ok(());
             }
-            column = self.paint_at(buf, clip, strip, column as u16, place, title)?;
+            column = self.paint_at(buf, strip, column as u16, place, title)?;
         }
         Ok(())
     }
@@ -154,50 +156,48 @@ impl<'a> Block<'a> {
     fn paint_cut_at(
         &self,
         buf: &mut Buffer,
-        clip: Rect,
-        strip: Rect,
+        strip: Strip,
         cut: u128,
         column: u16,
         place: Place,
         title: &Title<'_>,
     ) -> Mem<u32>
-        requires { column < strip.width }
+        requires { column < strip.row.width }
         ensures ok { IfOk result (λ next. (ts : List LineData) (final : Screen)
-            → Painted (titles_cut (block_data self.now) clip strip cut next ts) buf.new final
-            → Painted (titles_cut (block_data self.now) clip strip cut column (titles_in (block_data self.now) place (title_data title.now ∷ []) ++ ts))
+            → Painted (titles_cut (block_data self.now) strip.clip strip.row cut next ts) buf.new final
+            → Painted (titles_cut (block_data self.now) strip.clip strip.row cut column (titles_in (block_data self.now) place (title_data title.now ∷ []) ++ ts))
             buf.old final) }
-        ensures kept { KeptOutside (covers clip) buf.old buf.new }
+        ensures kept { KeptOutside (covers strip.clip) buf.old buf.new }
         ensures light { AreLight (title_data title.now).line.spans → IsOk result }
     {
         if !self.is_in(place, title) {
             return Ok(u32::from(column));
         }
-        let width = cut_width(strip, cut, column, title_width(&title.line));
-        let part = strip.columns_from(column, width);
-        self.paint_title(buf, clip, part, cut_alignment(cut, column), &title.line)?;
+        let width = cut_width(strip.row, cut, column, title_width(&title.line));
+        let part = strip.row.columns_from(column, width);
+        self.paint_title(
+            buf,
+            strip.clip,
+            part,
+            cut_alignment(cut, column),
+            &title.line,
+        )?;
         Ok(u32::from(column) + u32::from(width) + 1)
     }
 
     /// Paints the titles of a place, cut at both ends, while there is room.
-    fn paint_cut(
-        &self,
-        buf: &mut Buffer,
-        clip: Rect,
-        strip: Rect,
-        cut: u128,
-        place: Place,
-    ) -> Mem<()>
+    fn paint_cut(&self, buf: &mut Buffer, strip: Strip, cut: u128, place: Place) -> Mem<()>
         ensures ok { OnOk result
-            (Painted (titles_cut (block_data self.now) clip strip cut 0 (titles_in (block_data self.now) place (block_data self.now).titles)) buf.old buf.new) }
-        ensures kept { KeptOutside (covers clip) buf.old buf.new }
+            (Painted (titles_cut (block_data self.now) strip.clip strip.row cut 0 (titles_in (block_data self.now) place (block_data self.now).titles)) buf.old buf.new) }
+        ensures kept { KeptOutside (covers strip.clip) buf.old buf.new }
         ensures light { AreLightTitles (block_data self.now).titles → IsOk result }
     {
         let mut column = 0u32;
         for title in &self.titles {
-            if column >= u32::from(strip.width) {
+            if column >= u32::from(strip.row.width) {
                 return Ok(());
             }
-            column = self.paint_cut_at(buf, clip, strip, cut, column as u16, place, title)?;
+            column = self.paint_cut_at(buf, strip, cut, column as u16, place, title)?;
         }
         Ok(())
     }
@@ -226,19 +226,19 @@ impl<'a> Block<'a> {
     }
 
     /// Paints the titles of a place in the middle of a strip.
-    fn paint_middle(&self, buf: &mut Buffer, clip: Rect, strip: Rect, place: Place) -> Mem<()>
+    fn paint_middle(&self, buf: &mut Buffer, strip: Strip, place: Place) -> Mem<()>
         ensures ok { OnOk result
-            (Painted (titles_in_middle (block_data self.now) clip strip (titles_in (block_data self.now) place (block_data self.now).titles)) buf.old buf.new) }
-        ensures kept { KeptOutside (covers clip) buf.old buf.new }
+            (Painted (titles_in_middle (block_data self.now) strip.clip strip.row (titles_in (block_data self.now) place (block_data self.now).titles)) buf.old buf.new) }
+        ensures kept { KeptOutside (covers strip.clip) buf.old buf.new }
         ensures light { AreLightTitles (block_data self.now).titles → IsOk result }
     {
         let total = self.total(place);
-        let room = u128::from(strip.width);
+        let room = u128::from(strip.row.width);
         if total <= room {
             let column = (room - total) / 2;
-            return self.paint_from(buf, clip, strip, column as u16, place);
+            return self.paint_from(buf, strip, column as u16, place);
         }
-        self.paint_cut(buf, clip, strip, (total - room) / 2, place)
+        self.paint_cut(buf, strip, (total - room) / 2, place)
     }
 
     /// Paints a title before those that take the columns `after` it, if it stands in a place, and answers the columns that it
@@ -246,49 +246,48 @@ impl<'a> Block<'a> {
     fn paint_before(
         &self,
         buf: &mut Buffer,
-        clip: Rect,
-        strip: Rect,
+        strip: Strip,
         after: u16,
         place: Place,
         title: &Title<'_>,
     ) -> Mem<u32>
-        requires { after < strip.width }
+        requires { after < strip.row.width }
         ensures ok { IfOk result (λ next. (ts : List LineData) (first : Screen)
             → after ≡ spaced ts
-            → Painted (titles_to_end (block_data self.now) clip strip ts) first buf.old
-            → Painted (titles_to_end (block_data self.now) clip strip (titles_in (block_data self.now) place (title_data title.now ∷ []) ++ ts))
+            → Painted (titles_to_end (block_data self.now) strip.clip strip.row ts) first buf.old
+            → Painted (titles_to_end (block_data self.now) strip.clip strip.row (titles_in (block_data self.now) place (title_data title.now ∷ []) ++ ts))
             first buf.new) }
         ensures taken { IfOk result (λ next. next ≡ after + spaced (titles_in (block_data self.now) place (title_data title.now ∷ []))) }
-        ensures kept { KeptOutside (covers clip) buf.old buf.new }
+        ensures kept { KeptOutside (covers strip.clip) buf.old buf.new }
         ensures light { AreLight (title_data title.now).line.spans → IsOk result }
     {
         if !self.is_in(place, title) {
             return Ok(u32::from(after));
         }
         let width = title_width(&title.line);
-        let end = strip.width - after;
+        let end = strip.row.width - after;
         let shown = width.min(end);
-        let part = strip.columns_from(end - shown, shown);
+        let part = strip.row.columns_from(end - shown, shown);
         let alignment = title.line.line_alignment().unwrap_or(Alignment::Left);
-        self.paint_title(buf, clip, part, alignment, &title.line)?;
+        self.paint_title(buf, strip.clip, part, alignment, &title.line)?;
         Ok(u32::from(after) + u32::from(width) + 1)
     }
 
     /// Paints the titles of a place up to the end of a strip, the last one first, while there is room.
-    fn paint_to_end(&self, buf: &mut Buffer, clip: Rect, strip: Rect, place: Place) -> Mem<()>
+    fn paint_to_end(&self, buf: &mut Buffer, strip: Strip, place: Place) -> Mem<()>
         ensures ok { OnOk result
-            (Painted (titles_to_end (block_data self.now) clip strip (titles_in (block_data self.now) place (block_data self.now).titles)) buf.old buf.new) }
-        ensures kept { KeptOutside (covers clip) buf.old buf.new }
+            (Painted (titles_to_end (block_data self.now) strip.clip strip.row (titles_in (block_data self.now) place (block_data self.now).titles)) buf.old buf.new) }
+        ensures kept { KeptOutside (covers strip.clip) buf.old buf.new }
         ensures light { AreLightTitles (block_data self.now).titles → IsOk result }
     {
         let count = self.titles.len();
         let mut after = 0u32;
         for i in 0..count {
-            if after >= u32::from(strip.width) {
+            if after >= u32::from(strip.row.width) {
                 return Ok(());
             }
             let title = &self.titles[count - 1 - i];
-            after = self.paint_before(buf, clip, strip, after as u16, place, title)?;
+            after = self.paint_before(buf, strip, after as u16, place, title)?;
         }
         Ok(())
     }
@@ -309,8 +308,8 @@ impl<'a> Block<'a> {
         let left = place_of(position, Alignment::Left);
         let middle = place_of(position, Alignment::Center);
         let right = place_of(position, Alignment::Right);
-        self.paint_from(buf, clip, strip, 0, left)?;
-        self.paint_middle(buf, clip, strip, middle)?;
-        self.paint_to_end(buf, clip, strip, right)
+        self.paint_from(buf, strip, 0, left)?;
+        self.paint_middle(buf, strip, middle)?;
+        self.paint_to_end(buf, strip, right)
     }
 }

@@ -4,7 +4,8 @@ ghost use Rattle.std.specs.Prelude.{◌≡◌, IfOk, true};
 ghost use Rattle.tui_cells.specs.Style.{no_style};
 ghost use Rattle.tui_lists.specs.ListItem.{item_height, list_item_data};
 ghost use Rattle.tui_text.specs.Text.{text_data};
-ghost use Rattle.tui_text.specs.Width.{saturated, text_width};
+ghost use Rattle.tui_clusters.specs.Width.{saturated};
+ghost use Rattle.tui_text.specs.Width.{text_width};
 
 use tui_cells::{Mem, Style, Styled};
 use tui_text::Text;

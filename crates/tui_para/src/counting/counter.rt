@@ -1,13 +1,13 @@
 //! Counting the lines of one text line from numbers alone.
 
 ghost use Rattle.std.specs.Prelude.{◌≡◌, if◌then◌else◌, ◌+◌, ◌≤◌, ◌<◌, ◌^◌};
-ghost use Rattle.tui_text.specs.Width.{saturated};
+ghost use Rattle.tui_clusters.specs.Width.{saturated};
 ghost use Rattle.tui_para.specs.Mark.{ends_before};
 ghost use Rattle.tui_para.specs.Counting.{
   add_letter,
   after_word,
   counted,
-  cut_count,
+  saturated_count,
   end_line,
   hard,
   no_lines,
@@ -22,7 +22,7 @@ use crate::wrapping::mark::Mark;
 /// The lines of the graphemes that were read, and how the last of them goes on.
 #[derive(Clone, Copy, Debug)]
 pub(crate) struct Counter {
-    /// The lines that have ended, cut at the greatest number of 64 bits.
+    /// The lines that have ended, saturated at the greatest number of 64 bits.
     lines: usize,
     /// A grapheme stands behind the last line that has ended.
     some: bool,
@@ -58,7 +58,7 @@ impl Counter {
         requires width { width < 2 ^ 16 }
         requires small { mark.width ≤ width }
         requires fits { self.old.line + self.old.blanks + self.old.word ≤ width }
-        ensures step { cut_count self.new ≡ cut_count (step width trim self.old mark.width (ends_before mark) mark.blank) }
+        ensures step { saturated_count self.new ≡ saturated_count (step width trim self.old mark.width (ends_before mark) mark.blank) }
         ensures fits { self.new.line + self.new.blanks + self.new.word ≤ width }
     {
         self.end_piece(mark.ends_piece());
@@ -95,7 +95,7 @@ impl Counter {
     }
 
     fn end_line(&mut self)
-        ensures { self.new ≡ cut_count (end_line self.old) }
+        ensures { self.new ≡ saturated_count (end_line self.old) }
     {
         *self = Counter {
             lines: self.lines.saturating_add(1),
@@ -105,7 +105,7 @@ impl Counter {
 
     fn read_blank(&mut self, size: usize, width: usize, trim: bool)
         requires fits { self.old.line + self.old.blanks + self.old.word + size < 2 ^ 64 }
-        ensures { cut_count self.new ≡ cut_count (on_blank width trim self.old size) }
+        ensures { saturated_count self.new ≡ saturated_count (on_blank width trim self.old size) }
     {
         if trim && !self.begun {
             self.some = true;
@@ -119,7 +119,7 @@ impl Counter {
 
     fn read_letter(&mut self, size: usize, width: usize)
         requires fits { self.old.line + self.old.blanks + self.old.word + size < 2 ^ 64 }
-        ensures { cut_count self.new ≡ cut_count (add_letter (hard width (soft width self.old size) size) size) }
+        ensures { saturated_count self.new ≡ saturated_count (add_letter (hard width (soft width self.old size) size) size) }
     {
         if self.begun && self.line + self.blanks + self.word + size > width {
             self.take_word_along();
@@ -134,7 +134,7 @@ impl Counter {
 
     /// Ends the line before the piece that is under way.
     fn take_word_along(&mut self)
-        ensures { self.new ≡ cut_count (take_word_along self.old) }
+        ensures { self.new ≡ saturated_count (take_word_along self.old) }
     {
         self.lines = self.lines.saturating_add(1);
         self.some = true;

@@ -6,7 +6,7 @@ ghost use Rattle.tui_cells.specs.Buffer.{Screen};
 ghost use Rattle.tui_cells.specs.Layers.{Painted, KeptOutside};
 ghost use Rattle.tui_cells.specs.Rect.{covers};
 ghost use Rattle.tui_text.specs.Grapheme.{glyph_of};
-ghost use Rattle.tui_text.specs.Part.{is_printable};
+ghost use Rattle.tui_clusters.specs.Printable.{is_printable};
 ghost use Rattle.tui_para.specs.Strokes.{byte_glyph, run_layers};
 
 use tui_cells::{Buffer, Position, Rect, Style};

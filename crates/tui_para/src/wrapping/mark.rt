@@ -11,21 +11,21 @@ use tui_text::{StyledGrapheme, cell_width, printable_byte};
 pub(crate) struct Mark {
     pub width: u16,
     pub blank: bool,
-    /// Its word is cut directly before it.
-    pub cut: bool,
+    /// Its word is split directly before it.
+    pub split: bool,
 }
 
 impl Mark {
-    /// That of a grapheme before which no word is cut.
+    /// That of a grapheme before which no word is split.
     #[inline(always)]
     #[tactic(auto, unfolding(tui_text::specs::Grapheme::is_blank))]
-    pub(crate) fn uncut(grapheme: &StyledGrapheme<'_>) -> Mark
+    pub(crate) fn unsplit(grapheme: &StyledGrapheme<'_>) -> Mark
         ensures { result ≡ mark_of (glyph_of grapheme.now, false) }
     {
         Mark {
             width: cell_width(grapheme.symbol),
             blank: grapheme.is_whitespace(),
-            cut: false,
+            split: false,
         }
     }
 
@@ -38,7 +38,7 @@ impl Mark {
         Some(Mark {
             width: 1,
             blank: byte == b' ',
-            cut: false,
+            split: false,
         })
     }
 
@@ -47,6 +47,6 @@ impl Mark {
     pub(crate) fn ends_piece(self) -> bool
         ensures { result ≡ ends_before self }
     {
-        self.cut || self.blank
+        self.split || self.blank
     }
 }

@@ -9,7 +9,7 @@ ghost use Rattle.tui_para.specs.Given.{Ready, SourceReads};
 ghost use Rattle.tui_para.specs.Hyphenation.{at_start, behind_all, marked_from};
 ghost use Rattle.tui_para.specs.declared.wrapping.hyphenation.Hyphenation.{Hyphenation};
 ghost use Rattle.tui_para.specs.declared.wrapping.hyphenation.Hyphenation.TheVariants.{Off};
-ghost use Rattle.tui_para.specs.Mark.{AreMarks, is_cut, mark_of};
+ghost use Rattle.tui_para.specs.Mark.{AreMarks, is_split, mark_of};
 
 use crate::wrapping::hyphenation::Hyphenation;
 use crate::wrapping::mark::Mark;
@@ -25,15 +25,15 @@ pub(crate) struct Marked<'a> {
     /// What stands before the grapheme that comes next.
     hyphenation: Hyphenation,
     ghost together: { length graphemes.items ≡ length marks.items },
-    ghost marked: { marks.items ≡ map mark_of (zip (map glyph_of graphemes.items) (map is_cut marks.items)) },
+    ghost marked: { marks.items ≡ map mark_of (zip (map glyph_of graphemes.items) (map is_split marks.items)) },
 }
 
 impl<'a> Marked<'a> {
-    ghost use Rattle.tui_para.specs.Marked.{HasKept, HasPut, StandBehind, cuts_of, glyphs_of};
+    ghost use Rattle.tui_para.specs.Marked.{HasKept, HasPut, StandBehind, splits_of, glyphs_of};
 
     /// No grapheme yet, at the beginning of a text line.
     pub(crate) fn new(alloc: Global, hyphens: bool) -> Marked<'a>
-        ensures none { cuts_of result ≡ [] }
+        ensures none { splits_of result ≡ [] }
         ensures start { result.hyphenation ≡ at_start hyphens }
     {
         Marked {
@@ -44,13 +44,13 @@ impl<'a> Marked<'a> {
     }
 
     pub(crate) fn len(&self) -> usize
-        ensures { result ≡ length (cuts_of self.now) }
+        ensures { result ≡ length (splits_of self.now) }
     {
         self.marks.len()
     }
 
     pub(crate) fn marks(&self) -> &[Mark]
-        ensures { result.now ≡ map mark_of (cuts_of self.now) }
+        ensures { result.now ≡ map mark_of (splits_of self.now) }
     {
         &self.marks
     }
@@ -58,7 +58,7 @@ impl<'a> Marked<'a> {
     /// The graphemes between two places.
     pub(crate) fn part(&self, start: usize, end: usize) -> &[StyledGrapheme<'a>]
         requires order { start ≤ end }
-        requires within { end ≤ length (cuts_of self.now) }
+        requires within { end ≤ length (splits_of self.now) }
         ensures { map glyph_of result.now ≡ between start end (glyphs_of self.now) }
     {
         &self.graphemes[start..end]
@@ -66,7 +66,7 @@ impl<'a> Marked<'a> {
 
     /// Leaves out all, at the beginning of a text line.
     pub(crate) fn clear(&mut self, hyphens: bool)
-        ensures none { cuts_of self.new ≡ [] }
+        ensures none { splits_of self.new ≡ [] }
         ensures start { self.new.hyphenation ≡ at_start hyphens }
     {
         self.graphemes.clear();
@@ -75,9 +75,9 @@ impl<'a> Marked<'a> {
     }
 
     fn push(&mut self, grapheme: StyledGrapheme<'a>, mark: Mark) -> Mem<()>
-        requires { mark ≡ mark_of (glyph_of grapheme, mark.cut) }
-        ensures ok { OnOk result (cuts_of self.new ≡ cuts_of self.old ++ (glyph_of grapheme.entry, mark.cut) ∷ []) }
-        ensures err { OnErr result (cuts_of self.new ≡ cuts_of self.old) }
+        requires { mark ≡ mark_of (glyph_of grapheme, mark.split) }
+        ensures ok { OnOk result (splits_of self.new ≡ splits_of self.old ++ (glyph_of grapheme.entry, mark.split) ∷ []) }
+        ensures err { OnErr result (splits_of self.new ≡ splits_of self.old) }
         ensures same { self.new.hyphenation ≡ self.old.hyphenation }
     {
         self.marks.push(mark)?;
@@ -108,7 +108,7 @@ impl<'a> Marked<'a> {
         ensures ok { OnOk result (HasPut width (grapheme.entry ∷ []) self.old self.new) }
         ensures err { OnErr result (HasPut width [] self.old self.new) }
     {
-        let mark = Mark::uncut(&grapheme);
+        let mark = Mark::unsplit(&grapheme);
         if mark.width <= width {
             self.push(grapheme, mark)?;
         }
@@ -117,17 +117,17 @@ impl<'a> Marked<'a> {
 
     /// Leaves out the first `count` graphemes.
     pub(crate) fn drop_front(&mut self, count: usize)
-        requires { count ≤ length (cuts_of self.old) }
-        ensures dropped { cuts_of self.new ≡ drop count (cuts_of self.old) }
+        requires { count ≤ length (splits_of self.old) }
+        ensures dropped { splits_of self.new ≡ drop count (splits_of self.old) }
         ensures same { self.new.hyphenation ≡ self.old.hyphenation }
     {
         drop_front(&mut self.graphemes, count);
         drop_front(&mut self.marks, count);
     }
 
-    /// Takes room for so many more at once. At NoMemory the graphemes are as before.
+    /// Takes room for `count` graphemes more at once. At NoMemory the graphemes are as before.
     fn reserve(&mut self, count: usize) -> Mem<()>
-        ensures cuts { cuts_of self.new ≡ cuts_of self.old }
+        ensures splits { splits_of self.new ≡ splits_of self.old }
         ensures same { self.new.hyphenation ≡ self.old.hyphenation }
     {
         self.graphemes.reserve(count)?;
@@ -152,11 +152,11 @@ impl<'a> Marked<'a> {
         let start = self.len();
         self.reserve(count)?;
         let left = self.put_all(source, count, width)?;
-        self.cut_from(start);
+        self.mark_splits_from(start);
         Ok(left)
     }
 
-    /// The same, and marks no cut. Cuts are told afterwards, so that reading costs nothing for them where no word is cut.
+    /// The same, and marks no split. Splits are told afterwards, so that reading costs nothing for them where no word is split.
     fn put_all<I: Iterator<Item = StyledGrapheme<'a>>>(
         &mut self,
         mut source: I,
@@ -178,22 +178,22 @@ impl<'a> Marked<'a> {
         Ok(Some(source))
     }
 
-    /// Marks where words are cut among the graphemes from a place on, which were put there without a cut.
-    fn cut_from(&mut self, start: usize)
-        requires { start ≤ length (cuts_of self.old) }
-        ensures cut { (front : List (Glyph × Bool)) (glyphs : List Glyph) → length front ≡ start → cuts_of self.old ≡ front ++ marked_from Off glyphs
-            → (cuts_of self.new ≡ front ++ marked_from self.old.hyphenation glyphs) × (self.new.hyphenation ≡ behind_all self.old.hyphenation glyphs) }
+    /// Marks where words are split among the graphemes from a place on, which were put there without a split.
+    fn mark_splits_from(&mut self, start: usize)
+        requires { start ≤ length (splits_of self.old) }
+        ensures split { (front : List (Glyph × Bool)) (glyphs : List Glyph) → length front ≡ start → splits_of self.old ≡ front ++ marked_from Off glyphs
+            → (splits_of self.new ≡ front ++ marked_from self.old.hyphenation glyphs) × (self.new.hyphenation ≡ behind_all self.old.hyphenation glyphs) }
     {
         let before = self.hyphenation;
         if let Hyphenation::Off = before {
             return;
         }
-        self.hyphenation = cut_marks(&self.graphemes, &mut self.marks, start, before);
+        self.hyphenation = mark_splits(&self.graphemes, &mut self.marks, start, before);
     }
 }
 
-/// Marks the graphemes from a place on by where their words are cut. Answers what stands before the next grapheme.
-fn cut_marks(
+/// Marks the graphemes from a place on by where their words are split. Answers what stands before the next grapheme.
+fn mark_splits(
     graphemes: &[StyledGrapheme<'_>],
     marks: &mut Vec<Mark>,
     start: usize,
@@ -206,8 +206,8 @@ fn cut_marks(
 {
     let mut last = before;
     for i in start..graphemes.len() {
-        let behind = last.behind(&graphemes[i], marks[i].blank);
-        marks[i].cut = last.cuts_before(behind);
+        let behind = last.behind(&graphemes[i], marks[i]);
+        marks[i].split = last.splits_before(behind);
         last = behind;
     }
     last

@@ -1,10 +1,10 @@
-//! One text line, cut into lines.
+//! One text line, wrapped into lines.
 
 ghost use Rattle.std.specs.Prelude.{◌≡◌, ◌≤◌, ◌<◌, List, [], None, Some, true, false, length, drop, map, All, IfOk, IfSome, IsSome, OnOk};
 ghost use Rattle.tui_text.specs.Grapheme.{Glyph, glyph_of, glyph_width};
 ghost use Rattle.tui_para.specs.Given.{IsGlyph, MayGive, Ready, SourceGives, source_left};
 ghost use Rattle.tui_para.specs.Hyphenation.{at_start};
-ghost use Rattle.tui_para.specs.Marked.{cuts_of, glyphs_of, part_of};
+ghost use Rattle.tui_para.specs.Marked.{splits_of, glyphs_of, part_of};
 
 use crate::ends::read_line;
 use crate::wrap::Wrap;
@@ -36,8 +36,8 @@ pub(crate) struct TextLine<'a, I> {
     place: usize,
     /// No part of it was lent.
     is_new: bool,
-    ghost within: { place ≤ length (cuts_of line) },
-    ghost fit: { All (λ g. glyph_width g.0 ≤ width) (cuts_of line) },
+    ghost within: { place ≤ length (splits_of line) },
+    ghost fit: { All (λ g. glyph_width g.0 ≤ width) (splits_of line) },
 }
 
 impl<'a, I> TextLine<'a, I> {
@@ -46,7 +46,7 @@ impl<'a, I> TextLine<'a, I> {
     /// No text line yet.
     pub(crate) fn new(alloc: Global, width: u16, wrap: Wrap) -> TextLine<'a, I>
         ensures source { result.source ≡ None }
-        ensures line { cuts_of result.line ≡ [] }
+        ensures line { splits_of result.line ≡ [] }
         ensures old { result.is_new ≡ false }
         ensures width { result.width ≡ width }
         ensures wrap { result.wrap ≡ wrap }
@@ -71,7 +71,7 @@ impl<'a, I> TextLine<'a, I> {
     /// The next line, where it is this one whatever graphemes are still to be read.
     fn known_line(&self) -> Option<Place>
         ensures some { IfSome result (IsNextPlace self.now) }
-        ensures none { result ≡ None → self.now.source ≡ None → (self.now.is_new ≡ false) × (drop self.now.place (cuts_of self.now.line) ≡ []) }
+        ensures none { result ≡ None → self.now.source ≡ None → (self.now.is_new ≡ false) × (drop self.now.place (splits_of self.now.line) ≡ []) }
     {
         if self.place >= self.line.len() {
             return self.empty_line();
@@ -110,7 +110,7 @@ impl<'a, I> TextLine<'a, I> {
 
     /// Goes on behind a line.
     fn pass(&mut self, line: Place) -> Part
-        requires { line.next ≤ length (cuts_of self.old.line) }
+        requires { line.next ≤ length (splits_of self.old.line) }
         ensures source { self.new.source ≡ self.old.source }
         ensures line { self.new.line ≡ self.old.line }
         ensures width { self.new.width ≡ self.old.width }
@@ -131,7 +131,7 @@ impl<'a, I> TextLine<'a, I> {
     /// The graphemes of a part.
     pub(crate) fn part(&self, part: Part) -> &[StyledGrapheme<'a>]
         requires order { part.start ≤ part.end }
-        requires within { part.end ≤ length (cuts_of self.now.line) }
+        requires within { part.end ≤ length (splits_of self.now.line) }
         ensures { map glyph_of result.now ≡ part_of (glyphs_of self.now.line) part }
     {
         self.line.part(part.start, part.end)
@@ -155,7 +155,7 @@ impl<'a, I: Iterator<Item = StyledGrapheme<'a>>> TextLine<'a, I> {
     /// Begins another text line.
     pub(crate) fn start(&mut self, source: I)
         ensures source { self.new.source ≡ Some source }
-        ensures line { cuts_of self.new.line ≡ [] }
+        ensures line { splits_of self.new.line ≡ [] }
         ensures start { self.new.line.hyphenation ≡ at_start self.new.wrap.hyphens }
         ensures is_new { self.new.is_new ≡ true }
         ensures width { self.new.width ≡ self.old.width }

@@ -5,9 +5,10 @@ use Rattle.tui_frames.specs.Block.{BlockData, block_of as new_block}
 use Rattle.tui_schema.specs.declared.field.Field.TheVariants as fields
 use Rattle.tui_schema.specs.Kinds.Block.{block_of}
 use Rattle.tui_json.specs.Refusals.{◌>>=◌}
-use Rattle.tui_schema.specs.Refusals.{Refusal, optional}
+use Rattle.tui_schema.specs.Refusals.{optional}
+use Rattle.tui_schema.specs.declared.bad_field.BadField.{BadField}
 
-unfoldable pub block_in : Option ℕ → Data → Result BlockData Refusal
+unfoldable pub block_in : Option ℕ → Data → Result BlockData BadField
 block_in i d = do
   block ← optional block_of i fields.Block d
   Ok (unwrap_or block (new_block 0))

@@ -17,10 +17,11 @@ use Rattle.tui_json.specs.Number.{u16_of, u64_of}
 use Rattle.tui_schema.specs.Kinds.Style.{style_of}
 use Rattle.tui_schema.specs.Kinds.Symbol.{symbol_of}
 use Rattle.tui_json.specs.Refusals.{◌>>=◌}
-use Rattle.tui_schema.specs.Refusals.{Refusal, required, optional}
+use Rattle.tui_schema.specs.Refusals.{required, optional}
+use Rattle.tui_schema.specs.declared.bad_field.BadField.{BadField}
 
 -- a chart with its groups
-unfoldable pub chart_with_groups : Option ℕ → Data → Result BarChartData Refusal
+unfoldable pub chart_with_groups : Option ℕ → Data → Result BarChartData BadField
 chart_with_groups i d = do
   block ← optional block_of i fields.Block d
   style ← optional style_of i fields.Style d
@@ -29,7 +30,7 @@ chart_with_groups i d = do
   Ok (record (new_chart Vertical (with_bars groups)) { block = block; style = unwrap_or style no_style; max = max })
 
 -- with the room of its bars
-unfoldable pub spaced_chart : BarChartData → Option ℕ → Data → Result BarChartData Refusal
+unfoldable pub spaced_chart : BarChartData → Option ℕ → Data → Result BarChartData BadField
 spaced_chart c i d = do
   width ← optional u16_of i fields.BarWidth d
   gap ← optional u16_of i fields.BarGap d
@@ -43,7 +44,7 @@ spaced_chart c i d = do
   })
 
 -- with its styles and its direction
-unfoldable pub dressed_chart : BarChartData → Option ℕ → Data → Result BarChartData Refusal
+unfoldable pub dressed_chart : BarChartData → Option ℕ → Data → Result BarChartData BadField
 dressed_chart c i d = do
   bar_style ← optional style_of i fields.BarStyle d
   value_style ← optional style_of i fields.ValueStyle d
@@ -57,14 +58,14 @@ dressed_chart c i d = do
   })
 
 -- all fields of a bar chart
-unfoldable pub shown_chart : Option ℕ → Data → Result BarChartData Refusal
+unfoldable pub shown_chart : Option ℕ → Data → Result BarChartData BadField
 shown_chart i d = do
   with_groups ← chart_with_groups i d
   spaced ← spaced_chart with_groups i d
   dressed_chart spaced i d
 
 -- a sparkline with its bars
-unfoldable pub sparkline_with_bars : Option ℕ → Data → Result SparklineData Refusal
+unfoldable pub sparkline_with_bars : Option ℕ → Data → Result SparklineData BadField
 sparkline_with_bars i d = do
   block ← optional block_of i fields.Block d
   style ← optional style_of i fields.Style d
@@ -73,7 +74,7 @@ sparkline_with_bars i d = do
   Ok (record empty_sparkline { block = block; style = unwrap_or style no_style; bars = bars; max = max })
 
 -- with its symbols and its direction
-unfoldable pub drawn_sparkline : SparklineData → Option ℕ → Data → Result SparklineData Refusal
+unfoldable pub drawn_sparkline : SparklineData → Option ℕ → Data → Result SparklineData BadField
 drawn_sparkline s i d = do
   absent_style ← optional style_of i fields.AbsentValueStyle d
   absent_symbol ← optional symbol_of i fields.AbsentValueSymbol d
@@ -87,7 +88,7 @@ drawn_sparkline s i d = do
   })
 
 -- all fields of a sparkline
-unfoldable pub shown_sparkline : Option ℕ → Data → Result SparklineData Refusal
+unfoldable pub shown_sparkline : Option ℕ → Data → Result SparklineData BadField
 shown_sparkline i d = do
   with_bars ← sparkline_with_bars i d
   drawn_sparkline with_bars i d

@@ -7,9 +7,10 @@ use Rattle.tui_schema.specs.declared.field.Field.TheVariants as fields
 use Rattle.tui_schema.specs.Kinds.Style.{style_of}
 use Rattle.tui_schema.specs.Kinds.Symbol.{symbol_of}
 use Rattle.tui_json.specs.Refusals.{◌>>=◌}
-use Rattle.tui_schema.specs.Refusals.{Refusal, required, optional}
+use Rattle.tui_schema.specs.Refusals.{required, optional}
+use Rattle.tui_schema.specs.declared.bad_field.BadField.{BadField}
 
-unfoldable pub fill_of : Option ℕ → Data → Result FillData Refusal
+unfoldable pub fill_of : Option ℕ → Data → Result FillData BadField
 fill_of i d = do
   symbol ← required symbol_of i fields.Symbol d
   style ← optional style_of i fields.Style d

@@ -17,28 +17,29 @@ use Rattle.tui_schema.specs.Kinds.Span.{span_of}
 use Rattle.tui_schema.specs.Kinds.Style.{style_of}
 use Rattle.tui_schema.specs.Kinds.Symbol.{symbol_of}
 use Rattle.tui_json.specs.Refusals.{◌>>=◌}
-use Rattle.tui_schema.specs.Refusals.{Refusal, optional}
+use Rattle.tui_schema.specs.Refusals.{optional}
+use Rattle.tui_schema.specs.declared.bad_field.BadField.{BadField}
 
 -- a share: not above 1, of something
 abbrev pub is_share : Fraction → Bool
 is_share f = nat_lt 0 f.den && nat_le f.num f.den
 
 -- a value where a test holds, else a refusal of a field
-abbrev pub if_holds : {A : Type 0} → Bool → Option ℕ → Field → A → Result A Refusal
+abbrev pub if_holds : {A : Type 0} → Bool → Option ℕ → Field → A → Result A BadField
 if_holds test i f x = if test then Ok x else Err (record { item = i; field = f })
 
 -- a gauge with a share, if one is given
-abbrev pub gauge_with_ratio : Option ℕ → GaugeData → Option Fraction → Result GaugeData Refusal
+abbrev pub gauge_with_ratio : Option ℕ → GaugeData → Option Fraction → Result GaugeData BadField
 gauge_with_ratio i g None = Ok g
 gauge_with_ratio i g (Some f) = if_holds (is_share f) i fields.Ratio (record g { num = f.num; den = f.den })
 
 -- a gauge with a percentage, if one is given
-abbrev pub gauge_with_percent : Option ℕ → GaugeData → Option ℕ → Result GaugeData Refusal
+abbrev pub gauge_with_percent : Option ℕ → GaugeData → Option ℕ → Result GaugeData BadField
 gauge_with_percent i g None = Ok g
 gauge_with_percent i g (Some percent) = if_holds (nat_le percent 100) i fields.Percent (record g { num = percent; den = 100 })
 
 -- `percent` comes before `ratio`, but both are tested
-unfoldable pub shared_gauge : Option ℕ → Data → Result GaugeData Refusal
+unfoldable pub shared_gauge : Option ℕ → Data → Result GaugeData BadField
 shared_gauge i d = do
   ratio ← optional fraction_of i fields.Ratio d
   shared ← gauge_with_ratio i empty_gauge ratio
@@ -46,7 +47,7 @@ shared_gauge i d = do
   gauge_with_percent i shared percent
 
 -- with its block and its style
-unfoldable pub framed_gauge : Option ℕ → Data → Result GaugeData Refusal
+unfoldable pub framed_gauge : Option ℕ → Data → Result GaugeData BadField
 framed_gauge i d = do
   block ← optional block_of i fields.Block d
   style ← optional style_of i fields.Style d
@@ -54,7 +55,7 @@ framed_gauge i d = do
   Ok (record shared { block = option_or block shared.block; style = unwrap_or style no_style })
 
 -- with its label and what it is filled with
-unfoldable pub filled_gauge : GaugeData → Option ℕ → Data → Result GaugeData Refusal
+unfoldable pub filled_gauge : GaugeData → Option ℕ → Data → Result GaugeData BadField
 filled_gauge g i d = do
   label ← optional span_of i fields.Label d
   gauge_style ← optional style_of i fields.GaugeStyle d
@@ -66,24 +67,24 @@ filled_gauge g i d = do
   })
 
 -- all fields of a gauge
-unfoldable pub shown_gauge : Option ℕ → Data → Result GaugeData Refusal
+unfoldable pub shown_gauge : Option ℕ → Data → Result GaugeData BadField
 shown_gauge i d = do
   framed ← framed_gauge i d
   filled_gauge framed i d
 
 -- a line gauge with a share
-abbrev pub line_with_ratio : Option ℕ → LineGaugeData → Option Fraction → Result LineGaugeData Refusal
+abbrev pub line_with_ratio : Option ℕ → LineGaugeData → Option Fraction → Result LineGaugeData BadField
 line_with_ratio i g None = Ok g
 line_with_ratio i g (Some f) = if_holds (is_share f) i fields.Ratio (record g { num = f.num; den = f.den })
 
 -- a line gauge with its share
-unfoldable pub shared_line : Option ℕ → Data → Result LineGaugeData Refusal
+unfoldable pub shared_line : Option ℕ → Data → Result LineGaugeData BadField
 shared_line i d = do
   ratio ← optional fraction_of i fields.Ratio d
   line_with_ratio i empty_line_gauge ratio
 
 -- with its symbols and their styles
-unfoldable pub drawn_line : LineGaugeData → Option ℕ → Data → Result LineGaugeData Refusal
+unfoldable pub drawn_line : LineGaugeData → Option ℕ → Data → Result LineGaugeData BadField
 drawn_line g i d = do
   filled ← optional symbol_of i fields.FilledSymbol d
   unfilled ← optional symbol_of i fields.UnfilledSymbol d
@@ -97,7 +98,7 @@ drawn_line g i d = do
   })
 
 -- with its block, its style and its label
-unfoldable pub framed_line : Option ℕ → Data → Result LineGaugeData Refusal
+unfoldable pub framed_line : Option ℕ → Data → Result LineGaugeData BadField
 framed_line i d = do
   block ← optional block_of i fields.Block d
   style ← optional style_of i fields.Style d
@@ -110,7 +111,7 @@ framed_line i d = do
   })
 
 -- all fields of a line gauge
-unfoldable pub shown_line_gauge : Option ℕ → Data → Result LineGaugeData Refusal
+unfoldable pub shown_line_gauge : Option ℕ → Data → Result LineGaugeData BadField
 shown_line_gauge i d = do
   framed ← framed_line i d
   drawn_line framed i d

@@ -20,9 +20,10 @@ use Rattle.tui_json.specs.Number.{u64_of}
 use Rattle.tui_schema.specs.Kinds.Style.{style_of}
 use Rattle.tui_schema.specs.Kinds.Symbol.{symbol_of}
 use Rattle.tui_json.specs.Refusals.{◌>>=◌}
-use Rattle.tui_schema.specs.Refusals.{Refusal, required, optional}
+use Rattle.tui_schema.specs.Refusals.{required, optional}
+use Rattle.tui_schema.specs.declared.bad_field.BadField.{BadField}
 
-unfoldable pub list_with_items : Option ℕ → Data → Result ListData Refusal
+unfoldable pub list_with_items : Option ℕ → Data → Result ListData BadField
 list_with_items i d = do
   block ← optional block_of i fields.Block d
   style ← optional style_of i fields.Style d
@@ -30,7 +31,7 @@ list_with_items i d = do
   Ok (record (new_list items) { block = block; style = unwrap_or style no_style })
 
 -- with what stands out in the selected item
-unfoldable pub marked_list : ListData → Option ℕ → Data → Result ListData Refusal
+unfoldable pub marked_list : ListData → Option ℕ → Data → Result ListData BadField
 marked_list l i d = do
   symbol ← optional symbol_of i fields.HighlightSymbol d
   style ← optional style_of i fields.HighlightStyle d
@@ -44,20 +45,20 @@ marked_list l i d = do
   })
 
 -- with a direction and a padding
-unfoldable pub turned_list : ListData → Option ℕ → Data → Result ListData Refusal
+unfoldable pub turned_list : ListData → Option ℕ → Data → Result ListData BadField
 turned_list l i d = do
   direction ← optional (named_of list_directions) i fields.Direction d
   padding ← optional u64_of i fields.ScrollPadding d
   Ok (record l { direction = unwrap_or direction TopToBottom; padding = unwrap_or padding 0 })
 
-unfoldable pub list_state_of : Option ℕ → Data → Result ListState Refusal
+unfoldable pub list_state_of : Option ℕ → Data → Result ListState BadField
 list_state_of i d = do
   offset ← optional u64_of i fields.Offset d
   selected ← optional u64_of i fields.Selected d
   Ok (record { offset = unwrap_or offset 0; selected = selected })
 
 -- a list, and the state that it begins with
-unfoldable pub shown_list : Option ℕ → Data → Result (ListData × ListState) Refusal
+unfoldable pub shown_list : Option ℕ → Data → Result (ListData × ListState) BadField
 shown_list i d = do
   with_items ← list_with_items i d
   marked ← marked_list with_items i d

@@ -7,9 +7,10 @@ use Rattle.tui_schema.specs.declared.field.Field.TheVariants as fields
 use Rattle.tui_json.specs.Named.{named_of}
 use Rattle.tui_schema.specs.Kinds.Names.{sizes}
 use Rattle.tui_json.specs.Refusals.{◌>>=◌}
-use Rattle.tui_schema.specs.Refusals.{Refusal, optional}
+use Rattle.tui_schema.specs.Refusals.{optional}
+use Rattle.tui_schema.specs.declared.bad_field.BadField.{BadField}
 
-unfoldable pub logo_of : Option ℕ → Data → Result Size Refusal
+unfoldable pub logo_of : Option ℕ → Data → Result Size BadField
 logo_of i d = do
   size ← optional (named_of sizes) i fields.Size d
   Ok (unwrap_or size Tiny)

@@ -14,14 +14,15 @@ use Rattle.tui_schema.specs.Kinds.Event.{event_of, with_events}
 use Rattle.tui_json.specs.Members.{list_of}
 use Rattle.tui_schema.specs.Kinds.Style.{style_of}
 use Rattle.tui_json.specs.Refusals.{◌>>=◌}
-use Rattle.tui_schema.specs.Refusals.{Refusal, required, optional}
+use Rattle.tui_schema.specs.Refusals.{required, optional}
+use Rattle.tui_schema.specs.declared.bad_field.BadField.{BadField}
 
 -- the dates that have a style of their own, and the month
 abbrev pub calendar_data : Monthly CalendarEventStore → DatedStyles × MonthlyData
 calendar_data m = (dated_styles m.events, monthly_data m)
 
 -- a month in weeks alone, with its block and the styles of its events
-unfoldable pub month_with_events : Option ℕ → Data → Result (DatedStyles × MonthlyData) Refusal
+unfoldable pub month_with_events : Option ℕ → Data → Result (DatedStyles × MonthlyData) BadField
 month_with_events i d = do
   block ← optional block_of i fields.Block d
   date ← required date_of i fields.Date d
@@ -29,7 +30,7 @@ month_with_events i d = do
   Ok (with_events [] (unwrap_or events []), record (weeks_alone date) { block = block })
 
 -- with its headers and the days around it, where they are shown, and with the style of its days
-unfoldable pub dressed_month : DatedStyles × MonthlyData → Option ℕ → Data → Result (DatedStyles × MonthlyData) Refusal
+unfoldable pub dressed_month : DatedStyles × MonthlyData → Option ℕ → Data → Result (DatedStyles × MonthlyData) BadField
 dressed_month m i d = do
   surrounding ← optional style_of i fields.ShowSurrounding d
   month_header ← optional style_of i fields.ShowMonthHeader d
@@ -46,7 +47,7 @@ dressed_month m i d = do
   )
 
 -- all fields of a month, with the styles of its dates
-unfoldable pub shown_monthly : Option ℕ → Data → Result (DatedStyles × MonthlyData) Refusal
+unfoldable pub shown_monthly : Option ℕ → Data → Result (DatedStyles × MonthlyData) BadField
 shown_monthly i d = do
   month ← month_with_events i d
   dressed_month month i d

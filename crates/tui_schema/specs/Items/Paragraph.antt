@@ -17,7 +17,8 @@ use Rattle.tui_schema.specs.Kinds.Style.{style_of}
 use Rattle.tui_schema.specs.Kinds.Text.{text_of}
 use Rattle.tui_schema.specs.Kinds.Wrap.{wrap_of}
 use Rattle.tui_json.specs.Refusals.{◌>>=◌}
-use Rattle.tui_schema.specs.Refusals.{Refusal, required, optional}
+use Rattle.tui_schema.specs.Refusals.{required, optional}
+use Rattle.tui_schema.specs.declared.bad_field.BadField.{BadField}
 
 -- a paragraph with these fields: what is not given is as in a new paragraph of the text; `scroll` is (y, x)
 abbrev pub paragraph_with : TextData → Option Style → Option Wrap → Option (ℕ × ℕ) → Option Alignment → ParagraphData
@@ -34,7 +35,7 @@ paragraph_with text style wrap scroll alignment =
       alignment = unwrap_or alignment new.alignment;
     }
 
-unfoldable pub paragraph_of : Option ℕ → Data → Result ParagraphData Refusal
+unfoldable pub paragraph_of : Option ℕ → Data → Result ParagraphData BadField
 paragraph_of i d = do
   block ← optional block_of i fields.Block d
   style ← optional style_of i fields.Style d

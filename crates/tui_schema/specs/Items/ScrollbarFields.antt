@@ -14,10 +14,11 @@ use Rattle.tui_json.specs.Number.{u64_of}
 use Rattle.tui_schema.specs.Kinds.Style.{style_of}
 use Rattle.tui_schema.specs.Kinds.Symbol.{symbol_of}
 use Rattle.tui_json.specs.Refusals.{◌>>=◌}
-use Rattle.tui_schema.specs.Refusals.{Refusal, given, optional}
+use Rattle.tui_schema.specs.Refusals.{given, optional}
+use Rattle.tui_schema.specs.declared.bad_field.BadField.{BadField}
 
 -- with its symbols; null for one that may be left out leaves it out
-unfoldable pub signed_scrollbar : ScrollbarData → Option ℕ → Data → Result ScrollbarData Refusal
+unfoldable pub signed_scrollbar : ScrollbarData → Option ℕ → Data → Result ScrollbarData BadField
 signed_scrollbar s i d = do
   thumb ← optional symbol_of i fields.ThumbSymbol d
   track ← given (or_null symbol_of) i fields.TrackSymbol d
@@ -35,7 +36,7 @@ abbrev pub in_style : Style → ScrollbarData → ScrollbarData
 in_style style s = record s { thumb_style = style; track_style = style; begin_style = style; end_style = style }
 
 -- with the styles of single parts
-unfoldable pub dressed_scrollbar : ScrollbarData → Option ℕ → Data → Result ScrollbarData Refusal
+unfoldable pub dressed_scrollbar : ScrollbarData → Option ℕ → Data → Result ScrollbarData BadField
 dressed_scrollbar s i d = do
   thumb ← optional style_of i fields.ThumbStyle d
   track ← optional style_of i fields.TrackStyle d
@@ -48,7 +49,7 @@ dressed_scrollbar s i d = do
     end_style = unwrap_or end s.end_style;
   })
 
-unfoldable pub scrollbar_state_of : Option ℕ → Data → Result ScrollbarState Refusal
+unfoldable pub scrollbar_state_of : Option ℕ → Data → Result ScrollbarState BadField
 scrollbar_state_of i d = do
   content ← optional u64_of i fields.ContentLength d
   position ← optional u64_of i fields.Position d
@@ -60,7 +61,7 @@ scrollbar_state_of i d = do
   })
 
 -- a scrollbar, and what it shows
-unfoldable pub shown_scrollbar : Option ℕ → Data → Result (ScrollbarData × ScrollbarState) Refusal
+unfoldable pub shown_scrollbar : Option ℕ → Data → Result (ScrollbarData × ScrollbarState) BadField
 shown_scrollbar i d = do
   style ← optional style_of i fields.Style d
   orientation ← optional (named_of orientations) i fields.Orientation d

@@ -22,29 +22,30 @@ use Rattle.tui_schema.specs.Kinds.Style.{style_of}
 use Rattle.tui_schema.specs.Kinds.Symbol.{symbol_of}
 use Rattle.tui_schema.specs.Kinds.Table.{row_of}
 use Rattle.tui_json.specs.Refusals.{◌>>=◌}
-use Rattle.tui_schema.specs.Refusals.{Refusal, required, optional}
+use Rattle.tui_schema.specs.Refusals.{required, optional}
+use Rattle.tui_schema.specs.declared.bad_field.BadField.{BadField}
 
 -- a table, unless a place has a percentage above 100
-abbrev pub unless_above : Option ℕ → Option ℕ → TableData → Result TableData Refusal
+abbrev pub unless_above : Option ℕ → Option ℕ → TableData → Result TableData BadField
 unless_above i (Some place) t = Err (record { item = i; field = fields.Widths })
 unless_above i None t = Ok t
 
 -- rows in columns of these widths
-abbrev pub in_widths : Option ℕ → List RowData → List Constraint → Result TableData Refusal
+abbrev pub in_widths : Option ℕ → List RowData → List Constraint → Result TableData BadField
 in_widths i rows widths = unless_above i (first_above widths) (new_table rows widths)
 
 -- with a header and a footer
-abbrev pub with_edges : Option ℕ → List RowData → Option RowData → Option RowData → List Constraint → Result TableData Refusal
+abbrev pub with_edges : Option ℕ → List RowData → Option RowData → Option RowData → List Constraint → Result TableData BadField
 with_edges i rows header footer widths = do
   table ← in_widths i rows widths
   Ok (record table { header = header; footer = footer })
 
-unfoldable pub widths_of : Option ℕ → Data → Result (List Constraint) Refusal
+unfoldable pub widths_of : Option ℕ → Data → Result (List Constraint) BadField
 widths_of i d = do
   widths ← optional (list_of constraint_of) i fields.Widths d
   Ok (unwrap_or widths [])
 
-unfoldable pub table_with_rows : Option ℕ → Data → Result TableData Refusal
+unfoldable pub table_with_rows : Option ℕ → Data → Result TableData BadField
 table_with_rows i d = do
   rows ← required (list_of row_of) i fields.Rows d
   header ← optional row_of i fields.Header d
@@ -53,7 +54,7 @@ table_with_rows i d = do
   with_edges i rows header footer widths
 
 -- with a block and a style
-unfoldable pub framed_table : Option ℕ → Data → Result TableData Refusal
+unfoldable pub framed_table : Option ℕ → Data → Result TableData BadField
 framed_table i d = do
   block ← optional block_of i fields.Block d
   style ← optional style_of i fields.Style d
@@ -61,7 +62,7 @@ framed_table i d = do
   Ok (record table { block = option_or block table.block; style = unwrap_or style no_style })
 
 -- with what stands out in the selected row and column
-unfoldable pub marked_table : TableData → Option ℕ → Data → Result TableData Refusal
+unfoldable pub marked_table : TableData → Option ℕ → Data → Result TableData BadField
 marked_table t i d = do
   spacing ← optional u16_of i fields.ColumnSpacing d
   row_style ← optional style_of i fields.RowHighlightStyle d
@@ -75,7 +76,7 @@ marked_table t i d = do
   })
 
 -- with the symbol beside the selected row, and with the columns' places
-unfoldable pub placed_table : TableData → Option ℕ → Data → Result TableData Refusal
+unfoldable pub placed_table : TableData → Option ℕ → Data → Result TableData BadField
 placed_table t i d = do
   symbol ← optional symbol_of i fields.HighlightSymbol d
   spacing ← optional (named_of highlight_spacings) i fields.HighlightSpacing d
@@ -86,7 +87,7 @@ placed_table t i d = do
     flex = unwrap_or flex Start;
   })
 
-unfoldable pub table_state_of : Option ℕ → Data → Result TableState Refusal
+unfoldable pub table_state_of : Option ℕ → Data → Result TableState BadField
 table_state_of i d = do
   offset ← optional u64_of i fields.Offset d
   selected ← optional u64_of i fields.Selected d
@@ -94,7 +95,7 @@ table_state_of i d = do
   Ok (record { offset = unwrap_or offset 0; selected = selected; selected_column = column })
 
 -- a table, and the state that it begins with
-unfoldable pub shown_table : Option ℕ → Data → Result (TableData × TableState) Refusal
+unfoldable pub shown_table : Option ℕ → Data → Result (TableData × TableState) BadField
 shown_table i d = do
   framed ← framed_table i d
   marked ← marked_table framed i d

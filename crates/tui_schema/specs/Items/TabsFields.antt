@@ -15,9 +15,10 @@ use Rattle.tui_json.specs.Number.{u64_of}
 use Rattle.tui_schema.specs.Kinds.Style.{style_of}
 use Rattle.tui_schema.specs.Kinds.Symbol.{symbol_of}
 use Rattle.tui_json.specs.Refusals.{◌>>=◌}
-use Rattle.tui_schema.specs.Refusals.{Refusal, given, required, optional}
+use Rattle.tui_schema.specs.Refusals.{given, required, optional}
+use Rattle.tui_schema.specs.declared.bad_field.BadField.{BadField}
 
-unfoldable pub tabs_with_titles : Option ℕ → Data → Result TabsData Refusal
+unfoldable pub tabs_with_titles : Option ℕ → Data → Result TabsData BadField
 tabs_with_titles i d = do
   block ← optional block_of i fields.Block d
   style ← optional style_of i fields.Style d
@@ -25,14 +26,14 @@ tabs_with_titles i d = do
   Ok (record (new_tabs titles) { block = block; style = unwrap_or style no_style })
 
 -- with the selected title and its style
-unfoldable pub marked_tabs : TabsData → Option ℕ → Data → Result TabsData Refusal
+unfoldable pub marked_tabs : TabsData → Option ℕ → Data → Result TabsData BadField
 marked_tabs t i d = do
   selected ← given (or_null u64_of) i fields.Selected d
   style ← optional style_of i fields.HighlightStyle d
   Ok (record t { selected = unwrap_or selected t.selected; highlight_style = unwrap_or style reversed })
 
 -- with what stands beside the titles
-unfoldable pub spaced_tabs : TabsData → Option ℕ → Data → Result TabsData Refusal
+unfoldable pub spaced_tabs : TabsData → Option ℕ → Data → Result TabsData BadField
 spaced_tabs t i d = do
   divider ← optional symbol_of i fields.Divider d
   left ← optional symbol_of i fields.PaddingLeft d
@@ -44,7 +45,7 @@ spaced_tabs t i d = do
   })
 
 -- all fields of tabs
-unfoldable pub shown_tabs : Option ℕ → Data → Result TabsData Refusal
+unfoldable pub shown_tabs : Option ℕ → Data → Result TabsData BadField
 shown_tabs i d = do
   with_titles ← tabs_with_titles i d
   marked ← marked_tabs with_titles i d

@@ -7,16 +7,16 @@ ghost use Rattle.tui_cells.specs.Symbols.{bar_data as symbols_of};
 ghost use Rattle.tui_frames.specs.Block.{block_data};
 ghost use Rattle.tui_layout.specs.declared.direction.Direction.TheVariants.{Vertical};
 ghost use Rattle.tui_schema.specs.Items.ChartFields.{chart_with_groups, dressed_chart, shown_chart, spaced_chart};
-ghost use Rattle.tui_schema.specs.Refusals.{Gives};
+ghost use Rattle.tui_json.specs.Refusals.{Gives};
 
-use crate::error::SceneError;
+use crate::bad_field::BadField;
 use crate::field::Field;
 use serde_json::Value;
 use std::alloc::Global;
 use tui_bars::{BarChart, BarGroup};
 use tui_cells::{Style, bar};
 use tui_frames::Block;
-use tui_json::{optional, required};
+use tui_json::{InputError, optional, optional_named, required};
 use tui_layout::Direction;
 
 /// A chart of groups in a block, with a style and a greatest value.
@@ -48,7 +48,7 @@ fn read_groups<'v>(
     alloc: Global,
     item: Option<usize>,
     value: &'v Value,
-) -> Result<BarChart<'v>, SceneError>
+) -> Result<BarChart<'v>, InputError<BadField>>
     ensures { Gives bar_chart_data result (chart_with_groups item (view value.now)) }
 {
     let block: Option<Block<'v>> = optional(alloc, item, Field::Block, value)?;
@@ -87,7 +87,7 @@ fn read_space<'v>(
     chart: BarChart<'v>,
     item: Option<usize>,
     value: &'v Value,
-) -> Result<BarChart<'v>, SceneError>
+) -> Result<BarChart<'v>, InputError<BadField>>
     ensures { Gives bar_chart_data result (spaced_chart (bar_chart_data chart.entry) item (view value.now)) }
 {
     let width: Option<u16> = optional(alloc, item, Field::BarWidth, value)?;
@@ -127,13 +127,13 @@ fn read_styles<'v>(
     chart: BarChart<'v>,
     item: Option<usize>,
     value: &'v Value,
-) -> Result<BarChart<'v>, SceneError>
+) -> Result<BarChart<'v>, InputError<BadField>>
     ensures { Gives bar_chart_data result (dressed_chart (bar_chart_data chart.entry) item (view value.now)) }
 {
     let bar: Option<Style> = optional(alloc, item, Field::BarStyle, value)?;
     let number: Option<Style> = optional(alloc, item, Field::ValueStyle, value)?;
     let label: Option<Style> = optional(alloc, item, Field::LabelStyle, value)?;
-    let direction: Option<Direction> = optional(alloc, item, Field::Direction, value)?;
+    let direction: Option<Direction> = optional_named(alloc, item, Field::Direction, value)?;
     let bar = bar.unwrap_or(Style::new());
     let number = number.unwrap_or(Style::new());
     let label = label.unwrap_or(Style::new());
@@ -146,7 +146,7 @@ pub(crate) fn read_bar_chart<'v>(
     alloc: Global,
     item: Option<usize>,
     value: &'v Value,
-) -> Result<BarChart<'v>, SceneError>
+) -> Result<BarChart<'v>, InputError<BadField>>
     ensures { Gives bar_chart_data result (shown_chart item (view value.now)) }
 {
     let chart = read_groups(alloc, item, value)?;

@@ -13,17 +13,17 @@ ghost use Rattle.tui_schema.specs.Items.GaugeFields.{
   shared_gauge,
   shown_gauge,
 };
-ghost use Rattle.tui_schema.specs.Refusals.{Gives};
+ghost use Rattle.tui_json.specs.Refusals.{Gives};
 ghost use Rattle.tui_text.specs.Span.{span_data};
 
-use crate::error::SceneError;
+use crate::bad_field::BadField;
 use crate::field::Field;
 use serde_json::Value;
 use std::alloc::Global;
 use tui_bars::Gauge;
 use tui_cells::Style;
 use tui_frames::Block;
-use tui_json::optional;
+use tui_json::{Fields, InputError, optional};
 use tui_layout::Fraction;
 use tui_text::Span;
 
@@ -31,7 +31,7 @@ fn with_ratio<'v>(
     item: Option<usize>,
     gauge: Gauge<'v>,
     ratio: Option<Fraction>,
-) -> Result<Gauge<'v>, SceneError>
+) -> Result<Gauge<'v>, InputError<BadField>>
     ensures { Gives gauge_data result (gauge_with_ratio item (gauge_data gauge.entry) ratio) }
 {
     let Some(ratio) = ratio else {
@@ -39,10 +39,7 @@ fn with_ratio<'v>(
     };
     match gauge.ratio(ratio) {
         Ok(gauge) => Ok(gauge),
-        Err(_) => Err(SceneError::BadField {
-            item,
-            field: Field::Ratio,
-        }),
+        Err(_) => Err(InputError::Refused(Field::Ratio.refusal(item))),
     }
 }
 
@@ -50,7 +47,7 @@ fn with_percent<'v>(
     item: Option<usize>,
     gauge: Gauge<'v>,
     percent: Option<u16>,
-) -> Result<Gauge<'v>, SceneError>
+) -> Result<Gauge<'v>, InputError<BadField>>
     ensures { Gives gauge_data result (gauge_with_percent item (gauge_data gauge.entry) percent) }
 {
     let Some(percent) = percent else {
@@ -58,10 +55,7 @@ fn with_percent<'v>(
     };
     match gauge.percent(percent) {
         Ok(gauge) => Ok(gauge),
-        Err(_) => Err(SceneError::BadField {
-            item,
-            field: Field::Percent,
-        }),
+        Err(_) => Err(InputError::Refused(Field::Percent.refusal(item))),
     }
 }
 
@@ -71,7 +65,7 @@ fn read_share<'v>(
     alloc: Global,
     item: Option<usize>,
     value: &'v Value,
-) -> Result<Gauge<'v>, SceneError>
+) -> Result<Gauge<'v>, InputError<BadField>>
     ensures { Gives gauge_data result (shared_gauge item (view value.now)) }
 {
     let ratio: Option<Fraction> = optional(alloc, item, Field::Ratio, value)?;
@@ -96,7 +90,7 @@ fn read_frame<'v>(
     alloc: Global,
     item: Option<usize>,
     value: &'v Value,
-) -> Result<Gauge<'v>, SceneError>
+) -> Result<Gauge<'v>, InputError<BadField>>
     ensures { Gives gauge_data result (framed_gauge item (view value.now)) }
 {
     let block: Option<Block<'v>> = optional(alloc, item, Field::Block, value)?;
@@ -122,7 +116,7 @@ fn read_filling<'v>(
     gauge: Gauge<'v>,
     item: Option<usize>,
     value: &'v Value,
-) -> Result<Gauge<'v>, SceneError>
+) -> Result<Gauge<'v>, InputError<BadField>>
     ensures { Gives gauge_data result (filled_gauge (gauge_data gauge.entry) item (view value.now)) }
 {
     let label: Option<Span<'v>> = optional(alloc, item, Field::Label, value)?;
@@ -140,7 +134,7 @@ pub(crate) fn read_gauge<'v>(
     alloc: Global,
     item: Option<usize>,
     value: &'v Value,
-) -> Result<Gauge<'v>, SceneError>
+) -> Result<Gauge<'v>, InputError<BadField>>
     ensures { Gives gauge_data result (shown_gauge item (view value.now)) }
 {
     let gauge = read_frame(alloc, item, value)?;

@@ -6,10 +6,10 @@ ghost use Rattle.serde_json.specs.View.{view};
 ghost use Rattle.tui_bars.specs.LineGauge.{line_gauge_data};
 ghost use Rattle.tui_frames.specs.Block.{block_data};
 ghost use Rattle.tui_schema.specs.Items.GaugeFields.{drawn_line, framed_line, line_with_ratio, shared_line, shown_line_gauge};
-ghost use Rattle.tui_schema.specs.Refusals.{Gives};
+ghost use Rattle.tui_json.specs.Refusals.{Gives};
 ghost use Rattle.tui_text.specs.Line.{line_data};
 
-use crate::error::SceneError;
+use crate::bad_field::BadField;
 use crate::field::Field;
 use crate::kinds::Symbol;
 use serde_json::Value;
@@ -17,7 +17,7 @@ use std::alloc::Global;
 use tui_bars::LineGauge;
 use tui_cells::Style;
 use tui_frames::Block;
-use tui_json::optional;
+use tui_json::{Fields, InputError, optional};
 use tui_layout::Fraction;
 use tui_text::Line;
 
@@ -25,7 +25,7 @@ fn with_ratio<'v>(
     item: Option<usize>,
     gauge: LineGauge<'v>,
     ratio: Option<Fraction>,
-) -> Result<LineGauge<'v>, SceneError>
+) -> Result<LineGauge<'v>, InputError<BadField>>
     ensures { Gives line_gauge_data result (line_with_ratio item (line_gauge_data gauge.entry) ratio) }
 {
     let Some(ratio) = ratio else {
@@ -33,10 +33,7 @@ fn with_ratio<'v>(
     };
     match gauge.ratio(ratio) {
         Ok(gauge) => Ok(gauge),
-        Err(_) => Err(SceneError::BadField {
-            item,
-            field: Field::Ratio,
-        }),
+        Err(_) => Err(InputError::Refused(Field::Ratio.refusal(item))),
     }
 }
 
@@ -45,7 +42,7 @@ fn read_share<'v>(
     alloc: Global,
     item: Option<usize>,
     value: &'v Value,
-) -> Result<LineGauge<'v>, SceneError>
+) -> Result<LineGauge<'v>, InputError<BadField>>
     ensures { Gives line_gauge_data result (shared_line item (view value.now)) }
 {
     let ratio: Option<Fraction> = optional(alloc, item, Field::Ratio, value)?;
@@ -78,7 +75,7 @@ fn read_frame<'v>(
     alloc: Global,
     item: Option<usize>,
     value: &'v Value,
-) -> Result<LineGauge<'v>, SceneError>
+) -> Result<LineGauge<'v>, InputError<BadField>>
     ensures { Gives line_gauge_data result (framed_line item (view value.now)) }
 {
     let block: Option<Block<'v>> = optional(alloc, item, Field::Block, value)?;
@@ -115,7 +112,7 @@ fn read_line<'v>(
     gauge: LineGauge<'v>,
     item: Option<usize>,
     value: &'v Value,
-) -> Result<LineGauge<'v>, SceneError>
+) -> Result<LineGauge<'v>, InputError<BadField>>
     ensures { Gives line_gauge_data result (drawn_line (line_gauge_data gauge.entry) item (view value.now)) }
 {
     let filled: Option<Symbol<'v>> = optional(alloc, item, Field::FilledSymbol, value)?;
@@ -134,7 +131,7 @@ pub(crate) fn read_line_gauge<'v>(
     alloc: Global,
     item: Option<usize>,
     value: &'v Value,
-) -> Result<LineGauge<'v>, SceneError>
+) -> Result<LineGauge<'v>, InputError<BadField>>
     ensures { Gives line_gauge_data result (shown_line_gauge item (view value.now)) }
 {
     let gauge = read_frame(alloc, item, value)?;

@@ -6,18 +6,18 @@ ghost use Rattle.tui_frames.specs.Block.{block_data};
 ghost use Rattle.tui_cells.specs.Style.{no_style};
 ghost use Rattle.tui_lists.specs.List.{list_data};
 ghost use Rattle.tui_schema.specs.Items.ListFields.{list_state_of, list_with_items, marked_list, shown_list, turned_list};
-ghost use Rattle.tui_schema.specs.Refusals.{Gives};
+ghost use Rattle.tui_json.specs.Refusals.{Gives};
 ghost use Rattle.std.specs.Option.{option_or};
 ghost use Rattle.tui_text.specs.Line.{raw_line};
 
-use crate::error::SceneError;
+use crate::bad_field::BadField;
 use crate::field::Field;
 use crate::kinds::Symbol;
 use serde_json::Value;
 use std::alloc::Global;
 use tui_cells::{Mem, Style};
 use tui_frames::Block;
-use tui_json::{optional, required};
+use tui_json::{InputError, optional, optional_named, required};
 use tui_layout::HighlightSpacing;
 use tui_lists::{List, ListDirection, ListItem, ListState};
 use tui_text::Line;
@@ -50,7 +50,7 @@ fn read_items<'v>(
     alloc: Global,
     item: Option<usize>,
     value: &'v Value,
-) -> Result<List<'v>, SceneError>
+) -> Result<List<'v>, InputError<BadField>>
     ensures { Gives list_data result (list_with_items item (view value.now)) }
 {
     let block: Option<Block<'v>> = optional(alloc, item, Field::Block, value)?;
@@ -91,13 +91,18 @@ fn read_marks<'v>(
     list: List<'v>,
     item: Option<usize>,
     value: &'v Value,
-) -> Result<List<'v>, SceneError>
+) -> Result<List<'v>, InputError<BadField>>
     ensures { Gives list_data result (marked_list (list_data list.entry) item (view value.now)) }
 {
     let symbol: Option<Symbol<'v>> = optional(alloc, item, Field::HighlightSymbol, value)?;
     let style: Option<Style> = optional(alloc, item, Field::HighlightStyle, value)?;
     let repeats: Option<bool> = optional(alloc, item, Field::RepeatHighlightSymbol, value)?;
-    let spacing: Option<HighlightSpacing> = optional(alloc, item, Field::HighlightSpacing, value)?;
+    let spacing: Option<HighlightSpacing> = optional_named(
+        alloc,
+        item,
+        Field::HighlightSpacing,
+        value,
+    )?;
     Ok(marked(alloc, list, symbol, style, repeats, spacing)?)
 }
 
@@ -108,10 +113,10 @@ fn read_turn<'v>(
     list: List<'v>,
     item: Option<usize>,
     value: &'v Value,
-) -> Result<List<'v>, SceneError>
+) -> Result<List<'v>, InputError<BadField>>
     ensures { Gives list_data result (turned_list (list_data list.entry) item (view value.now)) }
 {
-    let direction: Option<ListDirection> = optional(alloc, item, Field::Direction, value)?;
+    let direction: Option<ListDirection> = optional_named(alloc, item, Field::Direction, value)?;
     let padding: Option<u64> = optional(alloc, item, Field::ScrollPadding, value)?;
     Ok(
         list.direction(direction.unwrap_or(ListDirection::TopToBottom))
@@ -124,7 +129,7 @@ fn read_state<'v>(
     alloc: Global,
     item: Option<usize>,
     value: &'v Value,
-) -> Result<ListState, SceneError>
+) -> Result<ListState, InputError<BadField>>
     ensures { Gives (λ s. s) result (list_state_of item (view value.now)) }
 {
     let offset: Option<u64> = optional(alloc, item, Field::Offset, value)?;
@@ -142,7 +147,7 @@ pub(crate) fn read_list<'v>(
     alloc: Global,
     item: Option<usize>,
     value: &'v Value,
-) -> Result<(List<'v>, ListState), SceneError>
+) -> Result<(List<'v>, ListState), InputError<BadField>>
     ensures { Gives (λ p. (list_data p.0, p.1)) result (shown_list item (view value.now)) }
 {
     let list = read_items(alloc, item, value)?;

@@ -2,13 +2,13 @@
 
 ghost use Rattle.serde_json.specs.View.{view};
 ghost use Rattle.tui_schema.specs.Items.Logo.{logo_of};
-ghost use Rattle.tui_schema.specs.Refusals.{Gives};
+ghost use Rattle.tui_json.specs.Refusals.{Gives};
 
-use crate::error::SceneError;
+use crate::bad_field::BadField;
 use crate::field::Field;
 use serde_json::Value;
 use std::alloc::Global;
-use tui_json::optional;
+use tui_json::{InputError, optional_named};
 use tui_para::{RatatuiLogo, Size};
 
 #[tactic(auto, unfolding(crate::specs::Items::Logo::logo_of))]
@@ -16,9 +16,9 @@ pub(crate) fn read_logo(
     alloc: Global,
     item: Option<usize>,
     value: &Value,
-) -> Result<RatatuiLogo, SceneError>
+) -> Result<RatatuiLogo, InputError<BadField>>
     ensures { Gives (λ l. l.size) result (logo_of item (view value.now)) }
 {
-    let size: Option<Size> = optional(alloc, item, Field::Size, value)?;
+    let size: Option<Size> = optional_named(alloc, item, Field::Size, value)?;
     Ok(RatatuiLogo::new(size.unwrap_or(Size::Tiny)))
 }

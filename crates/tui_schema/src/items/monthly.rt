@@ -8,9 +8,9 @@ ghost use Rattle.tui_calendar.specs.Monthly.{monthly_data};
 ghost use Rattle.tui_frames.specs.Block.{block_data};
 ghost use Rattle.tui_schema.specs.Items.MonthlyFields.{calendar_data, dressed_month, month_with_events, shown_monthly};
 ghost use Rattle.tui_schema.specs.Kinds.Event.{event_data, with_events};
-ghost use Rattle.tui_schema.specs.Refusals.{Gives};
+ghost use Rattle.tui_json.specs.Refusals.{Gives};
 
-use crate::error::SceneError;
+use crate::bad_field::BadField;
 use crate::field::Field;
 use crate::kinds::Event;
 use jiff::civil::Date;
@@ -19,7 +19,7 @@ use std::alloc::Global;
 use tui_calendar::{CalendarEventStore, Monthly};
 use tui_cells::{Mem, Style};
 use tui_frames::Block;
-use tui_json::{optional, required};
+use tui_json::{InputError, optional, required};
 
 /// A month by the styles that a store keeps.
 type Calendar<'v> = Monthly<'v, CalendarEventStore>;
@@ -53,7 +53,7 @@ fn read_month<'v>(
     alloc: Global,
     item: Option<usize>,
     value: &'v Value,
-) -> Result<Calendar<'v>, SceneError>
+) -> Result<Calendar<'v>, InputError<BadField>>
     ensures { Gives calendar_data result (month_with_events item (view value.now)) }
 {
     let block: Option<Block<'v>> = optional(alloc, item, Field::Block, value)?;
@@ -98,7 +98,7 @@ fn read_dress<'v>(
     month: Calendar<'v>,
     item: Option<usize>,
     value: &'v Value,
-) -> Result<Calendar<'v>, SceneError>
+) -> Result<Calendar<'v>, InputError<BadField>>
     ensures { Gives calendar_data result (dressed_month (calendar_data month.entry) item (view value.now)) }
 {
     let around: Option<Style> = optional(alloc, item, Field::ShowSurrounding, value)?;
@@ -113,7 +113,7 @@ pub(crate) fn read_monthly<'v>(
     alloc: Global,
     item: Option<usize>,
     value: &'v Value,
-) -> Result<Calendar<'v>, SceneError>
+) -> Result<Calendar<'v>, InputError<BadField>>
     ensures { Gives calendar_data result (shown_monthly item (view value.now)) }
 {
     let month = read_month(alloc, item, value)?;

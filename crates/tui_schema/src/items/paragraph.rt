@@ -6,15 +6,15 @@ ghost use Rattle.tui_frames.specs.Block.{block_data};
 ghost use Rattle.tui_text.specs.Text.{text_data};
 ghost use Rattle.tui_para.specs.Paragraph.{paragraph_data};
 ghost use Rattle.tui_schema.specs.Items.Paragraph.{paragraph_of, paragraph_with};
-ghost use Rattle.tui_schema.specs.Refusals.{Gives};
+ghost use Rattle.tui_json.specs.Refusals.{Gives};
 
-use crate::error::SceneError;
+use crate::bad_field::BadField;
 use crate::field::Field;
 use serde_json::Value;
 use std::alloc::Global;
 use tui_cells::Style;
 use tui_frames::Block;
-use tui_json::{optional, required};
+use tui_json::{InputError, optional, optional_named, required};
 use tui_para::{Paragraph, Wrap};
 use tui_text::{Alignment, Text};
 
@@ -54,7 +54,7 @@ pub(crate) fn read_paragraph<'v>(
     alloc: Global,
     item: Option<usize>,
     value: &'v Value,
-) -> Result<Paragraph<'v>, SceneError>
+) -> Result<Paragraph<'v>, InputError<BadField>>
     ensures { Gives paragraph_data result (paragraph_of item (view value.now)) }
 {
     let block: Option<Block<'v>> = optional(alloc, item, Field::Block, value)?;
@@ -62,7 +62,7 @@ pub(crate) fn read_paragraph<'v>(
     let text: Text<'v> = required(alloc, item, Field::Text, value)?;
     let wrap: Option<Wrap> = optional(alloc, item, Field::Wrap, value)?;
     let scroll: Option<(u16, u16)> = optional(alloc, item, Field::Scroll, value)?;
-    let alignment: Option<Alignment> = optional(alloc, item, Field::Alignment, value)?;
+    let alignment: Option<Alignment> = optional_named(alloc, item, Field::Alignment, value)?;
     let paragraph = paragraph_with(text, style, wrap, scroll, alignment);
     Ok(in_block(paragraph, block))
 }

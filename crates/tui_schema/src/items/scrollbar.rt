@@ -4,15 +4,15 @@ ghost use Rattle.std.specs.Prelude.{◌≡◌, option_map, unwrap_or};
 ghost use Rattle.serde_json.specs.View.{view};
 ghost use Rattle.tui_lists.specs.Scrollbar.{scrollbar_data};
 ghost use Rattle.tui_schema.specs.Items.ScrollbarFields.{dressed_scrollbar, scrollbar_state_of, shown_scrollbar, signed_scrollbar};
-ghost use Rattle.tui_schema.specs.Refusals.{Gives};
+ghost use Rattle.tui_json.specs.Refusals.{Gives};
 
-use crate::error::SceneError;
+use crate::bad_field::BadField;
 use crate::field::Field;
 use crate::kinds::Symbol;
 use serde_json::Value;
 use std::alloc::Global;
 use tui_cells::Style;
-use tui_json::{given, optional};
+use tui_json::{InputError, given, optional, optional_named};
 use tui_lists::{Scrollbar, ScrollbarOrientation, ScrollbarState};
 
 fn with_thumb<'v>(bar: Scrollbar<'v>, symbol: Option<Symbol<'v>>) -> Scrollbar<'v>
@@ -68,7 +68,7 @@ fn read_symbols<'v>(
     bar: Scrollbar<'v>,
     item: Option<usize>,
     value: &'v Value,
-) -> Result<Scrollbar<'v>, SceneError>
+) -> Result<Scrollbar<'v>, InputError<BadField>>
     ensures { Gives scrollbar_data result (signed_scrollbar (scrollbar_data bar.entry) item (view value.now)) }
 {
     let thumb: Option<Symbol<'v>> = optional(alloc, item, Field::ThumbSymbol, value)?;
@@ -118,7 +118,7 @@ fn read_styles<'v>(
     bar: Scrollbar<'v>,
     item: Option<usize>,
     value: &'v Value,
-) -> Result<Scrollbar<'v>, SceneError>
+) -> Result<Scrollbar<'v>, InputError<BadField>>
     ensures { Gives scrollbar_data result (dressed_scrollbar (scrollbar_data bar.entry) item (view value.now)) }
 {
     let thumb: Option<Style> = optional(alloc, item, Field::ThumbStyle, value)?;
@@ -133,7 +133,7 @@ fn read_state(
     alloc: Global,
     item: Option<usize>,
     value: &Value,
-) -> Result<ScrollbarState, SceneError>
+) -> Result<ScrollbarState, InputError<BadField>>
     ensures { Gives (λ s. s) result (scrollbar_state_of item (view value.now)) }
 {
     let content: Option<u64> = optional(alloc, item, Field::ContentLength, value)?;
@@ -152,11 +152,11 @@ pub(crate) fn read_scrollbar<'v>(
     alloc: Global,
     item: Option<usize>,
     value: &'v Value,
-) -> Result<(Scrollbar<'v>, ScrollbarState), SceneError>
+) -> Result<(Scrollbar<'v>, ScrollbarState), InputError<BadField>>
     ensures { Gives (λ p. (scrollbar_data p.0, p.1)) result (shown_scrollbar item (view value.now)) }
 {
     let style: Option<Style> = optional(alloc, item, Field::Style, value)?;
-    let orientation: Option<ScrollbarOrientation> = optional(
+    let orientation: Option<ScrollbarOrientation> = optional_named(
         alloc,
         item,
         Field::Orientation,

@@ -6,9 +6,9 @@ ghost use Rattle.tui_bars.specs.Sparkline.{empty_sparkline, sparkline_bar_data, 
 ghost use Rattle.tui_cells.specs.Symbols.{bar_data as symbols_of};
 ghost use Rattle.tui_frames.specs.Block.{block_data};
 ghost use Rattle.tui_schema.specs.Items.ChartFields.{drawn_sparkline, shown_sparkline, sparkline_with_bars};
-ghost use Rattle.tui_schema.specs.Refusals.{Gives};
+ghost use Rattle.tui_json.specs.Refusals.{Gives};
 
-use crate::error::SceneError;
+use crate::bad_field::BadField;
 use crate::field::Field;
 use crate::kinds::Symbol;
 use serde_json::Value;
@@ -16,7 +16,7 @@ use std::alloc::Global;
 use tui_bars::{RenderDirection, Sparkline, SparklineBar};
 use tui_cells::{Style, bar};
 use tui_frames::Block;
-use tui_json::{optional, required};
+use tui_json::{InputError, optional, optional_named, required};
 
 /// A sparkline of bars in a block, with a style and a greatest value.
 fn framed<'v>(
@@ -49,7 +49,7 @@ fn read_bars<'v>(
     alloc: Global,
     item: Option<usize>,
     value: &'v Value,
-) -> Result<Sparkline<'v>, SceneError>
+) -> Result<Sparkline<'v>, InputError<BadField>>
     ensures { Gives sparkline_data result (sparkline_with_bars item (view value.now)) }
 {
     let block: Option<Block<'v>> = optional(alloc, item, Field::Block, value)?;
@@ -87,13 +87,13 @@ fn read_symbols<'v>(
     sparkline: Sparkline<'v>,
     item: Option<usize>,
     value: &'v Value,
-) -> Result<Sparkline<'v>, SceneError>
+) -> Result<Sparkline<'v>, InputError<BadField>>
     ensures { Gives sparkline_data result (drawn_sparkline (sparkline_data sparkline.entry) item (view value.now)) }
 {
     let style: Option<Style> = optional(alloc, item, Field::AbsentValueStyle, value)?;
     let absent: Option<Symbol<'v>> = optional(alloc, item, Field::AbsentValueSymbol, value)?;
     let symbols: Option<bar::Set<'v>> = optional(alloc, item, Field::BarSet, value)?;
-    let direction: Option<RenderDirection> = optional(alloc, item, Field::Direction, value)?;
+    let direction: Option<RenderDirection> = optional_named(alloc, item, Field::Direction, value)?;
     Ok(
         with_symbols(sparkline, absent, symbols)
             .absent_value_style(style.unwrap_or(Style::new()))
@@ -106,7 +106,7 @@ pub(crate) fn read_sparkline<'v>(
     alloc: Global,
     item: Option<usize>,
     value: &'v Value,
-) -> Result<Sparkline<'v>, SceneError>
+) -> Result<Sparkline<'v>, InputError<BadField>>
     ensures { Gives sparkline_data result (shown_sparkline item (view value.now)) }
 {
     let sparkline = read_bars(alloc, item, value)?;

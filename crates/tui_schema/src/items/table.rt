@@ -17,17 +17,17 @@ ghost use Rattle.tui_schema.specs.Items.TableFields.{
   widths_of,
   with_edges,
 };
-ghost use Rattle.tui_schema.specs.Refusals.{Gives};
+ghost use Rattle.tui_json.specs.Refusals.{Gives};
 ghost use Rattle.tui_text.specs.Text.{raw_text};
 
-use crate::error::SceneError;
+use crate::bad_field::BadField;
 use crate::field::Field;
 use crate::kinds::Symbol;
 use serde_json::Value;
 use std::alloc::Global;
 use tui_cells::{Mem, Style};
 use tui_frames::Block;
-use tui_json::{optional, required};
+use tui_json::{Fields, InputError, optional, optional_named, required};
 use tui_layout::{Constraint, Flex, HighlightSpacing};
 use tui_table::{Row, Table, TableState, WidthsError};
 use tui_text::Text;
@@ -38,16 +38,15 @@ fn in_widths<'v>(
     item: Option<usize>,
     rows: Vec<Row<'v>>,
     widths: Vec<Constraint>,
-) -> Result<Table<'v>, SceneError>
+) -> Result<Table<'v>, InputError<BadField>>
     ensures { Gives table_data result (in_widths item (map row_data rows.entry.items) widths.items) }
 {
     match Table::new(alloc, rows, widths) {
         Ok(table) => Ok(table),
-        Err(WidthsError::PercentageAbove100 { .. }) => Err(SceneError::BadField {
-            item,
-            field: Field::Widths,
-        }),
-        Err(WidthsError::NoMemory) => Err(SceneError::NoMemory),
+        Err(WidthsError::PercentageAbove100 { .. }) => Err(InputError::Refused(
+            Field::Widths.refusal(item),
+        )),
+        Err(WidthsError::NoMemory) => Err(InputError::NoMemory),
     }
 }
 
@@ -70,7 +69,7 @@ fn with_edges<'v>(
     header: Option<Row<'v>>,
     footer: Option<Row<'v>>,
     widths: Vec<Constraint>,
-) -> Result<Table<'v>, SceneError>
+) -> Result<Table<'v>, InputError<BadField>>
     ensures { Gives table_data result (with_edges item (map row_data rows.entry.items)
         (option_map row_data header.entry) (option_map row_data footer.entry) widths.items) }
 {
@@ -101,7 +100,7 @@ fn read_widths(
     alloc: Global,
     item: Option<usize>,
     value: &Value,
-) -> Result<Vec<Constraint>, SceneError>
+) -> Result<Vec<Constraint>, InputError<BadField>>
     ensures { Gives (λ widths. widths.items) result (widths_of item (view value.now)) }
 {
     let widths: Option<Vec<Constraint>> = optional(alloc, item, Field::Widths, value)?;
@@ -114,7 +113,7 @@ fn read_rows<'v>(
     alloc: Global,
     item: Option<usize>,
     value: &'v Value,
-) -> Result<Table<'v>, SceneError>
+) -> Result<Table<'v>, InputError<BadField>>
     ensures { Gives table_data result (table_with_rows item (view value.now)) }
 {
     let rows: Vec<Row<'v>> = required(alloc, item, Field::Rows, value)?;
@@ -130,7 +129,7 @@ fn read_frame<'v>(
     alloc: Global,
     item: Option<usize>,
     value: &'v Value,
-) -> Result<Table<'v>, SceneError>
+) -> Result<Table<'v>, InputError<BadField>>
     ensures { Gives table_data result (framed_table item (view value.now)) }
 {
     let block: Option<Block<'v>> = optional(alloc, item, Field::Block, value)?;
@@ -162,7 +161,7 @@ fn read_marks<'v>(
     table: Table<'v>,
     item: Option<usize>,
     value: &'v Value,
-) -> Result<Table<'v>, SceneError>
+) -> Result<Table<'v>, InputError<BadField>>
     ensures { Gives table_data result (marked_table (table_data table.entry) item (view value.now)) }
 {
     let spacing: Option<u16> = optional(alloc, item, Field::ColumnSpacing, value)?;
@@ -182,12 +181,17 @@ fn read_places<'v>(
     table: Table<'v>,
     item: Option<usize>,
     value: &'v Value,
-) -> Result<Table<'v>, SceneError>
+) -> Result<Table<'v>, InputError<BadField>>
     ensures { Gives table_data result (placed_table (table_data table.entry) item (view value.now)) }
 {
     let symbol: Option<Symbol<'v>> = optional(alloc, item, Field::HighlightSymbol, value)?;
-    let spacing: Option<HighlightSpacing> = optional(alloc, item, Field::HighlightSpacing, value)?;
-    let flex: Option<Flex> = optional(alloc, item, Field::Flex, value)?;
+    let spacing: Option<HighlightSpacing> = optional_named(
+        alloc,
+        item,
+        Field::HighlightSpacing,
+        value,
+    )?;
+    let flex: Option<Flex> = optional_named(alloc, item, Field::Flex, value)?;
     Ok(
         with_symbol(alloc, table, symbol)?
             .highlight_spacing(spacing.unwrap_or(HighlightSpacing::WhenSelected))
@@ -200,7 +204,7 @@ fn read_state<'v>(
     alloc: Global,
     item: Option<usize>,
     value: &'v Value,
-) -> Result<TableState, SceneError>
+) -> Result<TableState, InputError<BadField>>
     ensures { Gives (λ s. s) result (table_state_of item (view value.now)) }
 {
     let offset: Option<u64> = optional(alloc, item, Field::Offset, value)?;
@@ -220,7 +224,7 @@ pub(crate) fn read_table<'v>(
     alloc: Global,
     item: Option<usize>,
     value: &'v Value,
-) -> Result<(Table<'v>, TableState), SceneError>
+) -> Result<(Table<'v>, TableState), InputError<BadField>>
     ensures { Gives (λ p. (table_data p.0, p.1)) result (shown_table item (view value.now)) }
 {
     let table = read_frame(alloc, item, value)?;

@@ -8,18 +8,18 @@ ghost use Rattle.tui_cells.specs.Symbols.{utf8};
 ghost use Rattle.tui_frames.specs.Block.{block_data};
 ghost use Rattle.tui_lists.specs.Tabs.{tabs_data};
 ghost use Rattle.tui_schema.specs.Items.TabsFields.{marked_tabs, shown_tabs, spaced_tabs, tabs_with_titles};
-ghost use Rattle.tui_schema.specs.Refusals.{Gives};
+ghost use Rattle.tui_json.specs.Refusals.{Gives};
 ghost use Rattle.tui_text.specs.Line.{line_data, raw_line};
 ghost use Rattle.tui_text.specs.Span.{raw_span, span_data};
 
-use crate::error::SceneError;
+use crate::bad_field::BadField;
 use crate::field::Field;
 use crate::kinds::Symbol;
 use serde_json::Value;
 use std::alloc::Global;
 use tui_cells::{Mem, Modifier, Style, line};
 use tui_frames::Block;
-use tui_json::{given, optional, required};
+use tui_json::{InputError, given, optional, required};
 use tui_lists::Tabs;
 use tui_text::{Line, Span};
 
@@ -86,7 +86,7 @@ fn read_titles<'v>(
     alloc: Global,
     item: Option<usize>,
     value: &'v Value,
-) -> Result<Tabs<'v>, SceneError>
+) -> Result<Tabs<'v>, InputError<BadField>>
     ensures { Gives tabs_data result (tabs_with_titles item (view value.now)) }
 {
     let block: Option<Block<'v>> = optional(alloc, item, Field::Block, value)?;
@@ -103,7 +103,7 @@ fn read_selection<'v>(
     tabs: Tabs<'v>,
     item: Option<usize>,
     value: &'v Value,
-) -> Result<Tabs<'v>, SceneError>
+) -> Result<Tabs<'v>, InputError<BadField>>
     ensures { Gives tabs_data result (marked_tabs (tabs_data tabs.entry) item (view value.now)) }
 {
     let selected: Option<Option<u64>> = given(alloc, item, Field::Selected, value)?;
@@ -119,7 +119,7 @@ fn read_space<'v>(
     tabs: Tabs<'v>,
     item: Option<usize>,
     value: &'v Value,
-) -> Result<Tabs<'v>, SceneError>
+) -> Result<Tabs<'v>, InputError<BadField>>
     ensures { Gives tabs_data result (spaced_tabs (tabs_data tabs.entry) item (view value.now)) }
 {
     let divider: Option<Symbol<'v>> = optional(alloc, item, Field::Divider, value)?;
@@ -133,7 +133,7 @@ pub(crate) fn read_tabs<'v>(
     alloc: Global,
     item: Option<usize>,
     value: &'v Value,
-) -> Result<Tabs<'v>, SceneError>
+) -> Result<Tabs<'v>, InputError<BadField>>
     ensures { Gives tabs_data result (shown_tabs item (view value.now)) }
 {
     let tabs = read_titles(alloc, item, value)?;

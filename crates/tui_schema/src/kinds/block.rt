@@ -9,7 +9,7 @@ ghost use Rattle.tui_json.specs.Kinds.{Reads};
 ghost use Rattle.tui_schema.specs.Kinds.Block.{block_of, bordered_of, spaced_of, titled_of};
 
 use crate::field::Field;
-use crate::kinds::member::optional_member;
+use crate::kinds::member::{optional_member, optional_named_member};
 use serde_json::Value;
 use std::alloc::Global;
 use tui_cells::{MergeStrategy, Style};
@@ -27,7 +27,7 @@ fn read_borders<'v>(
     ensures { Reads block_data result (bordered_of (block_data block.entry) (view value.now)) }
 {
     let borders: Option<Borders> = optional_member(alloc, value, "borders")?;
-    let kind: Option<BorderType> = optional_member(alloc, value, "border_type")?;
+    let kind: Option<BorderType> = optional_named_member(alloc, value, "border_type")?;
     let style: Option<Style> = optional_member(alloc, value, "border_style")?;
     Ok(
         block
@@ -62,8 +62,8 @@ fn read_titles<'v>(
 {
     let titles: Option<Vec<Title<'v>>> = optional_member(alloc, value, "titles")?;
     let style: Option<Style> = optional_member(alloc, value, "title_style")?;
-    let alignment: Option<Alignment> = optional_member(alloc, value, "title_alignment")?;
-    let position: Option<TitlePosition> = optional_member(alloc, value, "title_position")?;
+    let alignment: Option<Alignment> = optional_named_member(alloc, value, "title_alignment")?;
+    let position: Option<TitlePosition> = optional_named_member(alloc, value, "title_position")?;
     Ok(
         block
             .titles(titles.unwrap_or(Vec::new(alloc)))
@@ -104,7 +104,7 @@ impl<'v> Kind<'v, Field> for Block<'v> {
         let block = read_borders(alloc, Block::new(alloc), value)?;
         let block = read_space(alloc, block, value)?;
         let block = read_titles(alloc, block, value)?;
-        let strategy: Option<MergeStrategy> = optional_member(alloc, value, "merge_borders")?;
+        let strategy: Option<MergeStrategy> = optional_named_member(alloc, value, "merge_borders")?;
         let shadow: Option<Shadow<'v>> = optional_member(alloc, value, "shadow")?;
         Ok(joined(block, strategy.unwrap_or(MergeStrategy::Replace), shadow))
     }

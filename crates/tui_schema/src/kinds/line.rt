@@ -3,7 +3,7 @@
 ghost use Rattle.tui_schema.specs.Kinds.Line.{line_of};
 
 use crate::field::Field;
-use crate::kinds::member::{member, optional_member, read};
+use crate::kinds::member::{member, optional_member, optional_named_member, read};
 use serde_json::Value;
 use std::alloc::Global;
 use tui_cells::Style;
@@ -30,7 +30,11 @@ impl<'v> Kind<'v, Field> for Line<'v> {
             _ => {
                 let spans: Vec<Span<'v>> = member(alloc, value, "spans")?;
                 let style: Option<Style> = optional_member(alloc, value, "style")?;
-                let alignment: Option<Alignment> = optional_member(alloc, value, "alignment")?;
+                let alignment: Option<Alignment> = optional_named_member(
+                    alloc,
+                    value,
+                    "alignment",
+                )?;
                 let line = Line::from(spans).style(style.unwrap_or(Style::new()));
                 Ok(match alignment {
                     Some(alignment) => line.alignment(alignment),

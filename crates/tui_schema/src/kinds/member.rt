@@ -4,11 +4,12 @@ ghost use Rattle.std.specs.Prelude.{option_map};
 ghost use Rattle.serde_json.specs.View.{view};
 ghost use Rattle.tui_json.specs.Kinds.{Reads};
 ghost use Rattle.tui_json.specs.Members.{member, optional_member};
+ghost use Rattle.tui_json.specs.Named.{named_of};
 
 use crate::field::Field;
 use serde_json::Value;
 use std::alloc::Global;
-use tui_json::{Kind, KindError};
+use tui_json::{Kind, KindError, Named};
 
 /// The value as a kind.
 pub(crate) fn read<'v, T: Kind<'v, Field>>(alloc: Global, value: &'v Value) -> Result<T, KindError>
@@ -37,4 +38,15 @@ pub(crate) fn optional_member<'v, T: Kind<'v, Field>>(
     ensures { Reads (option_map T.seen) result (optional_member T.kind name.now (view value.now)) }
 {
     tui_json::optional_member::<T, Field>(alloc, value, name)
+}
+
+/// The member of this name, which may be absent or null, as an enum by the name of its variant.
+pub(crate) fn optional_named_member<'v, T: Named<Field>>(
+    alloc: Global,
+    value: &'v Value,
+    name: &str,
+) -> Result<Option<T>, KindError>
+    ensures { Reads (λ read. read) result (optional_member (named_of T.names) name.now (view value.now)) }
+{
+    tui_json::optional_named_member::<T, Field>(alloc, value, name)
 }

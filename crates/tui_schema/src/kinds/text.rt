@@ -3,7 +3,7 @@
 ghost use Rattle.tui_schema.specs.Kinds.Text.{text_of};
 
 use crate::field::Field;
-use crate::kinds::member::{member, optional_member, read};
+use crate::kinds::member::{member, optional_member, optional_named_member, read};
 use serde_json::Value;
 use std::alloc::Global;
 use tui_cells::Style;
@@ -30,7 +30,11 @@ impl<'v> Kind<'v, Field> for Text<'v> {
             _ => {
                 let lines: Vec<Line<'v>> = member(alloc, value, "lines")?;
                 let style: Option<Style> = optional_member(alloc, value, "style")?;
-                let alignment: Option<Alignment> = optional_member(alloc, value, "alignment")?;
+                let alignment: Option<Alignment> = optional_named_member(
+                    alloc,
+                    value,
+                    "alignment",
+                )?;
                 let text = Text::from(lines).style(style.unwrap_or(Style::new()));
                 Ok(match alignment {
                     Some(alignment) => text.alignment(alignment),

@@ -3,7 +3,7 @@
 ghost use Rattle.tui_schema.specs.Kinds.Title.{title_of};
 
 use crate::field::Field;
-use crate::kinds::member::{optional_member, read};
+use crate::kinds::member::{optional_named_member, read};
 use serde_json::Value;
 use std::alloc::Global;
 use tui_frames::Title;
@@ -28,7 +28,7 @@ impl<'v> Kind<'v, Field> for Title<'v> {
             }),
             Some(content) => Ok(Title {
                 line: read(alloc, content)?,
-                position: optional_member(alloc, value, "position")?,
+                position: optional_named_member(alloc, value, "position")?,
             }),
         }
     }

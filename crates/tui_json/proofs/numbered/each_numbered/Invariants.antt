@@ -6,5 +6,5 @@ use Rattle.tui_json.proofs.numbered.each_numbered.Given as goal
 
 abbrev pub invariant-loop-number : goal.invariant-loop-number
 invariant-loop-number g l =
-    after (map g.T.Numbered.seen l.read.items) (numbered g.T.Numbered.tests l.number (items_view (drop l.number l.values)))
-    ≡ numbered g.T.Numbered.tests 0 (items_view l.values)
+    after (map g.T.Numbered.seen l.read.items) (numbered (g.T.Numbered.tests l.known) l.number (items_view (drop l.number l.values)))
+    ≡ numbered (g.T.Numbered.tests l.known) 0 (items_view l.values)

@@ -1,5 +1,5 @@
 use Rattle.std.proofs.Common.{subst}
-use Rattle.tui_line_places.specs.Next.{IsShown}
+use Rattle.tui_line_places.specs.Next.{IsNextShown}
 use Rattle.tui_line_places.proofs.ShownClusters.{goes_on-then}
 use Rattle.tui_line_places.proofs.Walked.{past_break}
 use Rattle.tui_line_places.proofs.line.past_blanks.Goals as goal
@@ -11,5 +11,5 @@ returns-then-grapheme-room-clause-goes_on c =
 pub blanks-preserved : goal.blanks-preserved
 blanks-preserved c =
     let g = c.in-Grapheme.grapheme in
-    let s = subst (λ b. IsShown c.args.width c.blanks.rest.now g.width b g.behind.now) (c.if-not-grapheme.false) c.in-Grapheme.ensures in
+    let s = subst (λ b. IsNextShown c.args.width c.blanks.rest.now g.width b g.behind.now) (c.if-not-grapheme.false) c.in-Grapheme.ensures in
     (s.goes_on.utf8, past_break c.args.width c.args.line.text.now c.blanks.rest.now g.behind.now g.width s c.args.line.room c.blanks.room c.if-grapheme-room.false c.blanks.invariant.1)

@@ -5,7 +5,7 @@ use Rattle.tui_line_places.specs.Reading.{HasPassed}
 use Rattle.tui_line_places.proofs.places.line_places.Given as goal
 
 abbrev pub invariant-lines : goal.invariant-lines
-invariant-lines l = shadow (Utf8 l.rest) × HasPassed l.width l.trim l.text l.places.items l.rest
+invariant-lines l = shadow (Utf8 l.rest) × HasPassed l.lines.width l.lines.trim l.text l.places.items l.rest
 
 abbrev pub decreases-lines : goal.decreases-lines
 decreases-lines l = length l.rest

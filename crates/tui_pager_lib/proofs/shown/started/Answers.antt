@@ -5,21 +5,21 @@ use Rattle.tui_pager_lib.proofs.Sound.{start_sound}
 use Rattle.tui_pager_lib.proofs.Stepping.{place_of, sound_as, start_is}
 use Rattle.tui_pager_lib.proofs.shown.started.Goals as goal
 
-pub places-requires-clause-place : goal.places-requires-clause-place
-places-requires-clause-place c =
+pub places-requires : goal.places-requires
+places-requires c =
     let entries = c.args.contents.now in
-    let eq = start_is entries c.args.width c.args.height _ _ _ c.len-count.ensures c.first_place-selected.ensures c.follow-state.ensures in
-    place_of entries c.args.width c.args.height _ (sound_as entries c.args.width c.args.height _ _ eq (start_sound entries c.args.width c.args.height))
+    let eq = start_is entries c.args.size.width c.args.size.height _ _ _ c.len-count.ensures c.first_place-selected.ensures c.follow-state.ensures in
+    place_of entries c.args.size.width c.args.size.height _ (sound_as entries c.args.size.width c.args.size.height _ _ eq (start_sound entries c.args.size.width c.args.size.height))
 
 pub redraw-requires-clause-sound : goal.redraw-requires-clause-sound
 redraw-requires-clause-sound c =
     let entries = c.args.contents.now in
-    let eq = start_is entries c.args.width c.args.height _ _ _ c.len-count.ensures c.first_place-selected.ensures c.follow-state.ensures in
-    sound_as entries c.args.width c.args.height _ _ eq (start_sound entries c.args.width c.args.height)
+    let eq = start_is entries c.args.size.width c.args.size.height _ _ _ c.len-count.ensures c.first_place-selected.ensures c.follow-state.ensures in
+    sound_as entries c.args.size.width c.args.size.height _ _ eq (start_sound entries c.args.size.width c.args.size.height)
 
 pub returns-clause-is : goal.returns-clause-is
 returns-clause-is c =
     let entries = c.args.contents.now in
-    let eq = start_is entries c.args.width c.args.height _ _ _ c.len-count.ensures c.first_place-selected.ensures c.follow-state.ensures in
-    let of : PagerState → PagerData = λ s. record { width = c.args.width; height = c.args.height; entries = entries; state = s } in
+    let eq = start_is entries c.args.size.width c.args.size.height _ _ _ c.len-count.ensures c.first_place-selected.ensures c.follow-state.ensures in
+    let of : PagerState → PagerData = λ s. record { width = c.args.size.width; height = c.args.size.height; entries = entries; state = s } in
     c.in_ok-redraw.ensures.is ∙ ap of eq

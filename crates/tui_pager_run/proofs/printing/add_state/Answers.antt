@@ -1,4 +1,4 @@
-use Rattle.tui_port.proofs.Gathering.{Gathers-then}
+use Rattle.tui_outside.proofs.Gathering.{Gathers-then}
 use Rattle.tui_pager_run.specs.Printed.{key_line}
 use Rattle.tui_pager_run.proofs.printing.add_state.Goals as goal
 

@@ -1,6 +1,6 @@
 use Rattle.std.proofs.Common.{[], ◌∙◌, ap, ◌++◌, ℕ, List, get_or, None, refl, sym, append_assoc}
 use Rattle.std.proofs.lemmas.List.{append-nil}
-use Rattle.tui_port.proofs.Gathering.{Gathers-none, Gathers-then}
+use Rattle.tui_outside.proofs.Gathering.{Gathers-none, Gathers-then}
 use Rattle.tui_pager_run.specs.Printed.{key_line}
 use Rattle.tui_pager_run.proofs.KeyLines.{lines_end, lines_more}
 use Rattle.tui_pager_run.proofs.printing.add_states.Goals as goal

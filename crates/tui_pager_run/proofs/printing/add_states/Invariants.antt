@@ -1,5 +1,5 @@
 use Rattle.std.proofs.Common.{◌≡◌, ℕ, List, ◌++◌, drop}
-use Rattle.tui_port.specs.Gathers.{Gathers}
+use Rattle.tui_outside.specs.Gathers.{Gathers}
 use Rattle.tui_pager_run.specs.Printed.{key_lines}
 use Rattle.tui_pager_run.proofs.printing.add_states.Given as goal
 

@@ -1,4 +1,4 @@
-use Rattle.tui_port.proofs.Gathering.{Gathers-then, Gathers-writes}
+use Rattle.tui_outside.proofs.Gathering.{Gathers-then, Gathers-writes}
 use Rattle.tui_pager_run.proofs.printing.put_run.Goals as goal
 
 pub returns : goal.returns

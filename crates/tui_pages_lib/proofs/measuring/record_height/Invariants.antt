@@ -2,7 +2,7 @@ use Rattle.std.proofs.Common.{◌≡◌, map, drop, max}
 use Rattle.std.specs.Prelude.{fold}
 use Rattle.tui_pages_lib.specs.Heights.{record_height}
 use Rattle.tui_pages_lib.specs.Report.{cells_of}
-use Rattle.tui_text.specs.Width.{saturated}
+use Rattle.tui_clusters.specs.Width.{saturated}
 use Rattle.tui_pages_lib.proofs.Measured.{cut_counts}
 use Rattle.tui_pages_lib.proofs.measuring.record_height.Given as goal
 

@@ -1,5 +1,5 @@
 use Rattle.std.proofs.Common.{arith}
-use Rattle.tui_port.proofs.Gathering.{Gathers-none, Gathers-then}
+use Rattle.tui_outside.proofs.Gathering.{Gathers-none, Gathers-then}
 use Rattle.tui_pages_run.specs.Printed.{first_pages}
 use Rattle.tui_pages_run.proofs.PageRows.{body_is}
 use Rattle.tui_pages_run.proofs.Pages.{ended_early, ended_whole, one_more}

@@ -1,5 +1,5 @@
 use Rattle.std.proofs.Common.{[], true}
-use Rattle.tui_port.specs.Gathers.{Gathers}
+use Rattle.tui_outside.specs.Gathers.{Gathers}
 use Rattle.tui_pages_run.specs.Printed.{ShowsHead, first_pages}
 use Rattle.tui_pages_run.proofs.printing.print_pages.Given as goal
 

@@ -1,4 +1,4 @@
-use Rattle.tui_port.proofs.Gathering.{Gathers-then, Gathers-writes}
+use Rattle.tui_outside.proofs.Gathering.{Gathers-then, Gathers-writes}
 use Rattle.tui_pages_run.specs.Printed.{count_line}
 use Rattle.tui_pages_run.proofs.printing.put_count.Goals as goal
 

@@ -1,4 +1,4 @@
-use Rattle.tui_panes_lib.proofs.Apart.{stay_fresh}
+use Rattle.tui_panes_lib.proofs.StandApart.{stay_fresh}
 use Rattle.tui_panes_lib.proofs.laws.panes_laws.Goals as goal
 
 pub returns : goal.returns

@@ -1,4 +1,4 @@
-use Rattle.tui_panes_lib.proofs.PartsApart.{lie_apart}
+use Rattle.tui_panes_lib.proofs.LeavesApart.{lie_apart}
 use Rattle.tui_panes_lib.proofs.laws.tree_laws.Goals as goal
 
 pub returns : goal.returns

@@ -1,4 +1,4 @@
-use Rattle.tui_port.proofs.Gathering.{Gathers-then, Gathers-writes}
+use Rattle.tui_outside.proofs.Gathering.{Gathers-then, Gathers-writes}
 use Rattle.tui_panes_run.specs.Found.{leaf_line}
 use Rattle.tui_panes_run.proofs.finding.put_number.Goals as goal
 

@@ -3,13 +3,13 @@ use Rattle.std.specs.Prelude.{length}
 use Rattle.tui_text.specs.Grapheme.{glyph_of, glyph_width}
 use Rattle.tui_text.specs.Graphemes.{glyphs_left, line_graphemes}
 use Rattle.tui_text.specs.Line.{line_data}
-use Rattle.tui_para.specs.Counting.{cut_count, no_lines, steps}
+use Rattle.tui_para.specs.Counting.{saturated_count, no_lines, steps}
 use Rattle.tui_para.specs.Hyphenation.{marked_from}
-use Rattle.tui_para.specs.Hyphens.{glyph_rule, with_cuts, wrap}
+use Rattle.tui_para.specs.Hyphens.{glyph_rule, with_splits, wrap}
 use Rattle.tui_para.specs.Wrapped.{not_wider}
 use Rattle.tui_para.specs.declared.counting.counter.Counter.{Counter}
-use Rattle.tui_para.proofs.CutCounts.{begun_counts, cut_counts, one_read}
-use Rattle.tui_para.proofs.WithCuts.{counted_lines}
+use Rattle.tui_para.proofs.SaturatedCounts.{begun_counts, saturated_counts, one_read}
+use Rattle.tui_para.proofs.WithSplits.{counted_lines}
 use Rattle.tui_para.proofs.counting.line_count.Goals as goal
 
 pub loop-grapheme-init : goal.loop-grapheme-init
@@ -38,6 +38,6 @@ returns c =
     let rule = glyph_rule w way in
     let xs = line_graphemes c.args.base (line_data c.args.line.now) in
     let none : glyphs_left c.loop-grapheme.grapheme-iterator ≡ [] = c.in-None.ensures.steps.0 in
-    let same = ap (λ zs. cut_count (steps rule c.loop-grapheme.counter (marked_from c.loop-grapheme.hyphenation (not_wider glyph_width w zs)))) (sym none) ∙ c.loop-grapheme.invariant.numbers in
-    let e = cut_counts c.loop-grapheme.counter (steps rule no_lines (with_cuts way.hyphens [] (not_wider glyph_width w xs))) c.count.result (length (wrap w way xs)) same c.count.ensures (counted_lines w way xs) in
+    let same = ap (λ zs. saturated_count (steps rule c.loop-grapheme.counter (marked_from c.loop-grapheme.hyphenation (not_wider glyph_width w zs)))) (sym none) ∙ c.loop-grapheme.invariant.numbers in
+    let e = saturated_counts c.loop-grapheme.counter (steps rule no_lines (with_splits way.hyphens [] (not_wider glyph_width w xs))) c.count.result (length (wrap w way xs)) same c.count.ensures (counted_lines w way xs) in
     c.max.ensures ∙ e

@@ -3,7 +3,7 @@ use Rattle.std.proofs.lemmas.List.{take_all}
 use Rattle.tui_para.specs.Counting.{wrapped_len}
 use Rattle.tui_text.specs.Line.{LineData, line_data}
 use Rattle.tui_text.specs.Text.{text_data}
-use Rattle.tui_text.specs.Width.{saturated}
+use Rattle.tui_clusters.specs.Width.{saturated}
 use Rattle.tui_para.proofs.counting.wrapped_count.Goals as goal
 
 pub returns : goal.returns

@@ -1,7 +1,7 @@
 use Rattle.std.proofs.Common.{◌≡◌, sum_by, map, take}
 use Rattle.tui_para.specs.Counting.{wrapped_len}
 use Rattle.tui_text.specs.Line.{line_data}
-use Rattle.tui_text.specs.Width.{saturated}
+use Rattle.tui_clusters.specs.Width.{saturated}
 use Rattle.tui_para.proofs.counting.wrapped_count.Given as goal
 
 abbrev pub invariant-loop-line : goal.invariant-loop-line

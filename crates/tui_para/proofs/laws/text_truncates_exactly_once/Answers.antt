@@ -1,4 +1,4 @@
-use Rattle.tui_para.proofs.TextCut.{text_truncates_once}
+use Rattle.tui_para.proofs.TextOnce.{text_truncates_once}
 use Rattle.tui_para.proofs.laws.text_truncates_exactly_once.Goals as goal
 
 pub returns : goal.returns

@@ -1,12 +1,12 @@
-use Rattle.tui_para.specs.Wrapping.{TruncatorCuts, TruncatorMayLend, truncator_answers}
+use Rattle.tui_para.specs.Wrapping.{TruncatorLines, TruncatorMayLend, truncator_answers}
 use Rattle.tui_para.proofs.LinesAgree.{the_known, truncator_agrees}
-use Rattle.tui_para.proofs.LinesExist.{lines_exist, truncator_cuts}
+use Rattle.tui_para.proofs.LinesExist.{lines_exist, truncator_lines}
 use Rattle.tui_para.proofs.laws.truncator_lends_some.Goals as goal
 
 pub returns-clause-some : goal.returns-clause-some
 returns-clause-some g c =
     let s = c.args.truncator in
-    lines_exist (truncator_answers g.O.Iterator.next_gives g.I.Iterator.next_gives s).may (TruncatorCuts s) (truncator_cuts s) c.read_to_end.ensures s.width
+    lines_exist (truncator_answers g.O.Iterator.next_gives g.I.Iterator.next_gives s).may (TruncatorLines s) (truncator_lines s) c.read_to_end.ensures s.width
 
 pub returns-clause-known : goal.returns-clause-known
 returns-clause-known g c = λ known will.

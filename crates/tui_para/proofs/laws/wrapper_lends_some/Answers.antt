@@ -1,6 +1,6 @@
-use Rattle.tui_para.specs.Wrapping.{WrapperCuts, WrapperMayLend, wrapper_answers}
+use Rattle.tui_para.specs.Wrapping.{WrapperLines, WrapperMayLend, wrapper_answers}
 use Rattle.tui_para.proofs.LinesAgree.{the_known, wrapper_agrees}
-use Rattle.tui_para.proofs.LinesExist.{lines_exist, wrapper_cuts}
+use Rattle.tui_para.proofs.LinesExist.{lines_exist, wrapper_lines}
 use Rattle.tui_para.proofs.laws.wrapper_lends_some.Goals as goal
 
 pub returns-clause-some : goal.returns-clause-some
@@ -8,7 +8,7 @@ returns-clause-some g c =
     let s = c.args.wrapper in
     let (glyphs, source) = c.read_to_end.ensures.source in
     let (ts, texts) = c.read_to_end.ensures.lines in
-    lines_exist (wrapper_answers g.O.Iterator.next_gives g.I.Iterator.next_gives s).may (WrapperCuts s) (wrapper_cuts s) ((glyphs, ts), (source, texts)) s.current.width
+    lines_exist (wrapper_answers g.O.Iterator.next_gives g.I.Iterator.next_gives s).may (WrapperLines s) (wrapper_lines s) ((glyphs, ts), (source, texts)) s.current.width
 
 pub returns-clause-known : goal.returns-clause-known
 returns-clause-known g c = λ known will.

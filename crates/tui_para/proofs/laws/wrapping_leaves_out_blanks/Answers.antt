@@ -1,4 +1,4 @@
-use Rattle.tui_para.proofs.WithCuts.{wrapping_leaves}
+use Rattle.tui_para.proofs.WithSplits.{wrapping_leaves}
 use Rattle.tui_para.proofs.laws.wrapping_leaves_out_blanks.Goals as goal
 
 pub returns : goal.returns

@@ -1,4 +1,4 @@
-use Rattle.tui_para.proofs.WithCuts.{exactly_one}
+use Rattle.tui_para.proofs.WithSplits.{exactly_one}
 use Rattle.tui_para.proofs.laws.wraps_exactly_once.Goals as goal
 
 pub returns : goal.returns

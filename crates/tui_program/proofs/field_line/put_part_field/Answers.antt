@@ -1,4 +1,4 @@
-use Rattle.tui_port.proofs.Gathering.{Gathers-then, Gathers-writes}
+use Rattle.tui_outside.proofs.Gathering.{Gathers-then, Gathers-writes}
 use Rattle.tui_program.specs.FieldLine.{refused_in_scene}
 use Rattle.tui_program.proofs.field_line.put_part_field.Goals as goal
 

@@ -3,13 +3,13 @@ use Rattle.std.specs.Prelude.{is_ok}
 use Rattle.serde_json.specs.View.{view}
 use Rattle.tui_program.specs.Endings.{IsDueFor, IsPart}
 use Rattle.tui_program.specs.declared.written.Written.TheVariants as written
-use Rattle.tui_port.proofs.Gathering.{Writes-puts}
+use Rattle.tui_outside.proofs.Gathering.{Writes-puts}
 use Rattle.tui_program.proofs.Endings.{put_first, put_or_fault}
 use Rattle.tui_program.proofs.job.run_value.Goals as goal
 
 pub returns-in-Err-Refused : goal.returns-in-Err-Refused
 returns-in-Err-Refused g c =
-    let r = g.J.Job.reading c.args.job.now in
+    let r = g.J.Job.job_rules c.args.job.now in
     let d = view c.args.value.now in
     let x = c.in-Err-Refused.refusal in
     let answer = rw c.in-Err-Refused.field-0-is at c.in-Err-Refused.ensures in

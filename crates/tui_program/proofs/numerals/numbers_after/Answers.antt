@@ -9,9 +9,9 @@ returns-then-begin c =
     let v = c.index-words-1.result in
     let w = c.index-words-2.result in
     let are = three_words ws v w word (c.begin.ensures.0 c.if-begin.true) c.index-words-1.is c.index-words-2.is in
-    let first = rw c.as_str.ensures.value at c.number_of-first.ensures in
-    let second = rw c.as_str-then-begin.ensures.value at c.number_of.ensures in
-    rw c.zip.ensures (only_numbers ws (string_bytes v) (string_bytes w) word c.args.allowed c.number_of-first.result c.number_of.result are
+    let first = rw c.as_str.ensures.value at c.number_in-first.ensures in
+    let second = rw c.as_str-then-begin.ensures.value at c.number_in.ensures in
+    rw c.zip.ensures (only_numbers ws (string_bytes v) (string_bytes w) word c.args.allowed c.number_in-first.result c.number_in.result are
     first.some first.none second.some second.none)
 
 pub returns-else-begin : goal.returns-else-begin

@@ -2,7 +2,8 @@ use Rattle.std.proofs.Common.{◌≡◌, [], arith, length}
 use Rattle.tui_text.proofs.Elements.{if_ok}
 use Rattle.tui_text.proofs.PaintedRuns.{painted_first}
 use Rattle.tui_text.proofs.RowStrokes.{shown_then}
-use Rattle.tui_text.proofs.Runs.{light_behind, run_alone}
+use Rattle.tui_clusters.proofs.Runs.{run_alone}
+use Rattle.tui_text.proofs.Runs.{light_behind}
 use Rattle.tui_text.proofs.row.paint_clusters.Goals as goal
 
 pub returns-then-is_empty-clause-shown : goal.returns-then-is_empty-clause-shown

@@ -2,7 +2,8 @@ use Rattle.std.proofs.Common.{All, ap, arith, flat_map, map, refl}
 use Rattle.tui_cells.specs.Cell.{IsLight}
 use Rattle.tui_cells.specs.Style.{no_style}
 use Rattle.tui_cells.proofs.Painting.{KeptOutside-then}
-use Rattle.tui_text.specs.Graphemes.{clusters, span_graphemes}
+use Rattle.tui_clusters.specs.Shown.{clusters}
+use Rattle.tui_text.specs.Graphemes.{span_graphemes}
 use Rattle.tui_text.specs.Span.{span_data}
 use Rattle.tui_text.proofs.Elements.{none_from, seen_at, seen_from}
 use Rattle.tui_text.proofs.PaintedRuns.{painted_span}

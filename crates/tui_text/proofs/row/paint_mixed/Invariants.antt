@@ -2,7 +2,9 @@ use Rattle.std.proofs.Common.{All, List, length, map, ◌++◌}
 use Rattle.tui_cells.specs.Cell.{IsLight}
 use Rattle.tui_cells.specs.Layers.{KeptOutside}
 use Rattle.tui_text.specs.Grapheme.{Glyph}
-use Rattle.tui_text.specs.Graphemes.{clusters, clusters_left, glyph_in}
+use Rattle.tui_clusters.specs.Clusters.{clusters_left}
+use Rattle.tui_clusters.specs.Shown.{clusters}
+use Rattle.tui_text.specs.Graphemes.{glyph_in}
 use Rattle.tui_text.specs.Painting.{line_part}
 use Rattle.tui_text.specs.Row.{ShownUpTo}
 use Rattle.tui_text.proofs.row.paint_mixed.Given as goal

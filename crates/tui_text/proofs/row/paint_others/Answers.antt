@@ -3,7 +3,7 @@ use Rattle.std.proofs.lemmas.List.Elements.{All-head}
 use Rattle.tui_cells.specs.Cell.{IsLight}
 use Rattle.tui_text.proofs.Elements.{if_ok}
 use Rattle.tui_text.proofs.PaintedRuns.{painted_next}
-use Rattle.tui_text.proofs.PlainParts.{lone_cluster}
+use Rattle.tui_clusters.proofs.Seams.{lone_cluster}
 use Rattle.tui_text.proofs.row.paint_others.Goals as goal
 
 pub returns-then-is_plain_char-clause-shown : goal.returns-then-is_plain_char-clause-shown

@@ -1,9 +1,10 @@
 use Rattle.std.proofs.Common.{◌≡◌, ◌∙◌, arith, length, refl, rules, sym}
 use Rattle.tui_cells.proofs.Painting.{KeptOutside-then}
 use Rattle.tui_text.proofs.Elements.{if_ok, on_ok}
-use Rattle.tui_text.proofs.LightTexts.{printable_ascii}
-use Rattle.tui_text.proofs.Runs.{clusters-none, end_spelt, kept_spelt, light_behind, set_spelt}
-use Rattle.tui_text.proofs.Settings.{end_none, kept_in, set_none}
+use Rattle.tui_clusters.proofs.OneByte.{printable_ascii}
+use Rattle.tui_clusters.proofs.EmptyText.{clusters-none}
+use Rattle.tui_text.proofs.Runs.{end_spelt, kept_spelt, light_behind, set_spelt}
+use Rattle.tui_text.proofs.Settings.{end_none, kept_rest, kept_run, set_none}
 use Rattle.tui_text.proofs.setting.set_clusters.Goals as goal
 
 pub set_bytes-requires : goal.set_bytes-requires
@@ -24,7 +25,10 @@ returns-then-is_empty-clause-end c =
 
 pub returns-then-is_empty-clause-kept : goal.returns-then-is_empty-clause-kept
 returns-then-is_empty-clause-kept c =
-    kept_spelt c.args.at.x c.args.at.y c.args.room c.args.style c.split_run.result.0.now _ _ (search rules) c.set_bytes.ensures
+    let run = c.split_run.result.0.now in
+    kept_run c.args.at.x c.args.at.x c.args.room _ _ c.args.at.y _ _ _ (omega arith)
+    (end_spelt c.args.at.x c.args.room _ run _ _ c.split_run.ensures.clusters c.split_run.ensures.printable (search rules) refl)
+    (kept_spelt c.args.at.x c.args.at.y _ c.args.style run _ _ (omega arith) c.set_bytes.ensures)
 
 pub returns-clause-ok : goal.returns-clause-ok
 returns-clause-ok c = on_ok c.set_others.result
@@ -37,9 +41,14 @@ returns-clause-end c = if_ok c.set_others.result
     c.set_others.ensures.end
 
 pub returns-clause-kept : goal.returns-clause-kept
-returns-clause-kept c = KeptOutside-then
-    (kept_spelt c.args.at.x c.args.at.y c.args.room c.args.style c.split_run.result.0.now _ _ (search rules) c.set_bytes.ensures)
-    (kept_in c.args.at.x _ _ c.args.room _ _ _ (omega arith) (search (rules, arith)) c.set_others.ensures.kept)
+returns-clause-kept c =
+    let run = c.split_run.result.0.now in
+    KeptOutside-then
+    (kept_run c.args.at.x c.args.at.x c.args.room _ _ c.args.at.y _ _ _ (omega arith)
+    (end_spelt c.args.at.x c.args.room _ run _ _ c.split_run.ensures.clusters c.split_run.ensures.printable (search rules) refl)
+    (kept_spelt c.args.at.x c.args.at.y _ c.args.style run _ _ (omega arith) c.set_bytes.ensures))
+    (kept_rest c.args.at.x _ _ _ c.args.at.y _ _ _ (omega arith) c.set_others.ensures.kept
+    (end_spelt c.args.at.x c.args.room _ run _ _ c.split_run.ensures.clusters c.split_run.ensures.printable (search rules) (search rules)))
 
 pub returns-clause-light : goal.returns-clause-light
 returns-clause-light c = λ all. c.set_others.ensures.light (light_behind c.split_run.result.0.now _ _ c.split_run.ensures.clusters all)

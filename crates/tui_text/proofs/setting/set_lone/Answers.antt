@@ -1,8 +1,8 @@
 use Rattle.std.proofs.Common.{[], All, arith, refl, subst, sym, ◌+◌, ◌∙◌}
 use Rattle.std.proofs.lemmas.List.Elements.{All-head}
 use Rattle.tui_cells.specs.Cell.{IsLight}
-use Rattle.tui_text.proofs.PlainParts.{lone_cluster}
-use Rattle.tui_text.proofs.Settings.{end_more, end_none, end_stop, set_more, set_none, set_stop}
+use Rattle.tui_clusters.proofs.Seams.{lone_cluster}
+use Rattle.tui_text.proofs.Settings.{end_more, end_none, end_stop, kept_first, set_more, set_none, set_stop}
 use Rattle.tui_text.proofs.setting.set_lone.Goals as goal
 
 pub returns-then-width-room-clause-ok : goal.returns-then-width-room-clause-ok
@@ -33,3 +33,13 @@ returns-clause-end c =
     let next = c.args.at.x + c.cell_width-width.result in
     sym (end_none next _ [] refl)
     ∙ end_more c.args.at.x c.args.room next _ _ c.args.text.now [] (lone_cluster c.args.text.now c.requires.plain) (omega (arith, wide, room)) (omega (arith, wide)) refl
+
+pub returns-in_err-put_cluster-clause-kept : goal.returns-in_err-put_cluster-clause-kept
+returns-in_err-put_cluster-clause-kept c =
+    kept_first c.args.at.x c.args.at.x c.args.room _ _ c.args.at.y _ c.args.text.now [] _ _ (omega arith) (lone_cluster c.args.text.now c.requires.plain)
+    c.cell_width-width.ensures c.if-width-room.false refl c.in_err-put_cluster.ensures.kept
+
+pub returns-clause-kept : goal.returns-clause-kept
+returns-clause-kept c =
+    kept_first c.args.at.x c.args.at.x c.args.room _ _ c.args.at.y _ c.args.text.now [] _ _ (omega arith) (lone_cluster c.args.text.now c.requires.plain)
+    c.cell_width-width.ensures c.if-width-room.false refl c.in_ok-put_cluster.ensures.kept

@@ -1,6 +1,7 @@
 use Rattle.std.proofs.Common.{rules}
-use Rattle.tui_text.proofs.LightTexts.{printable_ascii}
-use Rattle.tui_text.proofs.Runs.{end_spelt, fewer_behind, kept_spelt, light_behind, set_spelt}
+use Rattle.tui_clusters.proofs.OneByte.{printable_ascii}
+use Rattle.tui_clusters.proofs.Runs.{fewer_behind}
+use Rattle.tui_text.proofs.Runs.{end_spelt, kept_spelt, light_behind, set_spelt}
 use Rattle.tui_text.proofs.setting.set_run.Goals as goal
 
 pub set_bytes-requires : goal.set_bytes-requires
@@ -15,7 +16,7 @@ returns-clause-end c = end_spelt c.args.at.x c.args.room _ c.next_run-run.result
     c.next_run-run.ensures.clusters c.next_run-run.ensures.printable (search rules) (search rules)
 
 pub returns-clause-kept : goal.returns-clause-kept
-returns-clause-kept c = kept_spelt c.args.at.x c.args.at.y c.args.room c.args.style c.next_run-run.result.now _ _ (search rules) c.set_bytes.ensures
+returns-clause-kept c = kept_spelt c.args.at.x c.args.at.y _ c.args.style c.next_run-run.result.now _ _ (search rules) c.set_bytes.ensures
 
 pub returns-clause-light : goal.returns-clause-light
 returns-clause-light c = light_behind c.next_run-run.result.now _ _ c.next_run-run.ensures.clusters

@@ -1,4 +1,4 @@
-use Rattle.std.proofs.Common.{◌≡◌, ◌+◌, ◌≤◌, drop, map}
+use Rattle.std.proofs.Common.{◌≡◌, ◌+◌, ◌-◌, ◌≤◌, drop, map}
 use Rattle.tui_cells.specs.Rect.{covers}
 use Rattle.tui_cells.specs.Buffer.{Screen}
 use Rattle.tui_cells.specs.Layers.{KeptOutside, Painted}
@@ -16,5 +16,5 @@ invariant-loop-span l = record {
       ≡ spans_end l.at.x l.room (map (in_line l.style) (map span_data l.spans));
   rest : (final : Screen) → Painted (spans_layers l.x l.at.y l.left (map (in_line l.style) (map span_data (drop l.span-index l.spans)))) l.buf final
       → Painted (spans_layers l.at.x l.at.y l.room (map (in_line l.style) (map span_data l.spans))) l.fn.buf final;
-  kept : KeptOutside (covers (cells_at l.at.x l.at.y l.room)) l.fn.buf l.buf;
+  kept : KeptOutside (covers (cells_at l.at.x l.at.y (spans_end l.at.x l.room (map (in_line l.style) (map span_data l.spans)) - l.at.x))) l.fn.buf l.buf;
 }

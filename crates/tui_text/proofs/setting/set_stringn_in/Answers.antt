@@ -1,9 +1,10 @@
 use Rattle.std.proofs.Common.{All, [], rules, sym, ◌∙◌}
 use Rattle.std.proofs.lemmas.List.Elements.{All-head}
 use Rattle.tui_cells.specs.Cell.{IsLight}
-use Rattle.tui_text.specs.Graphemes.{clusters}
+use Rattle.tui_clusters.specs.Shown.{clusters}
+use Rattle.tui_text.specs.Setting.{styled_text}
 use Rattle.tui_text.proofs.Elements.{if_ok, on_ok}
-use Rattle.tui_text.proofs.Settings.{column_in, kept_in_clip, kept_part, one_end, one_span, set_in}
+use Rattle.tui_text.proofs.Settings.{column_in, kept_in_clip, kept_part, one_end, one_kept, one_span, set_in}
 use Rattle.tui_text.proofs.setting.set_stringn_in.Goals as goal
 
 pub returns-clause-ok : goal.returns-clause-ok
@@ -15,10 +16,12 @@ returns-clause-end c =
     if_ok c.set_clusters.result (λ x p. column_in _ c.args.at _ c.args.room _ x (search rules) (search rules) (p ∙ sym (one_end _ _ _))) c.set_clusters.ensures.end
 
 pub returns-clause-kept : goal.returns-clause-kept
-returns-clause-kept c = kept_in_clip _ _ _ _ _ _ (search rules) (search rules) c.set_clusters.ensures.kept
+returns-clause-kept c = kept_in_clip c.args.clip c.args.at (styled_text c.args.text.now c.args.style) c.args.room _ _ _ (search rules) (search rules)
+    (one_kept _ _ _ _ _ _ c.set_clusters.ensures.kept)
 
 pub returns-clause-part : goal.returns-clause-part
-returns-clause-part c = kept_part _ _ _ _ _ _ (search rules) (search rules) c.set_clusters.ensures.kept
+returns-clause-part c = kept_part c.args.clip c.args.at (styled_text c.args.text.now c.args.style) c.args.room _ _ _ (search rules) (search rules)
+    (one_kept _ _ _ _ _ _ c.set_clusters.ensures.kept)
 
 pub returns-clause-light : goal.returns-clause-light
 returns-clause-light c all = c.set_clusters.ensures.light (All-head (λ s. All IsLight (clusters s.content)) (record { content = c.args.text.now; style = c.args.style }) [] all)

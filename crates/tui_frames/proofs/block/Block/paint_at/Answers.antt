@@ -7,6 +7,6 @@ use Rattle.tui_frames.proofs.block.Block.paint_at.Goals as goal
 pub returns-clause-ok : goal.returns-clause-ok
 returns-clause-ok c =
     let here : is_in (block_data c.args.self.now) c.args.place (title_data c.args.title.now) ≡ true = sym c.is_in.ensures ∙ search rules in
-    from_more (block_data c.args.self.now) c.args.clip c.args.strip c.columns_from-part.result c.args.column c.title_width-width.result _ _ c.args.place
+    from_more (block_data c.args.self.now) c.args.strip.clip c.args.strip.row c.columns_from-part.result c.args.column c.title_width-width.result _ _ c.args.place
     (title_data c.args.title.now) _ _ here c.title_width-width.ensures c.columns_from-part.ensures
     (rw c.line_alignment.ensures at c.unwrap_or-alignment.ensures) (omega arith) c.in_ok-paint_title.ensures.ok

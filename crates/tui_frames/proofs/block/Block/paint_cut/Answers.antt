@@ -9,7 +9,7 @@ use Rattle.tui_frames.proofs.block.Block.paint_cut.Goals as goal
 
 pub returns-then-column-from-clause-ok : goal.returns-then-column-from-clause-ok
 returns-then-column-from-clause-ok c =
-    c.loop-title.invariant.rest _ (cut_ended (block_data c.args.self.now) c.args.clip c.args.strip c.args.cut c.loop-title.column _ _ (omega arith))
+    c.loop-title.invariant.rest _ (cut_ended (block_data c.args.self.now) c.args.strip.clip c.args.strip.row c.args.cut c.loop-title.column _ _ (omega arith))
 
 pub returns-in_err-column-clause-light : goal.returns-in_err-column-clause-light
 returns-in_err-column-clause-light c light =
@@ -25,8 +25,8 @@ loop-title-preserved c =
     let at = rw c.deref-title-items.ensures.value at c.title-item.is in
     record {
       rest = λ final q. c.loop-title.invariant.rest final
-          (one_more (titles_cut b c.args.clip c.args.strip c.args.cut c.loop-title.column)
-          (titles_cut b c.args.clip c.args.strip c.args.cut c.in_ok-column.column) b c.args.place
+          (one_more (titles_cut b c.args.strip.clip c.args.strip.row c.args.cut c.loop-title.column)
+          (titles_cut b c.args.strip.clip c.args.strip.row c.args.cut c.in_ok-column.column) b c.args.place
           c.args.self.now.titles.items c.loop-title.title-index c.title-item.result _ _ _ final (omega arith) at c.in_ok-column.ensures.ok q);
       kept = KeptOutside-then c.loop-title.invariant.kept c.in_ok-column.ensures.kept;
     }
@@ -34,5 +34,5 @@ loop-title-preserved c =
 pub returns-clause-ok : goal.returns-clause-ok
 returns-clause-ok c =
     c.loop-title.invariant.rest _
-    (cut_done (block_data c.args.self.now) c.args.clip c.args.strip c.args.cut c.loop-title.column c.args.place
+    (cut_done (block_data c.args.self.now) c.args.strip.clip c.args.strip.row c.args.cut c.loop-title.column c.args.place
     c.args.self.now.titles.items c.loop-title.title-index _ (omega arith))

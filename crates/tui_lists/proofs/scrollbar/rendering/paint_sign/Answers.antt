@@ -1,7 +1,7 @@
 use Rattle.std.proofs.Common.{All, []}
 use Rattle.std.proofs.lemmas.List.Elements.{All-cons, All-nil}
 use Rattle.tui_cells.specs.Cell.{IsLight}
-use Rattle.tui_text.specs.Graphemes.{clusters}
+use Rattle.tui_clusters.specs.Shown.{clusters}
 use Rattle.tui_text.specs.Span.{SpanData}
 use Rattle.tui_lists.proofs.scrollbar.rendering.paint_sign.Goals as goal
 

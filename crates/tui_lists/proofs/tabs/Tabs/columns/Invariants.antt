@@ -1,7 +1,7 @@
 use Rattle.std.proofs.Common.{◌≡◌, map, sum_by, take}
 use Rattle.tui_lists.specs.Tabs.{tab_width, tabs_data}
 use Rattle.tui_text.specs.Line.{line_data}
-use Rattle.tui_text.specs.Width.{saturated}
+use Rattle.tui_clusters.specs.Width.{saturated}
 use Rattle.tui_lists.proofs.tabs.Tabs.columns.Given as goal
 
 abbrev pub invariant-loop-title : goal.invariant-loop-title

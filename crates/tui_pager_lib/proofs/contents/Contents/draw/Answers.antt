@@ -1,31 +1,35 @@
-use Rattle.std.proofs.Common.{◌∙◌, ap, length, map, subst, sym, List}
-use Rattle.std.specs.Prelude.{OnOk}
-use Rattle.std.proofs.lemmas.List.{length-map}
-use Rattle.tui_pager_lib.specs.Entry.{EntryData, entry_data}
-use Rattle.tui_pager_lib.specs.Laws.{IsPlace}
-use Rattle.tui_pager_lib.specs.Lines.{HavePlaces}
-use Rattle.tui_pager_lib.specs.Screen.{IsDrawn, page_area, pager_layers, titles_list}
+use Rattle.std.proofs.Common.{◌∙◌, ap, refl}
+use Rattle.tui_pager_lib.specs.Screen.{titles_list}
+use Rattle.tui_pager_lib.proofs.BodyPlaces.{count_is, within_of}
+use Rattle.tui_pager_lib.proofs.PagerDrawn.{pager_drawn}
+use Rattle.tui_pager_lib.proofs.Stepping.{most_is}
 use Rattle.tui_pager_lib.proofs.contents.Contents.draw.Goals as goal
 
-pub draw_screen-requires-clause-titles : goal.draw_screen-requires-clause-titles
-draw_screen-requires-clause-titles c = c.self.invariant.list_is ∙ ap (λ es. titles_list (map entry_data es)) (sym c.deref.ensures.value)
+pub draw_titles-requires : goal.draw_titles-requires
+draw_titles-requires c = c.in_ok-wipe_page.ensures.area_is
 
-pub draw_screen-requires-clause-place : goal.draw_screen-requires-clause-place
-draw_screen-requires-clause-place c =
-    let here = ap (map entry_data) c.deref.ensures.value ∙ c.self.view_is in
-    subst (λ n. IsPlace n c.args.state.selected) (ap length (sym here) ∙ length-map c.deref.result.now entry_data) c.requires.place
+pub draw_body-requires-clause-area : goal.draw_body-requires-clause-area
+draw_body-requires-clause-area c = c.in_ok-draw_titles.ensures.area ∙ c.in_ok-wipe_page.ensures.area_is
 
-pub draw_screen-requires-clause-places : goal.draw_screen-requires-clause-places
-draw_screen-requires-clause-places c =
-    let here = ap (map entry_data) c.deref.ensures.value ∙ c.self.view_is in
-    subst (λ (es : List EntryData). HavePlaces es c.args.width c.args.state.selected c.args.places.now) (sym here) c.requires.places
+pub draw_body-requires-clause-places : goal.draw_body-requires-clause-places
+draw_body-requires-clause-places c =
+    within_of c.args.self.now c.args.size.width c.args.state.selected _ c.args.places.now c.body-body.ensures c.requires.places
+
+pub draw_bar-requires : goal.draw_bar-requires
+draw_bar-requires c = c.in_ok-draw_body.ensures.area ∙ (c.in_ok-draw_titles.ensures.area ∙ c.in_ok-wipe_page.ensures.area_is)
+
+pub draw_place-requires-clause-area : goal.draw_place-requires-clause-area
+draw_place-requires-clause-area c =
+    c.in_ok-draw_bar.ensures.area ∙ (c.in_ok-draw_body.ensures.area ∙ (c.in_ok-draw_titles.ensures.area ∙ c.in_ok-wipe_page.ensures.area_is))
 
 pub returns : goal.returns
 returns c =
-    let here = ap (map entry_data) c.deref.ensures.value ∙ c.self.view_is in
-    subst (λ (es : List EntryData). OnOk c.draw_screen.result (IsDrawn (pager_layers (record {
-      width = c.args.width;
-      height = c.args.height;
-      entries = es;
-      state = c.args.state;
-    })) (page_area c.args.width c.args.height) c.draw_screen.new.screen)) here c.draw_screen.ensures
+    let entries = c.args.self.now in
+    let size = c.args.size in
+    let selected = c.args.state.selected in
+    let count = count_is entries size.width selected c.args.places.now c.requires.place c.requires.places in
+    let most = most_is entries size.width size.height selected _ _ c.greatest_line-most.ensures count in
+    pager_drawn (record { width = size.width; height = size.height; entries = entries; state = c.args.state })
+    _ _ _ _ _ _ _ _ _ _ (c.self.invariant.list_is ∙ ap titles_list c.self.view_is) c.body-body.ensures most c.len.ensures refl
+    c.in_ok-wipe_page.ensures c.in_ok-draw_titles.ensures c.in_ok-draw_body.ensures c.in_ok-draw_bar.ensures c.in_ok-draw_place.ensures
+    c.height-height.ensures.shape

@@ -8,4 +8,4 @@ pub show-requires-clause-sound : goal.show-requires-clause-sound
 show-requires-clause-sound c =
     let entries = c.args.contents.now in
     let s = c.args.self.now in
-    sound_as entries s.width s.height _ _ c.after_key-state.ensures.is (call_sound (pager_data entries s) (press c.args.key) c.requires.sound)
+    sound_as entries s.size.width s.size.height _ _ c.after_key-state.ensures.is (call_sound (pager_data entries s) (press c.args.key) c.requires.sound)

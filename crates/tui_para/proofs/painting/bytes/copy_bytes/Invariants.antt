@@ -1,7 +1,7 @@
 use Rattle.std.proofs.Common.{◌≡◌, ◌+◌, ◌-◌, ◌≤◌, ◌++◌, drop, map, take, true}
 use Rattle.std.specs.List.{list_all}
 use Rattle.tui_text.specs.Grapheme.{glyph_of}
-use Rattle.tui_text.specs.Part.{is_printable}
+use Rattle.tui_clusters.specs.Printable.{is_printable}
 use Rattle.tui_para.specs.Strokes.{byte_glyph}
 use Rattle.tui_para.proofs.painting.bytes.copy_bytes.Given as goal
 

@@ -1,7 +1,7 @@
 use Rattle.std.proofs.Common.{◌≡◌, ap, sym, ◌∙◌}
 use Rattle.tui_para.specs.Counting.{wrapped_len, wrapped_text_len}
 use Rattle.tui_text.specs.Text.{text_data}
-use Rattle.tui_text.specs.Width.{saturated}
+use Rattle.tui_clusters.specs.Width.{saturated}
 use Rattle.tui_para.proofs.TextLengths.{length-shown, fewest_of_text}
 use Rattle.tui_para.proofs.paragraph.Paragraph.lines_at.Goals as goal
 

@@ -3,7 +3,7 @@ use Rattle.tui_cells.proofs.Painting.{Painted-then, Painted-empty}
 use Rattle.tui_para.specs.Paragraph.{paragraph_data}
 use Rattle.tui_para.specs.Rendering.{content_layers}
 use Rattle.tui_para.specs.Stays.{content_stays}
-use Rattle.tui_para.proofs.TextCut.{on_ok}
+use Rattle.tui_para.proofs.TextOnce.{on_ok}
 use Rattle.tui_para.proofs.paragraph.Paragraph.paint_content.Goals as goal
 
 pub returns-then-is_empty-clause-ok : goal.returns-then-is_empty-clause-ok

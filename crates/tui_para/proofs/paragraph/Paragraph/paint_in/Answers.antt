@@ -4,7 +4,7 @@ use Rattle.tui_frames.specs.InBlockStays.{nowhere_if}
 use Rattle.tui_frames.proofs.InBlock.{inner_kept}
 use Rattle.tui_para.specs.Paragraph.{paragraph_data}
 use Rattle.tui_para.specs.Stays.{paragraph_stays}
-use Rattle.tui_para.proofs.TextCut.{on_ok}
+use Rattle.tui_para.proofs.TextOnce.{on_ok}
 use Rattle.tui_para.proofs.paragraph.Paragraph.paint_in.Goals as goal
 
 pub returns-then-is_empty-clause-ok : goal.returns-then-is_empty-clause-ok

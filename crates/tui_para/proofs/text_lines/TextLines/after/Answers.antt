@@ -3,7 +3,7 @@ use Rattle.std.proofs.lemmas.List.{drop-map}
 use Rattle.tui_text.specs.Line.{line_data}
 use Rattle.tui_text.specs.Text.{text_data}
 use Rattle.tui_para.specs.WrappedText.{text_glyph_line}
-use Rattle.tui_para.proofs.TextCut.{glyph_lines_will}
+use Rattle.tui_para.proofs.TextOnce.{glyph_lines_will}
 use Rattle.tui_para.proofs.text_lines.TextLines.after.Goals as goal
 
 pub returns-clause-left : goal.returns-clause-left

@@ -1,7 +1,7 @@
 use Rattle.std.proofs.Common.{map, refl, ◌∙◌}
 use Rattle.tui_text.specs.Grapheme.{glyph_of}
 use Rattle.tui_para.proofs.Answering.{AllReady-first, AllReady-step, line_ended}
-use Rattle.tui_para.proofs.CutLines.{line_cut, none_left}
+use Rattle.tui_para.proofs.TruncatedLines.{line_truncated, none_left}
 use Rattle.tui_para.proofs.Lending.{positive}
 use Rattle.tui_para.proofs.truncator.LineTruncator.advance.Goals as goal
 
@@ -28,6 +28,6 @@ returns-in-Ok-clause-found g c =
     let (all, drains, read) = c.in-Ok.ensures.line in
     record {
       columns = c.in-Ok.ensures.columns;
-      first = line_cut g.O.Iterator.next_gives g.I.Iterator.next_gives c.args.self.now (positive _ _ refl c.if-self-eq0.false) c.next.new.self c.in-Some.line c.in-Some.alignment all (map glyph_of c.refill.new.shown.items)
-          c.if-self-2.false c.in-Some.ensures.steps drains (read ∙ c.new-cut.ensures (map glyph_of all));
+      first = line_truncated g.O.Iterator.next_gives g.I.Iterator.next_gives c.args.self.now (positive _ _ refl c.if-self-eq0.false) c.next.new.self c.in-Some.line c.in-Some.alignment all (map glyph_of c.refill.new.shown.items)
+          c.if-self-2.false c.in-Some.ensures.steps drains (read ∙ c.new-truncation.ensures (map glyph_of all));
     }

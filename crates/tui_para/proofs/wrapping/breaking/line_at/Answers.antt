@@ -17,7 +17,7 @@ loop-i-preserved c =
     let i = c.loop-i.i in
     let near = c.loop-i-test.true in
     let fits = c.if-mark-room.false in
-    let m : Mark = get_or ms i (record { width = 0; blank = false; cut = false }) in
+    let m : Mark = get_or ms i (record { width = 0; blank = false; split = false }) in
     let more : sum_by size_of (take (i + 1) ms) ≡ sum_by size_of (take i ms) + m.width = ap (sum_by size_of) (take_more ms i _ near) ∙ sum_by_push size_of (take i ms) m in
     let room = c.loop-i.invariant.room in
     record {

@@ -13,7 +13,7 @@ returns-then-not-marks-place-clause-len c =
     let near = c.loop-back-test.true in
     let within = c.requires.within in
     let ends = sym c.ends_piece.ensures ∙ c.if-ends_piece.true in
-    let d : Mark = record { width = 0; blank = false; cut = false } in
+    let d : Mark = record { width = 0; blank = false; split = false } in
     ends_there ends_before is_blank size_of c.args.marks.now c.args.here.len (c.args.here.len - c.loop-back.back) d d (omega arith) (omega arith) ends (search rules) c.loop-back.invariant.ended
 
 pub loop-back-preserved : goal.loop-back-preserved
@@ -22,7 +22,7 @@ loop-back-preserved c =
     let near = c.loop-back-test.true in
     let within = c.requires.within in
     let place = c.args.here.len - c.loop-back.back in
-    let d : Mark = record { width = 0; blank = false; cut = false } in
+    let d : Mark = record { width = 0; blank = false; split = false } in
     let m : Mark = get_or ms (place - 1) d in
     let none : (ends_before (get_or ms place d) ≡ false) ⊎ (m.blank ≡ true) = elim c.else-ends_piece.branch [
       | else-ends_piece-via-then-ends_piece+else-not-marks-place w ↦ inr (search rules)

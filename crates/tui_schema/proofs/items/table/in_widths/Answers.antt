@@ -1,4 +1,4 @@
-use Rattle.std.proofs.Common.{Err, ap, refl}
+use Rattle.std.proofs.Common.{Err, ap, sym}
 use Rattle.tui_table.specs.Widths.{first_above}
 use Rattle.tui_table.specs.declared.widths_error.WidthsError.TheVariants as refusals
 use Rattle.tui_schema.proofs.TableWidths.{all_taken}
@@ -12,4 +12,4 @@ returns-in-Ok c =
 pub returns-in-Err-PercentageAbove100 : goal.returns-in-Err-PercentageAbove100
 returns-in-Err-PercentageAbove100 c =
     let refused = c.in-Err-PercentageAbove100 in
-    rw ((refused.ensures.refused refused.field-0-0).0 (ap Err refused.field-0-is)) refl
+    rw ((refused.ensures.refused refused.field-0-0).0 (ap Err refused.field-0-is)) (ap Err (sym c.refusal.ensures))

@@ -1,6 +1,6 @@
 use Rattle.std.proofs.Common.{◌++◌, ◌∷◌, [], refl, arith}
 use Rattle.tui_para.proofs.Sources.{Yields-append}
-use Rattle.tui_para.proofs.MarkedCuts.{HasPut-then}
+use Rattle.tui_para.proofs.MarkedSplits.{HasPut-then}
 use Rattle.tui_para.proofs.wrapping.marked.Marked.put_all.Goals as goal
 
 pub graphemes-preserved : goal.graphemes-preserved

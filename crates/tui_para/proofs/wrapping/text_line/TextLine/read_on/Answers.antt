@@ -1,7 +1,7 @@
 use Rattle.std.proofs.Common.{refl, sym, ◌∙◌, map, rules}
 use Rattle.tui_text.specs.Grapheme.{glyph_of}
-use Rattle.tui_para.specs.Marked.{cuts_of}
-use Rattle.tui_para.proofs.WithCuts.{fit_behind}
+use Rattle.tui_para.specs.Marked.{splits_of}
+use Rattle.tui_para.proofs.WithSplits.{fit_behind}
 use Rattle.tui_para.proofs.wrapping.text_line.TextLine.read_on.Goals as goal
 
 pub invariant_of-self-in-Break-1 : goal.invariant_of-self-in-Break-1
@@ -10,7 +10,7 @@ invariant_of-self-in-Break-1 g c =
     let (before, taken, stand) = c.read.ensures.fit in
     record {
       within = search rules;
-      fit = fit_behind s.width s.place before (cuts_of s.line) (cuts_of c.drop_front.new.self) (cuts_of c.read.new.self) (map glyph_of taken) s.fit c.drop_front.ensures.dropped stand;
+      fit = fit_behind s.width s.place before (splits_of s.line) (splits_of c.drop_front.new.self) (splits_of c.read.new.self) (map glyph_of taken) s.fit c.drop_front.ensures.dropped stand;
     }
 
 pub invariant_of-self-2 : goal.invariant_of-self-2
@@ -19,7 +19,7 @@ invariant_of-self-2 g c =
     let (before, taken, stand) = c.read.ensures.fit in
     record {
       within = search rules;
-      fit = fit_behind s.width s.place before (cuts_of s.line) (cuts_of c.drop_front.new.self) (cuts_of c.read.new.self) (map glyph_of taken) s.fit c.drop_front.ensures.dropped stand;
+      fit = fit_behind s.width s.place before (splits_of s.line) (splits_of c.drop_front.new.self) (splits_of c.read.new.self) (map glyph_of taken) s.fit c.drop_front.ensures.dropped stand;
     }
 
 pub returns-clause-read : goal.returns-clause-read

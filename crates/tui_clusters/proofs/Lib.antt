@@ -1,0 +1,17 @@
+pub mod Boundaries
+pub mod Computing
+pub mod Controls
+pub mod EmptyText
+pub mod FirstCluster
+pub mod FirstPlain
+pub mod Leads
+pub mod LineEnds
+pub mod LoneChars
+pub mod OneByte
+pub mod PlainChars
+pub mod PlainReading
+pub mod RunColumns
+pub mod Runs
+pub mod Seams
+pub mod Tables
+pub mod Widths

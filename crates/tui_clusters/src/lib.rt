@@ -1,0 +1,18 @@
+//! What is known of texts: their grapheme clusters, the columns that these take, and which of them are blanks.
+#![tactic(auto)]
+
+pub mod blank;
+pub mod clusters;
+pub mod first;
+pub mod laws;
+mod plain;
+pub mod printable;
+pub mod width;
+
+pub use blank::{has_control, is_blank};
+pub use clusters::{Clusters, split_run};
+pub use first::first_cluster;
+pub use laws::clusters_go_on;
+pub use plain::{is_letter, is_plain_char, is_printable_first};
+pub use printable::{is_printable, printable_byte};
+pub use width::{cell_width, has_column, text_width};

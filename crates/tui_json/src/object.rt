@@ -1,0 +1,71 @@
+//! Objects.
+
+ghost use Rattle.std.specs.Prelude.{◌≡◌};
+ghost use Rattle.serde_json.specs.View.{items_view};
+ghost use Rattle.tui_json.specs.Objects.{are_objects};
+
+use crate::array::Counted;
+use crate::kind::{Kind, KindError};
+use serde_json::Value;
+use std::alloc::Global;
+
+/// A value that is an object. Takes no memory.
+#[derive(Drop)]
+pub struct Object<'v>(pub &'v Value);
+
+impl<'v, F> Kind<'v, F> for Object<'v> {
+    ghost use Rattle.serde_json.specs.Data.{Data};
+    ghost use Rattle.serde_json.specs.View.{view};
+    ghost use Rattle.tui_json.specs.Objects.{object_of};
+
+    ghost Seen = { Data };
+
+    ghost seen = { λ object. view object.0.now };
+
+    ghost kind = { object_of };
+
+    fn read(_alloc: Global, value: &'v Value) -> Result<Object<'v>, KindError> {
+        if value.is_object() {
+            Ok(Object(value))
+        } else {
+            Err(KindError::WrongKind)
+        }
+    }
+}
+
+/// The objects of an array of at least `LEAST` and at most `MOST`. Takes no memory.
+#[derive(Drop)]
+pub struct Objects<'v, const LEAST: usize, const MOST: usize>(pub &'v [Value]);
+
+impl<'v, F, const LEAST: usize, const MOST: usize> Kind<'v, F> for Objects<'v, LEAST, MOST> {
+    ghost use Rattle.serde_json.specs.Data.{Items};
+    ghost use Rattle.serde_json.specs.View.{items_view};
+    ghost use Rattle.tui_json.specs.Objects.{objects_within};
+
+    ghost Seen = { Items };
+
+    ghost seen = { λ objects. items_view objects.0.now };
+
+    ghost kind = { objects_within LEAST MOST };
+
+    fn read(alloc: Global, value: &'v Value) -> Result<Objects<'v, LEAST, MOST>, KindError> {
+        let Counted(values) = <Counted<'v, LEAST, MOST> as Kind<'v, F>>::read(alloc, value)?;
+        if are_objects(values) {
+            Ok(Objects(values))
+        } else {
+            Err(KindError::WrongKind)
+        }
+    }
+}
+
+#[tactic(auto, using(crate::proofs::Listed::objects_more, crate::proofs::Listed::no_object, crate::proofs::Listed::all_objects))]
+fn are_objects(values: &[Value]) -> bool
+    ensures { result ≡ are_objects (items_view values.now) }
+{
+    'values: for value in values {
+        if !value.is_object() {
+            return false;
+        }
+    }
+    true
+}

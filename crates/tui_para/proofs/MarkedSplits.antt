@@ -1,0 +1,161 @@
+-- Marks that tell where words are split.
+use Rattle.std.proofs.Common.{◌≡◌, ℕ, zero, suc, ◌+◌, ◌<◌, ◌≤◌, List, [], ◌∷◌, ◌++◌, length, map, get_or, set, take, drop, ◌-◌, Bool, true, false, cond, refl, sym, ap, ◌∙◌, subst, arith}
+use Rattle.std.specs.Prelude.{◌&&◌}
+use Rattle.std.proofs.lemmas.Grind.{drop-set_at, drop_more_same, take-set_at}
+use Rattle.std.proofs.lemmas.List.{append-nil, append_assoc, drop_all, drop_at, drop_more, length-drop, length-set, map-append, take_all, take_at}
+use Rattle.tui_text.specs.Grapheme.{Glyph, glyph_blank, glyph_of, glyph_width}
+use Rattle.tui_text.specs.declared.grapheme.StyledGrapheme.{StyledGrapheme}
+use Rattle.tui_para.specs.Hyphenation.{after_hyphen, after_letter, behind, behind_all, behind_other, marked_from}
+use Rattle.tui_para.specs.Hyphens.{is_hyphen, is_letter}
+use Rattle.tui_para.specs.Mark.{AreMarks, mark_of}
+use Rattle.tui_para.specs.Marked.{HasPut, splits_of}
+use Rattle.tui_para.specs.Wrapped.{not_wider}
+use Rattle.tui_para.specs.declared.wrapping.hyphenation.Hyphenation.{Hyphenation}
+use Rattle.tui_para.specs.declared.wrapping.hyphenation.Hyphenation.TheVariants.{Off, Apart, Letter, Hyphen}
+use Rattle.tui_para.specs.declared.wrapping.mark.Mark.{Mark}
+use Rattle.tui_para.specs.declared.wrapping.marked.Marked.{Marked}
+use Rattle.tui_para.proofs.PartsRead.{marked_then}
+use Rattle.tui_para.proofs.WithSplits.{glyph_part, glyphs-marked, letter_is}
+use Rattle.tui_para.proofs.Zipped.{glyphs_zipped, zipped, zipped_drop}
+
+-- where no word is split, none is behind
+stays_off : (g : Glyph) → behind Off g ≡ Off
+stays_off g = by (is_hyphen g)
+  where
+    by : (h : Bool) → cond h Off (behind_other (glyph_blank g) Off) ≡ Off
+    by true = refl
+    by false = refl
+
+pub behind_off : (gs : List Glyph) → behind_all Off gs ≡ Off
+behind_off [] = refl
+behind_off (g ∷ gs) = ap (λ b. behind_all b gs) (stays_off g) ∙ behind_off gs
+
+-- a word is split before a letter behind a hyphen
+pub split_told : (h : Hyphenation) (g : Glyph) → (after_hyphen h && after_letter (behind h g)) ≡ (after_hyphen h && is_letter g)
+split_told Off g = refl
+split_told Apart g = refl
+split_told Letter g = refl
+split_told Hyphen g = letter_is Hyphen g
+
+-- graphemes were put behind others, and then more
+pub HasPut-then : (w : ℕ) (xs ys : List StyledGrapheme) (old middle new : Marked) → HasPut w xs old middle → HasPut w ys middle new → HasPut w (xs ++ ys) old new
+HasPut-then w xs ys old middle new a b =
+    let both = sym (map-append glyph_of xs ys) in
+    let off = sym (behind_off (not_wider glyph_width w (map glyph_of xs))) in
+    record {
+      behind = subst (λ k. splits_of new ≡ splits_of old ++ marked_from Off (not_wider glyph_width w k)) both
+          (marked_then w w Off Off (map glyph_of xs) (map glyph_of ys) refl off (splits_of old) (splits_of middle) (splits_of new) a.behind b.behind);
+      same = b.same ∙ a.same;
+    }
+
+-- the marks of graphemes behind others
+abbrev pub marks_of : Hyphenation → List StyledGrapheme → List Mark
+marks_of h gs = map mark_of (marked_from h (map glyph_of gs))
+
+pub zipped_marks : (h : Hyphenation) (gs : List StyledGrapheme) → zipped gs (marks_of h gs) ≡ marked_from h (map glyph_of gs)
+zipped_marks h [] = refl
+zipped_marks h (g ∷ gs) = ap (λ k. (glyph_of g, after_hyphen h && is_letter (glyph_of g)) ∷ k) (zipped_marks (behind h (glyph_of g)) gs)
+
+long_marks : (h : Hyphenation) (gs : List StyledGrapheme) → length gs ≡ length (marks_of h gs)
+long_marks h [] = refl
+long_marks h (g ∷ gs) = ap suc (long_marks (behind h (glyph_of g)) gs)
+
+tail_marks : (g : StyledGrapheme) (gs : List StyledGrapheme) (m : Mark) (ms : List Mark) → AreMarks (g ∷ gs) (m ∷ ms) → AreMarks gs ms
+tail_marks g gs m ms are = record { together = let e = are.together in omega arith; marked = ap (drop 1) are.marked }
+
+-- from a place on the marks are told
+pub zipped_told : (h : Hyphenation) (n : ℕ) (gs : List StyledGrapheme) (ms : List Mark) → length gs ≡ length ms → n ≤ length gs →
+    zipped gs (take n ms ++ marks_of h (drop n gs)) ≡ take n (zipped gs ms) ++ marked_from h (map glyph_of (drop n gs))
+zipped_told h zero gs ms e l = zipped_marks h gs
+zipped_told h (suc n) [] ms e l = absurd (omega arith)
+zipped_told h (suc n) (g ∷ gs) [] e l = absurd (omega arith)
+zipped_told h (suc n) (g ∷ gs) (m ∷ ms) e l = ap (λ k. (glyph_of g, m.split) ∷ k) (zipped_told h n gs ms (omega arith) (omega arith))
+
+pub are_told : (h : Hyphenation) (n : ℕ) (gs : List StyledGrapheme) (ms : List Mark) → n ≤ length gs → AreMarks gs ms → AreMarks gs (take n ms ++ marks_of h (drop n gs))
+are_told h zero gs ms l are = record { together = long_marks h gs; marked = sym (ap (map mark_of) (zipped_marks h gs)) }
+are_told h (suc n) [] ms l are = absurd (omega arith)
+are_told h (suc n) (g ∷ gs) [] l are = absurd (let e = are.together in omega arith)
+are_told h (suc n) (g ∷ gs) (m ∷ ms) l are =
+    let rest = are_told h n gs ms (omega arith) (tail_marks g gs m ms are) in
+    let first : m ≡ mark_of (glyph_of g, m.split) = ap (λ k. get_or k 0 m) are.marked in
+    record {
+      together = ap suc rest.together;
+      marked = ap (λ k. m ∷ k) rest.marked ∙ ap (λ k. k ∷ map mark_of (zipped gs (take n ms ++ marks_of h (drop n gs)))) first;
+    }
+
+-- so the graphemes behind others have their words split
+pub told : (h b : Hyphenation) (n : ℕ) (gs : List StyledGrapheme) (ms new : List Mark) → length gs ≡ length ms → n ≤ length gs → new ≡ take n ms ++ marks_of h (drop n gs) → b ≡ behind_all h (map glyph_of (drop n gs)) →
+    (front : List (Glyph × Bool)) (glyphs : List Glyph) → length front ≡ n → zipped gs ms ≡ front ++ marked_from Off glyphs →
+    (zipped gs new ≡ front ++ marked_from h glyphs) × (b ≡ behind_all h glyphs)
+told h b n gs ms new same l marks goes front glyphs many old =
+    let off = marked_from Off glyphs in
+    let first : take n (zipped gs ms) ≡ front = ap (take n) old ∙ take_at front off n many in
+    let last : drop n (zipped gs ms) ≡ off = ap (drop n) old ∙ drop_at front off n many in
+    let left : length (drop n gs) ≡ length (drop n ms) = length-drop n gs ∙ (ap (λ k. k - n) same ∙ sym (length-drop n ms)) in
+    let are : map glyph_of (drop n gs) ≡ glyphs = sym (glyphs_zipped (drop n gs) (drop n ms) left) ∙ (ap (map glyph_part) (zipped_drop n gs ms same ∙ last) ∙ glyphs-marked Off glyphs) in (
+      ap (zipped gs) marks ∙ (zipped_told h n gs ms same l ∙ (ap (λ k. k ++ marked_from h (map glyph_of (drop n gs))) first ∙ ap (λ k. front ++ marked_from h k) are)),
+      goes ∙ ap (behind_all h) are,
+    )
+
+-- where no word is split, nothing is to be told
+pub nothing_told : (h : Hyphenation) (splits front : List (Glyph × Bool)) (glyphs : List Glyph) → h ≡ Off → splits ≡ front ++ marked_from Off glyphs →
+    (splits ≡ front ++ marked_from h glyphs) × (h ≡ behind_all h glyphs)
+nothing_told h splits front glyphs off e =
+    (subst (λ k. splits ≡ front ++ marked_from k glyphs) (sym off) e, off ∙ (sym (behind_off glyphs) ∙ ap (λ k. behind_all k glyphs) (sym off)))
+
+pub mark_at : (gs : List StyledGrapheme) (ms : List Mark) (i : ℕ) (d : Mark) (e : StyledGrapheme) → AreMarks gs ms → i < length ms → get_or ms i d ≡ mark_of (glyph_of (get_or gs i e), (get_or ms i d).split)
+mark_at gs [] i d e are l = absurd (omega arith)
+mark_at [] (m ∷ ms) i d e are l = absurd (let long = are.together in omega arith)
+mark_at (g ∷ gs) (m ∷ ms) zero d e are l = ap (λ k. get_or k 0 d) are.marked
+mark_at (g ∷ gs) (m ∷ ms) (suc i) d e are l = mark_at gs ms i d e (tail_marks g gs m ms are) (omega arith)
+
+-- one mark more is told
+module _ (gs : List StyledGrapheme) (old ms : List Mark) (i : ℕ) (d : Mark) (e : StyledGrapheme) (are : AreMarks gs old) (long : length ms ≡ length gs) (left : drop i ms ≡ drop i old) (near : i < length gs) where
+  abbrev x : Glyph
+  x = glyph_of (get_or gs i e)
+
+  same : get_or ms i d ≡ get_or old i d
+  same =
+      let first = λ (k : List Mark). get_or k 0 d in
+      sym (ap first (drop_more ms i d (omega arith))) ∙ (ap first left ∙ ap first (drop_more old i d (let t = are.together in omega arith)))
+
+  mark_is : get_or ms i d ≡ mark_of (x, (get_or old i d).split)
+  mark_is = same ∙ mark_at gs old i d e are (let t = are.together in omega arith)
+
+  pub blank_is : (get_or ms i d).blank ≡ glyph_blank x
+  blank_is = ap (λ (k : Mark). k.blank) mark_is
+
+  module _ (h b : Hyphenation) (c : Bool) (new : List Mark) (split : c ≡ (after_hyphen h && after_letter b)) (goes : b ≡ behind h x) (change : new ≡ set ms i (record (get_or ms i d) { split = c })) where
+    abbrev y : Mark
+    y = record (get_or ms i d) { split = c }
+
+    mark_told : y ≡ mark_of (x, after_hyphen h && is_letter x)
+    mark_told = ap (λ (k : Mark). record k { split = c }) mark_is ∙ ap (λ k. mark_of (x, k)) (split ∙ (ap (λ k. after_hyphen h && after_letter k) goes ∙ split_told h x))
+
+    pub marks_on : take (i + 1) new ++ marks_of b (drop (i + 1) gs) ≡ take i ms ++ marks_of h (drop i gs)
+    marks_on =
+        let rest = marks_of (behind h x) (drop (i + 1) gs) in
+        ap (λ k. take (i + 1) new ++ marks_of k (drop (i + 1) gs)) goes
+        ∙ (ap (λ k. k ++ rest) (ap (take (i + 1)) change ∙ take-set_at ms i (i + 1) y refl (omega arith))
+        ∙ (append_assoc (take i ms) (y ∷ []) rest
+        ∙ (ap (λ k. take i ms ++ k ∷ rest) mark_told ∙ ap (λ k. take i ms ++ marks_of h k) (sym (drop_more gs i e near)))))
+
+    pub behind_on : behind_all b (map glyph_of (drop (i + 1) gs)) ≡ behind_all h (map glyph_of (drop i gs))
+    behind_on = ap (λ k. behind_all k (map glyph_of (drop (i + 1) gs))) goes ∙ ap (λ k. behind_all h (map glyph_of k)) (sym (drop_more gs i e near))
+
+    pub left_on : drop (i + 1) new ≡ drop (i + 1) old
+    left_on =
+        let many = length-set ms i y in
+        ap (drop (i + 1)) change
+        ∙ (ap (drop 1) (sym (drop_more (set ms i y) i d (omega arith)) ∙ drop-set_at ms i i y refl (omega arith)) ∙ drop_more_same ms old i left)
+
+    pub long_on : length new ≡ length gs
+    long_on = ap length change ∙ (length-set ms i y ∙ long)
+
+-- all marks are told
+module _ (gs : List StyledGrapheme) (ms : List Mark) (h : Hyphenation) (i : ℕ) (long : length ms ≡ length gs) (far : length gs ≤ i) where
+  pub all_behind : h ≡ behind_all h (map glyph_of (drop i gs))
+  all_behind = ap (λ k. behind_all h (map glyph_of k)) (sym (drop_all i gs far))
+
+  pub all_marks : ms ≡ take i ms ++ marks_of h (drop i gs)
+  all_marks = sym (ap (λ k. k ++ marks_of h (drop i gs)) (take_all i ms (omega arith)) ∙ (ap (λ k. ms ++ marks_of h k) (drop_all i gs far) ∙ append-nil ms))

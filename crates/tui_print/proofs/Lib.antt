@@ -1,0 +1,5 @@
+pub mod Equality
+pub mod Lines
+pub mod RunLemmas
+pub mod StateLines
+pub mod Unique

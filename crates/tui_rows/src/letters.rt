@@ -1,0 +1,12 @@
+//! Letters of two bytes.
+
+ghost use Rattle.std.specs.Prelude.{◌≡◌, IsTrue};
+ghost use Rattle.tui_text.specs.Visible.{step_of};
+
+/// Whether a symbol is one letter of two bytes, of Latin, Greek or Cyrillic. It takes one column, which needs no look-up.
+#[inline]
+pub(crate) fn is_letter(symbol: &str) -> bool
+    ensures { IsTrue result → step_of symbol.now ≡ 1 }
+{
+    tui_clusters::is_letter(symbol)
+}
