@@ -1,0 +1,76 @@
+-- The pen of a cell, and the commands that set it.
+use Rattle.std.specs.Prelude.{◌≡◌, ℕ, ◌+◌, Bool, true, false, bit_and, ◌==◌, List, [], ◌∷◌, ◌++◌, length, if◌then◌else◌}
+use Rattle.tui_cells.specs.declared.attributes.Attributes.{Attributes}
+use Rattle.tui_cells.specs.declared.color.Color.{Color}
+use Rattle.tui_cells.specs.declared.color.Color.TheVariants.{Reset, Rgb, Indexed}
+use Rattle.tui_cells.specs.Cell.{Look}
+use Rattle.tui_tty.specs.declared.depth.Depth.{Depth}
+use Rattle.tui_tty.specs.Colours.{color_at}
+use Rattle.tui_tty.specs.Terminal.{Pen, Setting, mark, front, back, Command, paint, add}
+
+-- the colours and the modifiers of a cell
+abbrev pub attributes_of : Look → Attributes
+attributes_of c = record { fg = c.fg; bg = c.bg; modifier = record { bits = c.modifier } }
+
+-- whether a modifier is among those of some bits
+abbrev pub has : ℕ → ℕ → Bool
+has bits one = bit_and bits one == one
+
+-- the marks of modifiers, from bold to crossed out
+abbrev pub marks_of : ℕ → List Bool
+marks_of m = has m 1 ∷ has m 2 ∷ has m 4 ∷ has m 8 ∷ has m 16 ∷ has m 32 ∷ has m 64 ∷ has m 128 ∷ has m 256 ∷ []
+
+-- the pen that draws a cell
+abbrev pub pen_of : Depth → Attributes → Pen
+pen_of depth a = record { fg = color_at depth a.fg; bg = color_at depth a.bg; marks = marks_of a.modifier.bits }
+
+-- The settings from the pen at rest: the marks, and each colour but the terminal's own.
+abbrev pub marks_from : ℕ → List Bool → List Setting
+marks_from k [] = []
+marks_from k (b ∷ bs) = (if b then mark k ∷ [] else []) ++ marks_from (k + 1) bs
+
+unfoldable pub front_of : Color → List Setting
+front_of Reset = []
+front_of c = front c ∷ []
+
+unfoldable pub back_of : Color → List Setting
+back_of Reset = []
+back_of c = back c ∷ []
+
+abbrev pub settings_of : Pen → List Setting
+settings_of p = marks_from 0 p.marks ++ (front_of p.fg ++ back_of p.bg)
+
+-- how many parameters a setting takes in a sequence
+unfoldable pub color_parameters : Color → ℕ
+color_parameters (Rgb red green blue) = 5
+color_parameters (Indexed n) = 3
+color_parameters c = 1
+
+abbrev pub parameters : List Setting → ℕ
+parameters [] = 0
+parameters (mark k ∷ ss) = 1 + parameters ss
+parameters (front c ∷ ss) = color_parameters c + parameters ss
+parameters (back c ∷ ss) = color_parameters c + parameters ss
+
+-- A sequence has at most 16 parameters, since some terminals read no more. So a colour behind that has no name of its own is set by
+-- itself.
+unfoldable pub has_name : Color → Bool
+has_name (Rgb red green blue) = false
+has_name (Indexed n) = false
+has_name c = true
+
+-- what the first sequence sets, and then the second
+abbrev pub first_pen : Pen → Pen
+first_pen p = record p { bg = if has_name p.bg then p.bg else Reset }
+
+abbrev pub then_back : Color → List Command
+then_back c = if has_name c then [] else add (back c) ∷ []
+
+-- the commands that set a pen, whatever it was
+abbrev pub paints_of : Pen → List Command
+paints_of p = paint (settings_of (first_pen p)) ∷ then_back p.bg
+
+-- a pen as a paint may set it
+pub record IsPen (p : Pen) : Type 0 where
+  pub nine : length p.marks ≡ 9
+  pub name : has_name p.bg ≡ true

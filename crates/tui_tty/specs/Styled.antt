@@ -1,0 +1,33 @@
+-- The rows of a screen one under another, for a pipe or a log: no cursor is moved.
+use Rattle.std.specs.Prelude.{◌≡◌, ℕ, ◌<◌, List, [], ◌∷◌, ◌++◌, length, slice_index_or, flat_map, ◌⊎◌}
+use Rattle.tui_cells.specs.Buffer.{Screen}
+use Rattle.tui_text.specs.Visible.{Placed}
+use Rattle.tui_tty.specs.declared.depth.Depth.{Depth}
+use Rattle.tui_tty.specs.declared.trust.Trust.TheVariants.{Common}
+use Rattle.tui_tty.specs.Pens.{attributes_of, paints_of, pen_of}
+use Rattle.tui_tty.specs.Pieces.{row_pieces}
+use Rattle.tui_tty.specs.Spelling.{spelling}
+use Rattle.tui_tty.specs.Terminal.{Pen, rest, Command, paint, print}
+
+-- one pen becomes another: it is set, or is that one
+abbrev pub Becomes : Pen → Pen → List Command → Type 0
+Becomes pen next cs = ((pen ≡ next) × (cs ≡ [])) ⊎ (cs ≡ paints_of next)
+
+pub record StyledFirst (pen next : Pen) (p : Placed) (others : List Command → Type 0) (cs : List Command) : Type 0 where
+  pub paints : List Command
+  pub more : List Command
+  pub becomes : Becomes pen next paints
+  pub others_follow : others more
+  pub whole : cs ≡ paints ++ print p.cell.symbol ∷ more
+
+-- commands that print cells one behind the other, each by its pen, and take the pen back to rest
+abbrev pub StyledRow : Depth → Pen → List Placed → List Command → Type 0
+StyledRow depth pen [] cs = Becomes pen rest cs
+StyledRow depth pen (p ∷ ps) cs = StyledFirst pen (pen_of depth (attributes_of p.cell)) p (StyledRow depth (pen_of depth (attributes_of p.cell)) ps) cs
+
+-- each row, and a newline behind it
+pub record AreStyledRows (depth : Depth) (b : Screen) (text : List ℕ) : Type 0 where
+  pub rows : List (List Command)
+  pub counted : length rows ≡ length b.rows
+  pub each : (y : ℕ) → y < length b.rows → StyledRow depth rest (row_pieces Common b y) (slice_index_or rows y [])
+  pub spelled : text ≡ flat_map (λ cs. flat_map spelling cs ++ 10 ∷ []) rows

@@ -1,0 +1,348 @@
+-- The rows of a frame are sent.
+use Rattle.std.proofs.Common.{◌≡◌, ℕ, zero, suc, ◌+◌, ◌<◌, ◌≤◌, Bool, true, false, not, ◌&&◌, ◌==◌, List, [], ◌∷◌, ◌++◌, length, cond, get_or, All, refl, sym, ap, subst, ◌∙◌, inl, inr, ◌⊎◌, arith}
+use Rattle.std.specs.Prelude.{nat_lt, if◌then◌else◌, Option, None, Some}
+use Rattle.std.proofs.lemmas.Bool.{and_from, cases_Bool, cond-true, lt-ltb}
+use Rattle.tui_cells.specs.Buffer.{IsScreen, Screen}
+use Rattle.tui_cells.specs.Cell.{Look}
+use Rattle.tui_cells.specs.declared.color.Color.{Color}
+use Rattle.tui_cells.specs.contracts.attributes.AttributesPartialEq as attributes
+use Rattle.tui_text.specs.Visible.{Placed, step_of}
+use Rattle.tui_tty.specs.declared.cursor.Cursor.{Cursor}
+use Rattle.tui_tty.specs.declared.cursor.Cursor.TheVariants.{Keep, Hidden, At as AtPlace}
+use Rattle.tui_tty.specs.declared.depth.Depth.{Depth}
+use Rattle.tui_tty.specs.declared.output.Output.{Output}
+use Rattle.tui_tty.specs.declared.trust.Trust.{Trust}
+use Rattle.tui_tty.specs.Calls.{Keeps}
+use Rattle.tui_tty.specs.Colours.{color_at}
+use Rattle.tui_tty.specs.Pens.{attributes_of, first_pen, has_name, paints_of, pen_of}
+use Rattle.tui_tty.specs.Pieces.{pieces, row_pieces}
+use Rattle.tui_tty.specs.Sends.{IsFrame, IsMove, IsPaint, IsSafe, Sends, SendsFirst, SendsRow, SendsRows, closing, cursor_commands, opening}
+use Rattle.tui_tty.specs.Shows.{HasCursor, HasRoom, IsBeside, IsPlace, KnowsAll, Stands, Trusts}
+use Rattle.tui_tty.specs.Terminal.{Command, Shown, Spot, Tty, add, back, held, paint, place, print, run, turn, visible}
+use Rattle.tui_tty_laws.specs.declared.at.At.{At}
+use Rattle.tui_tty_laws.specs.Sent.{row_shown}
+use Rattle.tui_tty_laws.specs.Sending.{frame, moves, next_at, nowhere, paints, send, send_one, send_rows}
+use Rattle.tui_tty_laws.proofs.Apart.{send_split}
+use Rattle.tui_tty_laws.proofs.Lists.{Each, Each-append, Each-weaker, In, In-to}
+use Rattle.tui_tty_laws.proofs.Pen.{first_is, steps}
+use Rattle.tui_tty_laws.proofs.Rows.{AreSent, Knows, all_sent, in_beside, in_fit, nowhere_at}
+use Rattle.tui_tty_laws.proofs.Steps.{Stays, run_append, stays, stays_on}
+use Rattle.tui_tty_laws.proofs.Walks.{IsFit}
+
+-- a row shows what its own cells made of it, whatever was sent before and after
+pub record RowFrom (knows : List ℕ → Bool) (o : Output) (ps : List Placed) (r : ℕ) (t u : Tty) : Type 0 where
+  pub before : Tty
+  pub tamed : before.tamed ≡ true
+  pub whole : before.whole ≡ true
+  pub columns : before.columns ≡ t.columns
+  pub height : before.height ≡ t.height
+  pub same : before.cells r ≡ t.cells r
+  pub made : u.cells r ≡ (run knows (send o r nowhere ps) before).cells r
+
+pub record AreRows (knows : List ℕ → Bool) (o : Output) (pss : List (List Placed)) (y : ℕ) (t u : Tty) : Type 0 where
+  pub same : Stays t u
+  pub others : (r : ℕ) → (r < y) ⊎ (y + length pss ≤ r) → u.cells r ≡ t.cells r
+  pub rows : (k : ℕ) → k < length pss → RowFrom knows o (get_or pss k []) (y + k) t u
+
+-- the first row, and one of the others
+row_at : (knows : List ℕ → Bool) (o : Output) (ps : List Placed) (pss : List (List Placed)) (y : ℕ) (t u end : Tty) → t.tamed ≡ true → t.whole ≡ true →
+    u ≡ run knows (send o y nowhere ps) t → AreSent knows o y nowhere ps t u → AreRows knows o pss (y + 1) u end →
+    (k : ℕ) → k < length (ps ∷ pss) → RowFrom knows o (get_or (ps ∷ pss) k []) (y + k) t end
+row_at knows o ps pss y t u end tamed whole is one more zero lt =
+    let here : y ≡ y + 0 = omega arith in
+    let first : RowFrom knows o ps y t end = record {
+      before = t;
+      tamed = tamed;
+      whole = whole;
+      columns = refl;
+      height = refl;
+      same = refl;
+      made = more.others y (inl (omega arith)) ∙ ap (λ (v : Tty). v.cells y) is;
+    } in
+    subst (λ r. RowFrom knows o ps r t end) here first
+row_at knows o ps pss y t u end tamed whole is one more (suc k) lt =
+    let there : y + 1 + k ≡ y + suc k = omega arith in
+    let row = more.rows k (omega arith) in
+    let later : RowFrom knows o (get_or pss k []) (y + 1 + k) t end = record {
+      before = row.before;
+      tamed = row.tamed;
+      whole = row.whole;
+      columns = row.columns ∙ one.same.columns;
+      height = row.height ∙ one.same.height;
+      same = row.same ∙ one.others (y + 1 + k) (λ e. absurd (omega arith));
+      made = row.made;
+    } in
+    subst (λ r. RowFrom knows o (get_or pss k []) r t end) there later
+
+pub rows_run : (knows : List ℕ → Bool) (o : Output) (pss : List (List Placed)) (y : ℕ) (t : Tty) → Trusts o.trust knows → t.whole ≡ true → t.tamed ≡ true →
+    y + length pss ≤ t.height → Each (Each (IsFit o.trust t.columns)) pss → AreRows knows o pss y t (run knows (send_rows o y pss) t)
+unfolding send_rows
+rows_run knows o [] y t trusts whole tamed high fit = record { same = stays t; others = λ r away. refl; rows = λ k lt. absurd (omega arith) }
+rows_run knows o (ps ∷ pss) y t trusts whole tamed high fit =
+    let u : Tty = run knows (send o y nowhere ps) t in
+    let one : AreSent knows o y nowhere ps t u = all_sent knows o y nowhere ps t trusts whole tamed (omega arith) fit.0 (nowhere_at o y t) in
+    let tall = one.same.height in
+    let high_then : y + 1 + length pss ≤ u.height = omega (arith, tall) in
+    let fit_then : Each (Each (IsFit o.trust u.columns)) pss = subst (λ k. Each (Each (IsFit o.trust k)) pss) (sym one.same.columns) fit.1 in
+    let end : Tty = run knows (send_rows o (y + 1) pss) u in
+    let more : AreRows knows o pss (y + 1) u end = rows_run knows o pss (y + 1) u trusts (one.same.whole ∙ whole) (one.same.tamed ∙ tamed) high_then fit_then in
+    let done : AreRows knows o (ps ∷ pss) y t end = record {
+      same = stays_on t u end one.same more.same;
+      others = λ r away. elim away [
+        | inl above ↦ more.others r (inl (omega arith)) ∙ one.others r (λ e. absurd (omega arith))
+        | inr below ↦ more.others r (inr (omega arith)) ∙ one.others r (λ e. absurd (omega arith))
+      ];
+      rows = row_at knows o ps pss y t u end tamed whole refl one more;
+    } in
+    subst (AreRows knows o (ps ∷ pss) y t) (sym (run_append knows (send o y nowhere ps) _ t)) done
+
+-- ---- before the rows and behind them
+
+-- the cells stay, and so does all but what is held and where the cursor is
+pub record IsStill (t u : Tty) : Type 0 where
+  pub cells : u.cells ≡ t.cells
+  pub tamed : u.tamed ≡ t.tamed
+  pub whole : u.whole ≡ t.whole
+  pub columns : u.columns ≡ t.columns
+  pub height : u.height ≡ t.height
+
+still : (t : Tty) → IsStill t t
+still t = record { cells = refl; tamed = refl; whole = refl; columns = refl; height = refl }
+
+opened : (knows : List ℕ → Bool) (on : Bool) (t : Tty) → t.whole ≡ true → IsStill t (run knows (cond on (turn held true ∷ []) []) t)
+opened knows true t whole = subst (IsStill t) (sym (steps knows (turn held true) t whole)) (record { cells = refl; tamed = refl; whole = refl; columns = refl; height = refl })
+opened knows false t whole = still t
+
+-- the cursor, and what is held
+pub record IsClosed (cursor : Cursor) (on : Bool) (t u : Tty) : Type 0 where
+  pub same : IsStill t u
+  pub at_cursor : HasCursor cursor u
+  pub freed : u.held ≡ cond on (Some false) t.held
+
+closed_hold : (knows : List ℕ → Bool) (cursor : Cursor) (on : Bool) (t u : Tty) → u.whole ≡ true → IsStill t u → HasCursor cursor u → u.held ≡ t.held →
+    IsClosed cursor on t (run knows (cond on (turn held false ∷ []) []) u)
+closed_hold knows Keep true t u whole same has was =
+    subst (IsClosed Keep true t) (sym (steps knows (turn held false) u whole))
+    (record { same = record { cells = same.cells; tamed = same.tamed; whole = same.whole; columns = same.columns; height = same.height }; at_cursor = has; freed = refl })
+closed_hold knows Hidden true t u whole same has was =
+    subst (IsClosed Hidden true t) (sym (steps knows (turn held false) u whole))
+    (record { same = record { cells = same.cells; tamed = same.tamed; whole = same.whole; columns = same.columns; height = same.height }; at_cursor = has; freed = refl })
+closed_hold knows (AtPlace p) true t u whole same has was =
+    subst (IsClosed (AtPlace p) true t) (sym (steps knows (turn held false) u whole))
+    (record { same = record { cells = same.cells; tamed = same.tamed; whole = same.whole; columns = same.columns; height = same.height }; at_cursor = has; freed = refl })
+closed_hold knows cursor false t u whole same has was = record { same = same; at_cursor = has; freed = was }
+
+-- the cursor lies on the terminal
+abbrev pub OnTerminal : Cursor → Tty → Type 0
+OnTerminal Keep t = Unit {0}
+OnTerminal Hidden t = Unit {0}
+OnTerminal (AtPlace p) t = (p.x < t.columns) × (p.y < t.height)
+
+pub on_terminal : (cursor : Cursor) (b : Screen) (t : Tty) → IsPlace cursor b → HasRoom t b → OnTerminal cursor t
+on_terminal Keep b t is room = tt
+on_terminal Hidden b t is room = tt
+on_terminal (AtPlace p) b t is room = (omega (arith, is.right, room.wide), omega (arith, is.below, room.high))
+
+abbrev placed : (x y : ℕ) → Tty → Tty
+placed x y t = record t { cursor = Some (record { column = x; row = y }); visible = Some true }
+
+cursor_set : (knows : List ℕ → Bool) (x y : ℕ) (t : Tty) → t.whole ≡ true → t.tamed ≡ true → x < t.columns → y < t.height →
+    run knows (place x y ∷ turn visible true ∷ []) t ≡ placed x y t
+cursor_set knows x y t whole tamed wide high =
+    let on : (t.tamed && (nat_lt x t.columns && nat_lt y t.height)) ≡ true =
+    and_from t.tamed _ tamed (and_from (nat_lt x t.columns) (nat_lt y t.height) (lt-ltb x t.columns wide) (lt-ltb y t.height high)) in
+    let first = steps knows (place x y) t whole ∙ ap (λ (c : Option Spot). record t { cursor = c }) (cond-true _ (Some (record { column = x; row = y })) None on) in
+    ap (run knows (turn visible true ∷ [])) first ∙ steps knows (turn visible true) (record t { cursor = Some (record { column = x; row = y }) }) whole
+
+pub closed : (knows : List ℕ → Bool) (cursor : Cursor) (on : Bool) (t : Tty) → t.whole ≡ true → t.tamed ≡ true → OnTerminal cursor t →
+    IsClosed cursor on t (run knows (cursor_commands cursor ++ cond on (turn held false ∷ []) []) t)
+closed knows Keep on t whole tamed is = closed_hold knows Keep on t t whole (still t) tt refl
+closed knows Hidden on t whole tamed is =
+    let u : Tty = record t { visible = Some false } in
+    let same : IsStill t u = record { cells = refl; tamed = refl; whole = refl; columns = refl; height = refl } in
+    subst (λ (v : Tty). IsClosed Hidden on t (run knows (cond on (turn held false ∷ []) []) v)) (sym (steps knows (turn visible false) t whole))
+    (closed_hold knows Hidden on t u whole same refl refl)
+closed knows (AtPlace p) on t whole tamed is =
+    let u : Tty = placed p.x p.y t in
+    let same : IsStill t u = record { cells = refl; tamed = refl; whole = refl; columns = refl; height = refl } in
+    subst (λ (v : Tty). IsClosed (AtPlace p) on t (run knows (cond on (turn held false ∷ []) []) v)) (sym (cursor_set knows p.x p.y t whole tamed is.0 is.1))
+    (closed_hold knows (AtPlace p) on t u whole same (refl, refl) refl)
+
+-- ---- a frame
+
+pub record FrameRun (knows : List ℕ → Bool) (o : Output) (pss : List (List Placed)) (y : ℕ) (t u : Tty) : Type 0 where
+  pub tamed : u.tamed ≡ true
+  pub whole : u.whole ≡ true
+  pub columns : u.columns ≡ t.columns
+  pub height : u.height ≡ t.height
+  pub freed : t.held ≡ Some false → u.held ≡ Some false
+  pub at_cursor : HasCursor o.cursor u
+  pub others : (r : ℕ) → (r < y) ⊎ (y + length pss ≤ r) → u.cells r ≡ t.cells r
+  pub rows : (k : ℕ) → k < length pss → RowFrom knows o (get_or pss k []) (y + k) t u
+
+on_still : (cursor : Cursor) (t u : Tty) → u.columns ≡ t.columns → u.height ≡ t.height → OnTerminal cursor t → OnTerminal cursor u
+on_still Keep t u a b is = tt
+on_still Hidden t u a b is = tt
+on_still (AtPlace p) t u a b is = (subst (λ k. p.x < k) (sym a) is.0, subst (λ k. p.y < k) (sym b) is.1)
+
+freed_by : (knows : List ℕ → Bool) (on : Bool) (t v w u : Tty) → v ≡ run knows (cond on (turn held true ∷ []) []) t → w.held ≡ v.held → u.held ≡ cond on (Some false) w.held →
+    t.held ≡ Some false → u.held ≡ Some false
+freed_by knows true t v w u first rows end was = end
+freed_by knows false t v w u first rows end was = end ∙ rows ∙ ap (λ (k : Tty). k.held) first ∙ was
+
+pub frame_run : (knows : List ℕ → Bool) (o : Output) (pss : List (List Placed)) (y : ℕ) (t : Tty) → Trusts o.trust knows → t.whole ≡ true → t.tamed ≡ true →
+    y + length pss ≤ t.height → Each (Each (IsFit o.trust t.columns)) pss → OnTerminal o.cursor t → FrameRun knows o pss y t (run knows (frame o y pss) t)
+frame_run knows o pss y t trusts whole tamed high fit on =
+    let v : Tty = run knows (opening o) t in
+    let first : IsStill t v = opened knows o.hold t whole in
+    let tall = first.height in
+    let whole_v : v.whole ≡ true = first.whole ∙ whole in
+    let tamed_v : v.tamed ≡ true = first.tamed ∙ tamed in
+    let w : Tty = run knows (send_rows o y pss) v in
+    let rows : AreRows knows o pss y v w =
+    rows_run knows o pss y v trusts whole_v tamed_v (omega (arith, tall)) (subst (λ k. Each (Each (IsFit o.trust k)) pss) (sym first.columns) fit) in
+    let u : Tty = run knows (closing o) w in
+    let end : IsClosed o.cursor o.hold w u =
+    closed knows o.cursor o.hold w (rows.same.whole ∙ whole_v) (rows.same.tamed ∙ tamed_v) (on_still o.cursor t w (rows.same.columns ∙ first.columns) (rows.same.height ∙ first.height) on) in
+    let done : FrameRun knows o pss y t u = record {
+      tamed = end.same.tamed ∙ rows.same.tamed ∙ tamed_v;
+      whole = end.same.whole ∙ rows.same.whole ∙ whole_v;
+      columns = end.same.columns ∙ rows.same.columns ∙ first.columns;
+      height = end.same.height ∙ rows.same.height ∙ first.height;
+      freed = freed_by knows o.hold t v w u refl rows.same.held end.freed;
+      at_cursor = end.at_cursor;
+      others = λ r away. ap (λ (c : ℕ → ℕ → Shown). c r) end.same.cells ∙ rows.others r away ∙ ap (λ (c : ℕ → ℕ → Shown). c r) first.cells;
+      rows = λ k lt.
+          let row = rows.rows k lt in
+          record {
+            before = row.before;
+            tamed = row.tamed;
+            whole = row.whole;
+            columns = row.columns ∙ first.columns;
+            height = row.height ∙ first.height;
+            same = row.same ∙ ap (λ (c : ℕ → ℕ → Shown). c (y + k)) first.cells;
+            made = ap (λ (c : ℕ → ℕ → Shown). c (y + k)) end.same.cells ∙ row.made;
+          };
+    } in
+    subst (FrameRun knows o pss y t) (sym (run_append knows (opening o) (send_rows o y pss ++ closing o) t ∙ run_append knows (send_rows o y pss) (closing o) v)) done
+
+-- ---- what it keeps
+
+row_beside : (knows : List ℕ → Bool) (o : Output) (y left : ℕ) (row : List Look) (xs : List Placed) (t : Tty) (p : Placed) → Trusts o.trust knows → t.whole ≡ true → t.tamed ≡ true →
+    y < t.height → left + length row ≤ t.columns → Each (λ q. In q (pieces left (row_shown o.trust row))) xs → KnowsAll knows (pieces left (row_shown o.trust row)) →
+    (p.column + step_of p.cell.symbol ≤ left) ⊎ (left + length row ≤ p.column) → Stands o.depth (t.cells y) p → Stands o.depth ((run knows (send o y nowhere xs) t).cells y) p
+row_beside knows o y left row xs t p trusts whole tamed high le within every away stood =
+    let ps = pieces left (row_shown o.trust row) in
+    let done = all_sent knows o y nowhere xs t trusts whole tamed high (in_fit o.trust left t.columns row xs le within) (nowhere_at o y t) in
+    let known : Each (Knows knows) xs = Each-weaker (λ q. In q ps) (Knows knows) (λ q h. every q (In-to q ps h)) xs within in
+    done.stands p (in_beside o.trust left row xs p away within) known (inl stood)
+
+pub frame_keeps : (knows : List ℕ → Bool) (o : Output) (b : Screen) (pss : List (List Placed)) (t u : Tty) → IsScreen b → Trusts o.trust knows → HasRoom t b →
+    length pss ≡ length b.rows → ((y : ℕ) → y < length b.rows → Each (λ p. In p (row_pieces o.trust b y)) (get_or pss y [])) →
+    FrameRun knows o pss b.area.y t u → Keeps o knows b t u
+frame_keeps knows o b pss t u is trusts room len within all = record {
+  outside = λ r away. all.others r (elim away [ inl above ↦ inl above | inr below ↦ inr (omega (arith, is.high, len)) ]);
+  beside = λ y lt every p away stood.
+      let row = all.rows y (omega (arith, len)) in
+      let v = row.before in
+      let cells = get_or b.rows y [] in
+      let r = b.area.y + y in
+      let wide : length cells ≡ b.area.width = is.wide y [] lt in
+      let high : r < v.height = omega (arith, row.height, room.high, is.high) in
+      let fits : b.area.x + length cells ≤ v.columns = omega (arith, row.columns, room.wide, wide) in
+      let stood_then : Stands o.depth (v.cells r) p = subst (λ (c : ℕ → Shown). Stands o.depth c p) (sym row.same) stood in
+      let away_then : (p.column + step_of p.cell.symbol ≤ b.area.x) ⊎ (b.area.x + length cells ≤ p.column) = elim away [ inl before ↦ inl before | inr past ↦ inr (omega (arith, wide)) ] in
+      subst (λ (c : ℕ → Shown). Stands o.depth c p) (sym row.made)
+      (row_beside knows o r b.area.x cells (get_or pss y []) v p trusts row.whole row.tamed high fits (within y lt) every away_then stood_then);
+}
+
+-- ---- each cell, its move and its pen before it
+
+is_move : (b : Bool) (y : ℕ) (p : Placed) → IsMove y p (cond b [] (place p.column y ∷ []))
+is_move true y p = inl refl
+is_move false y p = inr refl
+
+is_paint : (b : Bool) (depth : Depth) (p : Placed) → IsPaint depth p (cond b [] (paints_of (pen_of depth (attributes_of p.cell))))
+is_paint true depth p = inl refl
+is_paint false depth p = inr refl
+
+sends : (o : Output) (y : ℕ) (at : At) (ps : List Placed) → Sends o.depth y ps (send o y at ps)
+unfolding send
+sends o y at [] = refl
+sends o y at (p ∷ ps) = record {
+  moves = moves y at p;
+  paints = paints o.depth at p;
+  more = send o y (next_at o.trust p) ps;
+  is_move = is_move (at.placed && (at.column == p.column)) y p;
+  is_paint = is_paint (at.painted && attributes.TheImpl.ghosts.eq at.pen (attributes_of p.cell)) o.depth p;
+  sends_more = sends o y (next_at o.trust p) ps;
+  whole = send_split o.depth y at p (send o y (next_at o.trust p) ps);
+}
+
+sends_rows : (o : Output) (y : ℕ) (pss : List (List Placed)) → SendsRows o.depth y pss (send_rows o y pss)
+unfolding send_rows
+sends_rows o y [] = refl
+sends_rows o y (ps ∷ pss) = record {
+  here = send o y nowhere ps;
+  more = send_rows o (y + 1) pss;
+  sends = sends o y nowhere ps;
+  sends_more = sends_rows o (y + 1) pss;
+  whole = refl;
+}
+
+pub is_frame : (o : Output) (y : ℕ) (pss : List (List Placed)) → IsFrame o y pss (frame o y pss)
+is_frame o y pss = record { rows = send_rows o y pss; sends = sends_rows o y pss; framed = refl }
+
+-- ---- no control character is sent
+
+move_safe : (b : Bool) (x y : ℕ) → Each IsSafe (cond b [] (place x y ∷ []))
+move_safe true x y = tt
+move_safe false x y = (tt, tt)
+
+back_safe : (b : Bool) (c : Color) → Each IsSafe (cond b [] (add (back c) ∷ []))
+back_safe true c = tt
+back_safe false c = (tt, tt)
+
+paint_safe : (b : Bool) (depth : Depth) (p : Placed) → Each IsSafe (cond b [] (paints_of (pen_of depth (attributes_of p.cell))))
+paint_safe true depth p = tt
+paint_safe false depth p =
+    let a = attributes_of p.cell in
+    let f = color_at depth a.fg in
+    let b = color_at depth a.bg in
+    ((first_pen (pen_of depth a), (first_is f b a.modifier.bits, refl)), back_safe (has_name b) b)
+
+send_safe : (o : Output) (y : ℕ) (at : At) (ps : List Placed) → Each (λ p. IsSafe (print p.cell.symbol)) ps → Each IsSafe (send o y at ps)
+unfolding send
+send_safe o y at [] quiet = tt
+send_safe o y at (p ∷ ps) quiet =
+    let a = attributes_of p.cell in
+    Each-append IsSafe (send_one o.depth y at p) _
+    (Each-append IsSafe (moves y at p) _ (move_safe (at.placed && (at.column == p.column)) p.column y)
+    (Each-append IsSafe (paints o.depth at p) _ (paint_safe (at.painted && attributes.TheImpl.ghosts.eq at.pen a) o.depth p)
+    (quiet.0, tt)))
+    (send_safe o y (next_at o.trust p) ps quiet.1)
+
+rows_safe : (o : Output) (y columns : ℕ) (pss : List (List Placed)) → Each (Each (IsFit o.trust columns)) pss → Each IsSafe (send_rows o y pss)
+unfolding send_rows
+rows_safe o y columns [] fit = tt
+rows_safe o y columns (ps ∷ pss) fit =
+    Each-append IsSafe (send o y nowhere ps) _
+    (send_safe o y nowhere ps (Each-weaker (IsFit o.trust columns) (λ p. IsSafe (print p.cell.symbol)) (λ p h. (h.some, h.quiet)) ps fit.0))
+    (rows_safe o (y + 1) columns pss fit.1)
+
+open_safe : (on : Bool) → Each IsSafe (cond on (turn held true ∷ []) [])
+open_safe true = (tt, tt)
+open_safe false = tt
+
+close_safe : (cursor : Cursor) (on : Bool) → Each IsSafe (cursor_commands cursor ++ cond on (turn held false ∷ []) [])
+close_safe Keep true = (tt, tt)
+close_safe Keep false = tt
+close_safe Hidden true = (tt, (tt, tt))
+close_safe Hidden false = (tt, tt)
+close_safe (AtPlace p) true = (tt, (tt, (tt, tt)))
+close_safe (AtPlace p) false = (tt, (tt, tt))
+
+pub frame_safe : (o : Output) (y columns : ℕ) (pss : List (List Placed)) → Each (Each (IsFit o.trust columns)) pss → Each IsSafe (frame o y pss)
+frame_safe o y columns pss fit =
+    Each-append IsSafe (opening o) _ (open_safe o.hold)
+    (Each-append IsSafe (send_rows o y pss) (closing o) (rows_safe o y columns pss fit) (close_safe o.cursor o.hold))

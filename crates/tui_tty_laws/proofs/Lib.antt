@@ -1,0 +1,13 @@
+pub mod Equality
+pub mod Lists
+pub mod Seen
+pub mod Walks
+pub mod Pen
+pub mod Steps
+pub mod Rows
+pub mod Apart
+pub mod Frames
+pub mod Screens
+pub mod Unchanged
+pub mod Between
+pub mod Depths

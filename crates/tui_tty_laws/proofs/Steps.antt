@@ -1,0 +1,198 @@
+-- One cell is sent.
+use Rattle.std.proofs.Common.{◌≡◌, ℕ, ◌+◌, ◌-◌, ◌<◌, ◌≤◌, Bool, true, false, not, ◌&&◌, ◌==◌, List, [], ◌∷◌, ◌++◌, refl, sym, ap, subst, ◌∙◌, inl, inr, ◌⊎◌, Option, Some, None, arith}
+use Rattle.std.specs.Prelude.{nat_lt, nat_le, if◌then◌else◌}
+use Rattle.std.proofs.lemmas.Bool.{and_parts, and_from, and_left, and_right, cases_Bool, cond-true, cond-false, eqb-true, lt-ltb, le-ltb, le-leb, lt-leb, true≢false}
+use Rattle.std.proofs.lemmas.Bool.Decides.{nat_tests}
+use Rattle.tui_cells.specs.Same.{same_attributes}
+use Rattle.tui_cells.specs.contracts.attributes.AttributesPartialEq as attributes
+use Rattle.tui_text.specs.Visible.{Placed, step_of}
+use Rattle.tui_tty.specs.declared.depth.Depth.{Depth}
+use Rattle.tui_tty.specs.declared.output.Output.{Output}
+use Rattle.tui_tty.specs.declared.trust.Trust.{Trust}
+use Rattle.tui_tty.specs.Colours.{color_at}
+use Rattle.tui_tty.specs.Pens.{attributes_of, paints_of, pen_of}
+use Rattle.tui_tty.specs.Symbols.{is_trusted}
+use Rattle.tui_tty.specs.Shows.{Stands, Trusts}
+use Rattle.tui_tty.specs.Terminal.{Command, place, paint, print, Pen, Shown, part, unknown, Spot, Tty, after, cut, drawn, lost, printed, reach, run, spoilt, step, with_row}
+use Rattle.tui_tty_laws.specs.declared.at.At.{At}
+use Rattle.tui_tty_laws.specs.Sending.{moves, next_at, paints, send_one}
+use Rattle.tui_tty_laws.proofs.Pen.{pen_set, steps, with_pen}
+use Rattle.tui_tty_laws.proofs.Walks.{Apart, IsFit}
+
+pub run_append : (knows : List ℕ → Bool) (xs ys : List Command) (t : Tty) → run knows (xs ++ ys) t ≡ run knows ys (run knows xs t)
+run_append knows [] ys t = refl
+run_append knows (x ∷ xs) ys t = run_append knows xs ys _
+
+-- what is known of the terminal is so
+pub record IsAt (depth : Depth) (y : ℕ) (at : At) (t : Tty) : Type 0 where
+  pub placed_at : at.placed ≡ true → at.column < t.columns → t.cursor ≡ Some (record { column = at.column; row = y })
+  pub painted_by : at.painted ≡ true → t.pen ≡ Some (pen_of depth at.pen)
+
+-- ---- the commands before the symbol
+
+abbrev at_spot : ℕ → ℕ → Tty → Tty
+at_spot x y t = record t { cursor = Some (record { column = x; row = y }) }
+
+moved : (knows : List ℕ → Bool) (depth : Depth) (y : ℕ) (at : At) (p : Placed) (t : Tty) → t.whole ≡ true → t.tamed ≡ true → p.column < t.columns → y < t.height →
+    IsAt depth y at t → run knows (moves y at p) t ≡ at_spot p.column y t
+moved knows depth y at p t whole tamed wide high is = elim (cases_Bool (at.placed && (at.column == p.column))) [
+  | inl here ↦
+      let h = and_parts at.placed (at.column == p.column) here in
+      let same : at.column ≡ p.column = eqb-true at.column p.column h.1 in
+      let low : at.column < t.columns = omega arith in
+      let stands : t.cursor ≡ Some (record { column = p.column; row = y }) = is.placed_at h.0 low ∙ ap (λ k. Some (record { column = k; row = y })) same in
+      ap (λ (cs : List Command). run knows cs t) (cond-true _ [] (place p.column y ∷ []) here) ∙ (λ i. record t { cursor = stands i })
+  | inr away ↦
+      let on : (t.tamed && (nat_lt p.column t.columns && nat_lt y t.height)) ≡ true =
+      and_from t.tamed _ tamed (and_from (nat_lt p.column t.columns) (nat_lt y t.height) (lt-ltb p.column t.columns wide) (lt-ltb y t.height high)) in
+      ap (λ (cs : List Command). run knows cs t) (cond-false _ [] (place p.column y ∷ []) away)
+      ∙ steps knows (place p.column y) t whole
+      ∙ ap (λ (c : Option Spot). record t { cursor = c }) (cond-true _ (Some (record { column = p.column; row = y })) None on)
+]
+
+painted : (knows : List ℕ → Bool) (depth : Depth) (at : At) (p : Placed) (t : Tty) → t.whole ≡ true → (at.painted ≡ true → t.pen ≡ Some (pen_of depth at.pen)) →
+    run knows (paints depth at p) t ≡ with_pen (pen_of depth (attributes_of p.cell)) t
+painted knows depth at p t whole is =
+    let a = attributes_of p.cell in
+    let cs : List Command = paints_of (pen_of depth a) in
+    elim (cases_Bool (at.painted && attributes.TheImpl.ghosts.eq at.pen a)) [
+      | inl here ↦
+          let h = and_parts at.painted (attributes.TheImpl.ghosts.eq at.pen a) here in
+          let stands : t.pen ≡ Some (pen_of depth a) = is h.0 ∙ ap (λ k. Some (pen_of depth k)) (same_attributes at.pen a h.1) in
+          ap (λ (ds : List Command). run knows ds t) (cond-true _ [] cs here) ∙ (λ i. record t { pen = stands i })
+      | inr other ↦
+          ap (λ (ds : List Command). run knows ds t) (cond-false _ [] cs other) ∙ pen_set knows (color_at depth a.fg) (color_at depth a.bg) a.modifier.bits t whole
+    ]
+
+-- the terminal as the symbol finds it
+abbrev ready : Depth → ℕ → Placed → Tty → Tty
+ready depth y p t = with_pen (pen_of depth (attributes_of p.cell)) (at_spot p.column y t)
+
+pub sent_one : (knows : List ℕ → Bool) (depth : Depth) (y : ℕ) (at : At) (p : Placed) (t : Tty) → t.whole ≡ true → t.tamed ≡ true → p.column < t.columns → y < t.height →
+    IsAt depth y at t → run knows (send_one depth y at p) t ≡ after knows (print p.cell.symbol) (ready depth y p t)
+sent_one knows depth y at p t whole tamed wide high is =
+    run_append knows (moves y at p) _ t
+    ∙ (ap (run knows (paints depth at p ++ print p.cell.symbol ∷ [])) (moved knows depth y at p t whole tamed wide high is)
+    ∙ (run_append knows (paints depth at p) (print p.cell.symbol ∷ []) (at_spot p.column y t)
+    ∙ ap (after knows (print p.cell.symbol)) (painted knows depth at p (at_spot p.column y t) whole is.painted_by)))
+
+-- ---- the symbol
+
+-- what no cell changes
+pub record Stays (t u : Tty) : Type 0 where
+  pub tamed : u.tamed ≡ t.tamed
+  pub whole : u.whole ≡ t.whole
+  pub columns : u.columns ≡ t.columns
+  pub height : u.height ≡ t.height
+  pub held : u.held ≡ t.held
+
+pub stays : (t : Tty) → Stays t t
+stays t = record { tamed = refl; whole = refl; columns = refl; height = refl; held = refl }
+
+pub stays_on : (t u v : Tty) → Stays t u → Stays u v → Stays t v
+stays_on t u v a b = record {
+  tamed = b.tamed ∙ a.tamed;
+  whole = b.whole ∙ a.whole;
+  columns = b.columns ∙ a.columns;
+  height = b.height ∙ a.height;
+  held = b.held ∙ a.held;
+}
+
+-- what a terminal is after a cell was sent
+pub record IsSent (knows : List ℕ → Bool) (o : Output) (y : ℕ) (p : Placed) (t u : Tty) : Type 0 where
+  pub same : Stays t u
+  pub known_at : IsAt o.depth y (next_at o.trust p) u
+  pub others : (r : ℕ) → (r ≡ y → ⊥) → u.cells r ≡ t.cells r
+  pub row : knows p.cell.symbol ≡ true → u.cells y ≡ drawn p.column p.cell.symbol (pen_of o.depth (attributes_of p.cell)) (t.cells y)
+
+other_row : (y : ℕ) (row : ℕ → Shown) (cells : ℕ → ℕ → Shown) (r : ℕ) → (r ≡ y → ⊥) → with_row y row cells r ≡ cells r
+other_row y row cells r away =
+    let no_row : (r == y) ≡ false = grind (arith, nat_tests) in
+    λ i column. cond-false (r == y) (row column) (cells r column) no_row i
+
+own_row : (y : ℕ) (row : ℕ → Shown) (cells : ℕ → ℕ → Shown) → with_row y row cells y ≡ row
+own_row y row cells =
+    let one_row : (y == y) ≡ true = grind (arith, nat_tests) in
+    λ i column. cond-true (y == y) (row column) (cells y column) one_row i
+
+pub symbol_sent : (knows : List ℕ → Bool) (o : Output) (y : ℕ) (p : Placed) (t : Tty) → Trusts o.trust knows → t.whole ≡ true → t.tamed ≡ true → IsFit o.trust t.columns p →
+    IsSent knows o y p t (after knows (print p.cell.symbol) (ready o.depth y p t))
+symbol_sent knows o y p t trusts whole tamed fit =
+    let s = p.cell.symbol in
+    let end = p.column + step_of s in
+    let pen = pen_of o.depth (attributes_of p.cell) in
+    let start = ready o.depth y p t in
+    let known : Tty = record start {
+      cells = with_row y (drawn p.column s pen (t.cells y)) t.cells;
+      cursor = if nat_lt end t.columns then Some (record { column = end; row = y }) else None;
+    } in
+    let other : Tty = if nat_le (p.column + reach s) t.columns then spoilt y start else lost start in
+    let all : Tty = if knows s && nat_le end t.columns then known else other in
+    let is_known : nat_le end t.columns ≡ true = le-leb end t.columns fit.wide in
+    let first : after knows (print s) start ≡ all = steps knows (print s) start whole ∙ cond-false (not t.tamed) (lost start) all (ap not tamed) in
+    elim (cases_Bool (knows s)) [
+      | inl knew ↦
+          let on : (knows s && nat_le end t.columns) ≡ true = and_from (knows s) _ knew is_known in
+          let done : IsSent knows o y p t known = record {
+            same = record { tamed = refl; whole = refl; columns = refl; height = refl; held = refl };
+            known_at = record { placed_at = λ placed low. cond-true _ (Some (record { column = end; row = y })) None (lt-ltb end t.columns low); painted_by = λ is. refl };
+            others = λ r away. other_row y _ t.cells r away;
+            row = λ is. own_row y _ t.cells;
+          } in
+          subst (IsSent knows o y p t) (sym (first ∙ cond-true _ known other on)) done
+      | inr new ↦
+          let off : (knows s && nat_le end t.columns) ≡ false = and_left (knows s) _ new in
+          let risky : is_trusted o.trust s ≡ false = elim (cases_Bool (is_trusted o.trust s)) [
+            | inl trusted ↦ absurd (true≢false (sym (trusts s trusted) ∙ new))
+            | inr risky ↦ risky
+          ] in
+          let fits : nat_le (p.column + reach s) t.columns ≡ true = le-leb (p.column + reach s) t.columns (fit.reaches risky) in
+          let done : IsSent knows o y p t (spoilt y start) = record {
+            same = record { tamed = refl; whole = refl; columns = refl; height = refl; held = refl };
+            known_at = record { placed_at = λ placed low. absurd (true≢false (sym placed ∙ risky)); painted_by = λ is. refl };
+            others = λ r away. other_row y _ t.cells r away;
+            row = λ is. absurd (true≢false (sym is ∙ new));
+          } in
+          subst (IsSent knows o y p t) (sym (first ∙ cond-false _ known other off ∙ cond-true _ (spoilt y start) (lost start) fits)) done
+    ]
+
+-- ---- what stands then
+
+pub drawn_stands : (depth : Depth) (p : Placed) (row : ℕ → Shown) →
+    Stands depth (drawn p.column p.cell.symbol (pen_of depth (attributes_of p.cell)) row) p
+drawn_stands depth p row i lt =
+    let x = p.column in
+    let s = p.cell.symbol in
+    let pen = pen_of depth (attributes_of p.cell) in
+    let low : nat_le x (x + i) ≡ true = le-leb x (x + i) (omega arith) in
+    let high : nat_lt (x + i) (x + step_of s) ≡ true = lt-ltb (x + i) (x + step_of s) (omega arith) in
+    let place_is : x + i - x ≡ i = omega arith in
+    cond-true _ (part s pen (x + i - x)) _ (and_from _ _ low high) ∙ ap (part s pen) place_is
+
+outside : (from to column : ℕ) → (to ≤ column) ⊎ (column < from) → (nat_le from column && nat_lt column to) ≡ false
+outside from to column (inl past) = and_right _ _ (le-ltb column to past)
+outside from to column (inr before) = and_left _ _ (lt-leb from column before)
+
+uncut : (from to start end : ℕ) → (to ≤ start) ⊎ (end ≤ from) → (nat_lt start to && nat_lt from end) ≡ false
+uncut from to start end (inl past) = and_left _ _ (le-ltb start to past)
+uncut from to start end (inr before) = and_right _ _ (le-ltb from end before)
+
+columns_apart : (from to start end i : ℕ) → (to ≤ start) ⊎ (end ≤ from) → start + i < end → (to ≤ start + i) ⊎ (start + i < from)
+columns_apart from to start end i (inl past) lt = inl (omega arith)
+columns_apart from to start end i (inr before) lt = inr (omega arith)
+
+pub drawn_keeps : (depth : Depth) (p q : Placed) (row : ℕ → Shown) → Apart p q → Stands depth row q →
+    Stands depth (drawn p.column p.cell.symbol (pen_of depth (attributes_of p.cell)) row) q
+drawn_keeps depth p q row away stands i lt =
+    let x = p.column in
+    let to = x + step_of p.cell.symbol in
+    let s = q.cell.symbol in
+    let pen = pen_of depth (attributes_of q.cell) in
+    let column = q.column + i in
+    let inside : column < q.column + step_of s = omega arith in
+    let off = outside x to column (columns_apart x to q.column (q.column + step_of s) i away inside) in
+    let start : column - i ≡ q.column = omega arith in
+    let whole : (nat_lt (column - i) to && nat_lt x (column - i + step_of s)) ≡ false =
+    subst (λ k. (nat_lt k to && nat_lt x (k + step_of s)) ≡ false) (sym start) (uncut x to q.column (q.column + step_of s) away) in
+    cond-false _ (part p.cell.symbol (pen_of depth (attributes_of p.cell)) (column - x)) (cut x to column (row column)) off
+    ∙ (ap (cut x to column) (stands i lt) ∙ cond-false _ unknown (part s pen i) whole)

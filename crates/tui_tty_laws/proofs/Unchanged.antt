@@ -1,0 +1,57 @@
+-- Where nothing has changed, nothing is sent; and frames follow one another.
+use Rattle.std.proofs.Common.{◌≡◌, ℕ, zero, suc, ◌+◌, ◌<◌, Bool, true, false, List, [], ◌∷◌, ◌++◌, length, cond, flat_map, get_or, refl, sym, ap, subst, ◌∙◌, inl, inr, Contains, arith}
+use Rattle.std.proofs.lemmas.Bool.{cond-false}
+use Rattle.tui_cells.specs.Buffer.{Screen}
+use Rattle.tui_text.specs.Visible.{Placed}
+use Rattle.tui_tty.specs.declared.cursor.Cursor.{Cursor}
+use Rattle.tui_tty.specs.declared.cursor.Cursor.TheVariants.{Keep}
+use Rattle.tui_tty.specs.declared.depth.Depth.{Depth}
+use Rattle.tui_tty.specs.declared.output.Output.{Output}
+use Rattle.tui_tty.specs.declared.trust.Trust.{Trust}
+use Rattle.tui_tty.specs.Calls.{IsChange, IsFull}
+use Rattle.tui_tty.specs.Pieces.{row_pieces}
+use Rattle.tui_tty.specs.Sends.{AreSent, IsCalm, Sends, SendsRow, SendsRows, closing, cursor_commands, opening}
+use Rattle.tui_tty.specs.Shows.{HasRoom, Shows, Trusts}
+use Rattle.tui_tty.specs.Spelling.{spelling}
+use Rattle.tui_tty.specs.Terminal.{Command, Tty, held, run, turn}
+use Rattle.tui_tty_laws.specs.Laws.{FramesFollow, SendsNothing}
+use Rattle.tui_tty_laws.proofs.Lists.{In-to}
+use Rattle.tui_tty_laws.proofs.Steps.{run_append}
+
+-- a row that shows what it showed
+none_sent : (trust : Trust) (qs ps : List Placed) → AreSent trust qs qs ps → ps ≡ []
+none_sent trust qs [] are = refl
+none_sent trust qs (p ∷ ps) are =
+    let calm : IsCalm trust qs qs = λ q new. elim new [ inl n ↦ absurd (n.1 n.0) | inr n ↦ absurd (n.1 n.0) ] in
+    let new = are.fresh calm p (In-to p (p ∷ ps) (inl refl)) in
+    absurd (new.1 new.0)
+
+nothing_here : (depth : Depth) (y : ℕ) (ps : List Placed) (cs : List Command) → Sends depth y ps cs → ps ≡ [] → cs ≡ []
+nothing_here depth y ps cs s none = subst (λ qs. Sends depth y qs cs) none s
+
+nothing_sent : (depth : Depth) (y : ℕ) (pss : List (List Placed)) (cs : List Command) → SendsRows depth y pss cs →
+    ((k : ℕ) → k < length pss → get_or pss k [] ≡ []) → cs ≡ []
+nothing_sent depth y [] cs s none = s
+nothing_sent depth y (ps ∷ pss) cs s none =
+    let here : s.here ≡ [] = nothing_here depth y ps s.here s.sends (none 0 (omega arith)) in
+    let more : s.more ≡ [] = nothing_sent depth (y + 1) pss s.more s.sends_more (λ k lt. none (suc k) (omega arith)) in
+    s.whole ∙ (λ i. here i ++ more i)
+
+nothing_round : (cursor : Cursor) (on : Bool) (rows : List Command) → cursor ≡ Keep → on ≡ false → rows ≡ [] →
+    cond on (turn held true ∷ []) [] ++ (rows ++ (cursor_commands cursor ++ cond on (turn held false ∷ []) [])) ≡ []
+nothing_round cursor on rows keep off none = λ i. cond (off i) (turn held true ∷ []) [] ++ (none i ++ (cursor_commands (keep i) ++ cond (off i) (turn held false ∷ []) []))
+
+pub unchanged_sends_nothing : SendsNothing
+unchanged_sends_nothing o b text keep off k =
+    let rows : (y : ℕ) → y < length k.sent → get_or k.sent y [] ≡ [] = λ y lt.
+    let inside : y < length b.rows = omega (arith, k.counted) in
+    none_sent o.trust (row_pieces o.trust b y) (get_or k.sent y []) (k.each y inside) in
+    let frame = k.framed in
+    let none : frame.rows ≡ [] = nothing_sent o.depth b.area.y k.sent frame.rows frame.sends rows in
+    let commands : k.commands ≡ [] = frame.framed ∙ nothing_round o.cursor o.hold frame.rows keep off none in
+    k.spelled.spelled ∙ ap (flat_map spelling) commands
+
+pub frames_follow : FramesFollow
+frames_follow o b c first next f k knows t trusts room =
+    subst (λ (u : Tty). Shows o knows u c) (sym (run_append knows f.commands k.commands t))
+    (k.shows knows (run knows f.commands t) trusts (f.shows knows t trusts room))

@@ -1,0 +1,35 @@
+//! Laws, each a function that does nothing.
+
+ghost use Rattle.tui_tty.specs.Session.{GivesBack};
+ghost use Rattle.tui_tty_laws.specs.Laws.{ChangeIsShown, DepthsRest, DrawingIsTrusted, FewParameters, FramesFollow, FullIsShown, NamesStay, NearestInPalette, NearestName, SendsNothing, TrueChangesNothing};
+
+/// The commands of a full screen show it on any terminal, and those of a change show the new screen where the old one showed; so
+/// they follow one another. Where nothing has changed, nothing is sent.
+pub fn screen_laws()
+    ensures full { FullIsShown }
+    ensures change { ChangeIsShown }
+    ensures follow { FramesFollow }
+    ensures nothing { SendsNothing }
+{}
+
+/// Between the beginning of the alternate screen and its end the main screen is kept.
+pub fn session_law()
+    ensures between { GivesBack }
+{}
+
+/// A terminal is trusted with each symbol that widgets draw with.
+pub fn symbol_law()
+    ensures drawing { DrawingIsTrusted }
+{}
+
+/// What a depth made of a colour it leaves as it is; a named colour stays; of the sixteen, and of the
+/// palette's cube and grays, none is nearer. A sequence that sets a pen
+/// has at most 16 parameters.
+pub fn colour_laws()
+    ensures rest { DepthsRest }
+    ensures whole { TrueChangesNothing }
+    ensures names { NamesStay }
+    ensures nearest_name { NearestName }
+    ensures nearest { NearestInPalette }
+    ensures few { FewParameters }
+{}
