@@ -20,7 +20,7 @@ pub(crate) struct Row {
     input: Option<String>,
     /// The input as hexadecimal digits, two a byte.
     input_hex: Option<String>,
-    /// The input as texts one after another, each so many times.
+    /// The input as texts one after another, each with the number of times that it stands.
     input_parts: Option<Vec<(String, u64)>>,
     /// The numbers of the reads that fail, from 1.
     #[serde(default)]

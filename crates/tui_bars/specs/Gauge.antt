@@ -79,7 +79,7 @@ turned_style s = record no_style { fg = Some (unwrap_or s.bg Reset); bg = Some (
 abbrev pub full : List ℕ
 full = 0xe2 ∷ 0x96 ∷ 0x88 ∷ []
 
--- the symbol of so many eighths of a cell from the left: a blank, then ▏ (e2968f) down to █ (e29688)
+-- the symbol of this many eighths of a cell from the left: a blank, then ▏ (e2968f) down to █ (e29688)
 unfoldable pub eighth : ℕ → List ℕ
 eighth k = if k == 0 then space else 0xe2 ∷ 0x96 ∷ (0x90 - min k 8) ∷ []
 
@@ -99,11 +99,11 @@ label_of g = unwrap_or g.label (raw_span (decimal (percent_of g.num g.den) ++ co
 abbrev pub label_width : Rect → SpanData → ℕ
 label_width area label = min (span_width false label) area.width
 
--- where a label of so many columns begins
+-- where a label of this many columns begins
 abbrev pub label_place : Rect → ℕ → Position
 label_place area width = record { x = past area.x ((area.width - width) / 2); y = past area.y (area.height / 2) }
 
--- the filled cells under a label of so many columns and in the column after it
+-- the filled cells under a label of this many columns and in the column after it
 abbrev pub label_area : Rect → ℕ → ℕ → Rect
 label_area area fill width = record {
   x = past area.x ((area.width - width) / 2);

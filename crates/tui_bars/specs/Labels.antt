@@ -16,7 +16,7 @@ use Rattle.tui_bars.specs.BarChart.{BarChartData}
 abbrev pub alignment_of : LineData → Alignment
 alignment_of label = unwrap_or label.alignment Left
 
--- so many columns of a row, placed by an alignment
+-- this many columns of a row, placed by an alignment
 abbrev pub place_in : Rect → Alignment → ℕ → Rect
 place_in row alignment width = cells_at (past row.x (before_it alignment row.width width)) row.y width
 

@@ -17,7 +17,7 @@ pub record TickLaws : Type 0 where
   pub order : (greatest value more length : ℕ) → value ≤ more → ticks greatest value length ≤ ticks greatest more length
   pub full : (greatest value length : ℕ) → 0 < greatest → greatest ≤ value → ticks greatest value length ≡ 8 * length
 
--- the symbol of a cell of which so many eighths are left to fill; from 8 on it is full
+-- the symbol of a cell of which this many eighths are left to fill; from 8 on it is full
 unfoldable pub level : BarSymbols → ℕ → List ℕ
 level s k =
     if k == 0 then s.empty else

@@ -24,7 +24,7 @@ pub(crate) fn ticks(greatest: u64, value: u64, length: u16) -> u32
     (u128::from(value) * whole / u128::from(greatest)).min(whole) as u32
 }
 
-/// The symbol of a cell of which so many eighths are left to fill; from 8 on it is full.
+/// The symbol of a cell of which this many eighths are left to fill; from 8 on it is full.
 #[tactic(auto, unfolding(crate::specs::Levels::level))]
 fn level<'a>(set: &bar::Set<'a>, eighths: u32) -> &'a str
     ensures is { result.now ≡ level (bar_data set.now) eighths }

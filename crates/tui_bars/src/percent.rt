@@ -11,7 +11,7 @@ use arrayvec::ArrayString;
 use itoa::Buffer as Digits;
 use tui_layout::Fraction;
 
-/// The share of so many percent.
+/// The share of this many percent.
 pub(crate) fn share_of_percent(percent: u16) -> Result<Share, GaugeError>
     ensures ok { percent ≤ 100 → IsOk result }
     ensures is { IfOk result (λ share. (share.num ≡ percent) × (share.den ≡ 100)) }

@@ -41,7 +41,7 @@ pub(crate) fn start(date: Date) -> i32
     date.first_of_month().to_plain().to_unix_epoch_day() - i32::from(lead(date))
 }
 
-/// The date so many days after a day, if the calendar has it.
+/// The date this many days after a day, if the calendar has it.
 fn day_at(start: i32, i: u8) -> Option<Date>
     ensures { IsDay (start +ℤ pos i) (option_map date_data result) }
 {

@@ -11,9 +11,6 @@ pub record IsRead (text rest : List ℕ) (plain : Bool) : Type 0 where
   pub split : text ≡ encode_utf8_all front ++ rest
   pub ended : plain ≡ true → (init : List ℕ) × (last : ℕ) × (front ≡ init ++ last ∷ []) × (is_plain last ≡ true)
 
-pub IsRead-none : (text : List ℕ) → IsRead text text false
-IsRead-none text = record { front = []; split = refl; ended = λ h. cc }
-
 pub IsRead-more : (text rest behind : List ℕ) (was plain : Bool) (c : ℕ) → IsRead text rest was → rest ≡ encode_utf8 c ++ behind → plain ≡ is_plain c → IsRead text behind plain
 IsRead-more text rest behind was plain c r e p =
     let front = encode_utf8_all r.front in

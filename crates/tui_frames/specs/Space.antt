@@ -11,7 +11,7 @@ use Rattle.tui_frames.specs.declared.title_position.TitlePosition.TheVariants.{T
 abbrev pub count : Bool → ℕ
 count is_set = if is_set then 1 else 0
 
--- so many columns or rows further on, at most 65535
+-- this many columns or rows further on, at most 65535
 abbrev pub past : ℕ → ℕ → ℕ
 past place n = min (place + n) farthest_edge
 

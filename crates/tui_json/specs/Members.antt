@@ -51,11 +51,11 @@ each_of kind (item d ds) = do
 unfoldable pub list_of : {A : Type 0} → (Data → Option A) → Data → Option (List A)
 list_of kind d = option_and_then (each_of kind) (as_array d)
 
--- values, if there are at least and at most so many
+-- values, if there are at least and at most this many
 abbrev pub if_counted : ℕ → ℕ → Items → Option Items
 if_counted least most ds = if nat_le least (items_len ds) && nat_le (items_len ds) most then Some ds else None
 
--- the values of an array that has at least and at most so many
+-- the values of an array that has at least and at most this many
 unfoldable pub elements_within : ℕ → ℕ → Data → Option Items
 elements_within least most d = option_and_then (if_counted least most) (as_array d)
 

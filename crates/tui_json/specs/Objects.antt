@@ -19,6 +19,6 @@ are_objects (item d ds) = is_object d && are_objects ds
 abbrev pub if_objects : Items → Option Items
 if_objects ds = if are_objects ds then Some ds else None
 
--- an array of at least and at most so many objects
+-- an array of at least and at most this many objects
 abbrev pub objects_within : ℕ → ℕ → Data → Option Items
 objects_within least most d = option_and_then if_objects (elements_within least most d)

@@ -15,7 +15,7 @@ abbrev pub previous_of : Option ℕ → ℕ
 previous_of None = greatest
 previous_of (Some place) = place - 1
 
--- so many places further on, or back, from the first one where nothing is selected
+-- this many places further on, or back, from the first one where nothing is selected
 abbrev pub forward_by : Option ℕ → ℕ → ℕ
 forward_by selected amount = min (unwrap_or selected 0 + amount) greatest
 

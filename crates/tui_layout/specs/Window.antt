@@ -7,7 +7,7 @@ use Rattle.tui_layout.specs.declared.window.Window.{Window}
 abbrev pub end_around : List ℕ → ℕ → ℕ → ℕ
 end_around heights s p = min (length heights) (s + p + 1)
 
--- item s and p items on each side of it, as far as there are so many, fit in the height
+-- item s and p items on each side of it, as far as there are that many, fit in the height
 abbrev pub FitsAround : List ℕ → ℕ → ℕ → ℕ → Type 0
 FitsAround heights height s p = total heights (s - p) (end_around heights s p) ≤ height
 

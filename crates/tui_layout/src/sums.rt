@@ -36,7 +36,7 @@ impl Sums {
         }
     }
 
-    /// No heights, and room for so many of them. `NoMemory` where there is none for these.
+    /// No heights, and room for this many of them. `NoMemory` where there is none for these.
     pub fn with_capacity(alloc: Global, capacity: usize) -> Mem<Sums>
         ensures { IfOk result (λ sums. sums ≡ []) }
     {

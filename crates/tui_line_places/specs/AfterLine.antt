@@ -20,7 +20,7 @@ HasLineCount w trim text n = (style : Style) (alignment : Alignment) → length 
 abbrev pub IsOneLine : ℕ → Bool → List ℕ → Type 0
 IsOneLine w trim text = HasLineCount w trim text 1
 
--- a text that is wrapped into at most so many lines
+-- a text that is wrapped into at most this many lines
 abbrev pub HasAtMost : ℕ → Bool → List ℕ → ℕ → Type 0
 HasAtMost w trim text n = (style : Style) (alignment : Alignment) → length (wrapped_lines style alignment w trim text) ≤ n
 

@@ -60,11 +60,11 @@ list_of items = record {
   padding = 0;
 }
 
--- the items that are shown in so many rows
+-- the items that are shown in this many rows
 abbrev pub list_window : ListData → ℕ → ListState → Window
 list_window l room s = window_of (heights_of l.items) room s.offset s.selected l.padding
 
--- the state after a drawing in so many rows
+-- the state after a drawing in this many rows
 abbrev pub list_moved : ListData → ℕ → ListState → ListState
 list_moved l room s = record { offset = (list_window l room s).first; selected = cut_selection (heights_of l.items) s.selected }
 

@@ -80,12 +80,12 @@ item_layers l g rows is_selected item =
     ++ ((if is_selected then stroke (covers rows) (dress l.highlight_style) else [])
     ++ gutter_layers l is_selected (columns_from rows 0 g) 0 rows.height))
 
--- the row of an item's first line, behind so many rows from the edge where the items begin
+-- the row of an item's first line, behind this many rows from the edge where the items begin
 abbrev pub row_of : ListDirection → ℕ → ℕ → ℕ → ℕ
 row_of TopToBottom room used height = used
 row_of BottomToTop room used height = room - used - height
 
--- n items from item i on, behind so many rows; an item has the rows that are left at most
+-- n items from item i on, behind this many rows; an item has the rows that are left at most
 unfoldable pub items_layers : ListData → Rect → Option ℕ → ℕ → ℕ → ℕ → List ListItemData → List Layer
 items_layers l inner selected i used zero items = []
 items_layers l inner selected i used (suc n) [] = []

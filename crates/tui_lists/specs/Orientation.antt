@@ -29,7 +29,7 @@ double_symbols o = if is_vertical o then double_vertical_scrollbar else double_h
 abbrev pub past : ℕ → ℕ → ℕ
 past place n = min (place + n) farthest_edge
 
--- the position so many places along the bar, which is the last column, the first one, the last row, or the first one
+-- the position this many places along the bar, which is the last column, the first one, the last row, or the first one
 abbrev pub along : ScrollbarOrientation → Rect → ℕ → Position
 along VerticalRight c i = record { x = past c.x (c.width - 1); y = past c.y i }
 along VerticalLeft c i = record { x = c.x; y = past c.y i }

@@ -137,7 +137,7 @@ impl<'a> List<'a> {
         self
     }
 
-    /// Sets how many items are to be seen on each side of the selected one, as far as there are so many and they fit.
+    /// Sets how many items are to be seen on each side of the selected one, as far as there are that many and they fit.
     pub fn scroll_padding(mut self, padding: usize) -> List<'a>
         ensures { list_data result ≡ record (list_data self.entry) { padding = padding } }
     {

@@ -227,7 +227,7 @@ fn reversed() -> Style
     Style::new().add_modifier(Modifier::REVERSED)
 }
 
-/// The title that is selected among so many, where this one was.
+/// The title that is selected among this many, where this one was.
 fn selected_in(count: usize, selected: Option<usize>) -> Option<usize>
     ensures { result ≡ selected_in count selected }
 {

@@ -15,7 +15,7 @@ key_line number s = codes "k " ++ (decimal number
     ++ (codes " " ++ (decimal s.offset
     ++ (codes " " ++ (decimal s.line ++ newline)))))))
 
--- the lines of states, the first of which has so many keys before it
+-- the lines of states, the first of which has this many keys before it
 unfoldable pub key_lines : ℕ → List PagerState → List ℕ
 key_lines number [] = []
 key_lines number (s ∷ ss) = key_line number s ++ key_lines (number + 1) ss

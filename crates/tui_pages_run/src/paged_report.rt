@@ -50,6 +50,7 @@ pub(crate) fn read_report<'v>(
             Err(InputError::Refused(PagesRefusal::TooTall { place }))
         }
         Err(ReportError::NoMemory) => Err(InputError::NoMemory),
+        // The width and the height were read within the bounds of a report.
         Err(ReportError::TooSmall) => unreachable!(),
     }
 }

@@ -155,7 +155,7 @@ by_member : (room : ℕ) (pane_of : Reader PaneData) → (0 < room → ReadsWith
 by_member room pane_of reads at d (Some parts) r e = split_read room pane_of reads at d r e
 by_member room pane_of reads at d None r e = lone_read room at d r e
 
--- a pane with so many levels below it
+-- a pane with this many levels below it
 pub pane_read : (room : ℕ) → ReadsWithin (suc room) (pane_in room)
 unfolding pane_in
 pane_read zero at d r e = by_member zero lone_in (λ some. absurd (omega (arith, some))) at d (get (codes "parts") d) r e

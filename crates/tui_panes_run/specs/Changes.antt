@@ -39,7 +39,7 @@ in_change kind field d = tests.required kind (change_key field) bad_change d
 abbrev pub leaf_number : ℕ → Data → Option ℕ
 leaf_number leaves d = option_and_then (below leaves) (u64_of d)
 
--- a change by its number, where there are so many leaves: what is no object has no fields; its widget has a number behind theirs
+-- a change by its number, where there are that many leaves: what is no object has no fields; its widget has a number behind theirs
 unfoldable pub change_in : ℕ → ℕ → Data → Result ChangeData PanesRefusal
 change_in leaves i d = do
   leaf ← in_change (leaf_number leaves) changing.Leaf d

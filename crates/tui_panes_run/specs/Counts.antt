@@ -19,6 +19,6 @@ with_leaf c = record { panes = c.panes + 1; leaves = c.leaves + 1 }
 abbrev pub with_split : CountsData → CountsData
 with_split c = record { panes = c.panes + 1; leaves = c.leaves }
 
--- a tree has at most so many panes
+-- a tree has at most this many panes
 abbrev pub most_panes : ℕ
 most_panes = 256

@@ -31,7 +31,7 @@ size_in d = do
   height ← required (within 1 1000) None fields.Height d
   Ok (record { width = width; height = height })
 
--- so many levels may stand below the root, so that a tree has at most 32
+-- this many levels may stand below the root, so that a tree has at most 32
 abbrev pub most_below : ℕ
 most_below = 31
 

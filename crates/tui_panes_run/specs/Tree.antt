@@ -52,7 +52,7 @@ shape_in number d = do
   flex ← optional (named_of flexes) (Some number) fields.Flex d
   Ok (record { direction = unwrap_or direction directed.Horizontal; spacing = unwrap_or spacing 0; flex = unwrap_or flex flexing.Start })
 
--- the values of the parts of a split, which may have so many levels below it
+-- the values of the parts of a split, which may have this many levels below it
 unfoldable pub values_in : ℕ → CountsData → Data → Result Items PanesRefusal
 values_in room at d = do
   values ← required (objects_within 1 256) (Some at.panes) fields.Parts d
@@ -93,7 +93,7 @@ abbrev pub by_parts : Reader PaneData → ℕ → CountsData → Data → Option
 by_parts pane_of room at d (Some parts) = split_in pane_of room at d
 by_parts pane_of room at d None = lone_in at d
 
--- the next pane, which may have so many levels below its own
+-- the next pane, which may have this many levels below its own
 unfoldable pub pane_in : ℕ → Reader PaneData
 pane_in zero at d = by_parts lone_in zero at d (get (codes "parts") d)
 pane_in (suc room) at d = by_parts (pane_in room) (suc room) at d (get (codes "parts") d)

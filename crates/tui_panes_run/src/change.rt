@@ -66,7 +66,7 @@ impl<'v> Numbered<'v, ChangeField> for Change<'v> {
     }
 }
 
-/// The number of a leaf, of which there are so many.
+/// The number of a leaf, of which there are that many.
 fn read_place(
     alloc: Global,
     leaves: usize,

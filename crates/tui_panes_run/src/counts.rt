@@ -2,7 +2,7 @@
 
 ghost use Rattle.std.specs.Prelude.{◌<◌, ◌≤◌};
 
-/// A tree has at most so many panes.
+/// A tree has at most this many panes.
 pub(crate) const MOST_PANES: usize = 256;
 
 /// How many panes are read, and how many of them are leaves: the numbers of the next pane and of the next leaf.

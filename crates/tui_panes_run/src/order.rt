@@ -15,7 +15,7 @@ pub enum Order {
 }
 
 impl Order {
-    /// The numbers of so many leaves in this order.
+    /// The numbers of this many leaves in this order.
     pub(crate) fn numbers(self, alloc: Global, count: usize) -> Mem<Vec<usize>>
         ensures { IfOk result (λ numbers. numbers.items ≡ numbers_of self count) }
     {

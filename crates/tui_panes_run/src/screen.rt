@@ -37,6 +37,7 @@ pub(crate) fn placed<'v>(alloc: Global, size: Size, root: Pane<'v>) -> Mem<Panes
     match Panes::new(alloc, area, root) {
         Ok(panes) => Ok(panes),
         Err(PanesError::NoMemory) => Err(NoMemory),
+        // The tree was read with 32 levels at most.
         Err(PanesError::TooDeep) => unreachable!(),
     }
 }
@@ -80,6 +81,7 @@ fn draw_all(alloc: Global, panes: &mut Panes<'_>, numbers: &[usize], buffer: &mu
     match panes.draw(alloc, numbers, buffer) {
         Ok(()) => Ok(()),
         Err(OrderError::NoMemory { .. }) => Err(NoMemory),
+        // The numbers have each leaf once.
         Err(OrderError::NotOrder) => unreachable!(),
     }
 }

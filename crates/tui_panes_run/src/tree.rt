@@ -20,7 +20,7 @@ use tui_layout::Constraint;
 use tui_panes_lib::{Pane, Part};
 use tui_scene::Item;
 
-/// The pane that a value is, which may have so many levels below its own, and the counts behind it. It is refused at the first test of
+/// The pane that a value is, which may have this many levels below its own, and the counts behind it. It is refused at the first test of
 /// it, or of a pane inside it, that fails.
 #[cycle(panes)]
 #[tactic(auto, using(crate::proofs::Trees::as_split, crate::proofs::Trees::as_leaf))]

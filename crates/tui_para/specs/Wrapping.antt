@@ -109,7 +109,7 @@ module _ {O I : Type 0} (outer : O → Option (I × Alignment) → O → Type 0)
     pub is_part : IfSome found (IsPart (glyphs_of new.current.line))
     pub first : IsFirst (option_map (λ p. glyph_line new.alignment (part_of (glyphs_of new.current.line) p)) found) (wrapper_lends old) (wrapper_lends new)
 
-  -- a truncator found its next line, which is what it keeps and has so many columns, or that there is none
+  -- a truncator found its next line, which is what it keeps and has this many columns, or that there is none
   pub record FindsTruncated (old new : LineTruncator O I) (found : Option ℕ) : Type 0 where
     pub columns : IfSome found (λ n. n ≡ sum_by glyph_width (map glyph_of new.shown.items))
     pub first : IsFirst (option_map (λ _. glyph_line new.alignment (map glyph_of new.shown.items)) found) (truncator_lends old) (truncator_lends new)

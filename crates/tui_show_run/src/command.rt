@@ -21,7 +21,7 @@ use tui_schema::{BadField, Reading, read_scene};
 pub enum ShowCommand {
     /// `scene` reads a scene, and writes its screen.
     Scene,
-    /// `demo N` draws so many items beside so many words, from 1 to 100000, and writes a line on them and the screen's rows.
+    /// `demo N` draws N items beside N words, from 1 to 100000, and writes a line on them and the screen's rows.
     Demo(u32),
 }
 

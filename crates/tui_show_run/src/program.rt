@@ -16,8 +16,8 @@ use tui_outside::{Sink, Source};
 use tui_program::{Leftovers, run};
 
 /// Runs the command that the words name: `scene` alone reads a scene in JSON (docs/SCENE.md) from the source, draws it and
-/// writes the screen to the sink; `demo` and a number from 1 to 100000, in one to six digits, reads nothing, draws a list of so
-/// many items beside so many words, and writes a line on them and the rows of the screen.
+/// writes the screen to the sink; `demo` and a number from 1 to 100000, in one to six digits, reads nothing, draws a list of
+/// that many items beside as many words, and writes a line on them and the rows of the screen.
 ///
 /// With `scene` it ends Ok only where the source was read to its end within 1,048,576 bytes, these bytes are JSON that the
 /// schema accepts, no read and no put failed, and the sink holds what it held and then the print of the buffer that a run over

@@ -12,7 +12,7 @@ use Rattle.tui_table.specs.Row.{RowData, most_cells, row_height}
 use Rattle.tui_table.specs.Table.{TableData}
 use Rattle.tui_text.specs.Width.{text_width}
 
--- the area of a row behind so many rows of another area: below its top margin, as high as it is, cut at the end
+-- the area of a row behind this many rows of another area: below its top margin, as high as it is, cut at the end
 abbrev pub area_in : Rect → ℕ → RowData → Rect
 area_in rect from r = rows_from rect (from + r.top_margin) r.height
 

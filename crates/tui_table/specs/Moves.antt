@@ -14,7 +14,7 @@ use Rattle.tui_table.specs.declared.state.TableState.{TableState}
 abbrev pub table_window : TableData → ℕ → TableState → Window
 table_window t height s = window_of (heights_of t.rows) (room_of t height) s.offset s.selected 0
 
--- a place among so many: past the last it is the last, and there is none where there are none, where a list's `cut_selection` is not asked
+-- a place among this many: past the last it is the last, and there is none where there are none, where a list's `cut_selection` is not asked
 abbrev pub cut_to : ℕ → Option ℕ → Option ℕ
 cut_to count None = None
 cut_to count (Some place) = if count == 0 then None else Some (min place (count - 1))

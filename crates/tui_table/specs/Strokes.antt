@@ -76,7 +76,7 @@ row_layers t gutter columns kind area r =
     stroke (covers area) (dress r.style)
     ++ (symbol_layers t gutter kind area r.style ++ cells_layers area gutter t.spacing kind columns r.cells)
 
--- the header or the footer, if there is one, behind so many rows
+-- the header or the footer, if there is one, behind this many rows
 unfoldable pub edge_layers : TableData → Rect → ℕ → List Segment → ℕ → Option RowData → List Layer
 edge_layers t inner gutter columns from None = []
 edge_layers t inner gutter columns from (Some r) = row_layers t gutter columns Edge (area_in inner from r) r

@@ -99,7 +99,7 @@ pub(crate) fn paint_cells(
     Ok(())
 }
 
-/// The area of a row behind so many rows of another area.
+/// The area of a row behind this many rows of another area.
 pub(crate) fn area_in(rect: Rect, from: u128, row: &Row<'_>) -> Rect
     requires { from < 2 ^ 100 }
     ensures { result ≡ area_in rect from (row_data row.now) }

@@ -77,7 +77,7 @@ impl<'a> Rows<'a> {
         self.most
     }
 
-    /// The rows that are shown in so many rows of the screen.
+    /// The rows that are shown in this many rows of the screen.
     pub(crate) fn window(&self, room: u16, offset: usize, selected: Option<usize>) -> Window
         ensures found { result ≡ window_of (heights_of (map row_data self.now)) room offset selected 0 }
         ensures order { (result.first ≤ result.end) × (result.end ≤ length self.now) }

@@ -213,28 +213,28 @@ impl TableState {
         self.selected_column = Some(usize::MAX);
     }
 
-    /// Selects so many rows further on, counted from the first where none is selected.
+    /// Selects this many rows further on, counted from the first where none is selected.
     pub fn scroll_down_by(&mut self, amount: u16)
         ensures { self.new ≡ record self.old { selected = Some (forward_by self.old.selected amount) } }
     {
         self.selected = Some(forward_by(self.selected, amount));
     }
 
-    /// Selects so many rows back, at least the first.
+    /// Selects this many rows back, at least the first.
     pub fn scroll_up_by(&mut self, amount: u16)
         ensures { self.new ≡ record self.old { selected = Some (back_by self.old.selected amount) } }
     {
         self.selected = Some(back_by(self.selected, amount));
     }
 
-    /// Selects so many columns further on, counted from the first where none is selected.
+    /// Selects this many columns further on, counted from the first where none is selected.
     pub fn scroll_right_by(&mut self, amount: u16)
         ensures { self.new ≡ record self.old { selected_column = Some (forward_by self.old.selected_column amount) } }
     {
         self.selected_column = Some(forward_by(self.selected_column, amount));
     }
 
-    /// Selects so many columns back, at least the first.
+    /// Selects this many columns back, at least the first.
     pub fn scroll_left_by(&mut self, amount: u16)
         ensures { self.new ≡ record self.old { selected_column = Some (back_by self.old.selected_column amount) } }
     {

@@ -70,13 +70,6 @@ painted_run row skip place x style run more a b e k is p = record {
     bytes = set_spelt x row.y (length run) (length run) style run [] (map one_byte run) a b b (sym (append-nil (map one_byte run))) e (omega arith) refl p
         (set_none (x + length run) row.y (length run - length run) style [] b refl)
 
-pub painted_no_run : (row : Rect) (skip place : ℕ) (style : Style) (run : List ℕ) (more : List Glyph) (b : Screen) → length run ≡ 0 →
-    ShownUpTo row skip place (map (glyph_in style) (map one_byte run) ++ more) (place + length run) more b b
-painted_no_run row skip place style [] more b e = record {
-  done = λ final q. subst (λ n. Painted (shown_glyphs row skip n more) b final) (let same : place + 0 ≡ place = omega arith in same) q;
-}
-painted_no_run row skip place style (r ∷ rs) more b e = absurd (omega (arith, e))
-
 first_glyphs : (style : Style) (run : List ℕ) (cs all : List (List ℕ)) (more : List Glyph) → all ≡ map one_byte run ++ cs →
     map (glyph_in style) (map one_byte run) ++ (map (glyph_in style) cs ++ more) ≡ map (glyph_in style) all ++ more
 first_glyphs style run cs all more e =

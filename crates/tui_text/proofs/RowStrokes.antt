@@ -29,10 +29,6 @@ shown_none row skip place gs b e = rw e (Painted-none b)
 shown_cut : (row : Rect) (skip place most : ℕ) (gs : List Glyph) → skip + row.width ≤ most → shown_glyphs row skip (min place most) gs ≡ shown_glyphs row skip place gs
 shown_cut row skip place most gs wide = grind (arith, shown_past row skip most gs, shown_past row skip place gs)
 
--- nothing is painted yet
-pub shown_begun : (row : Rect) (skip place : ℕ) (all gs : List Glyph) (b : Screen) → gs ≡ all → ShownUpTo row skip place all place gs b b
-shown_begun row skip place all gs b e = record { done = λ final p. rw e at p }
-
 -- past the row all is painted, whatever is left
 pub shown_whole : (row : Rect) (skip place : ℕ) (all left : List Glyph) (b : Screen) → skip + row.width ≤ place → ShownUpTo row skip place all place left b b
 shown_whole row skip place all left b far =

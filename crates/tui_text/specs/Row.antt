@@ -7,7 +7,7 @@ use Rattle.tui_cells.specs.Rect.{bottom_of, right_of}
 use Rattle.tui_text.specs.Grapheme.{Glyph}
 use Rattle.tui_text.specs.Painting.{shown_glyphs}
 
--- so many columns from a place on lie in the row
+-- this many columns from a place on lie in the row
 pub record InRow (row : Rect) (skip place columns : ℕ) : Type 0 where
   pub begun : skip ≤ place
   pub within : row.x + (place - skip) + columns ≤ right_of row

@@ -14,7 +14,7 @@ pub record Placed : Type 0 where
   pub column : ℕ
   pub cell : Look
 
--- the cells that show, in columns that begin with a given one, where so many cells are hidden behind a wide symbol before them
+-- the cells that show, in columns that begin with a given one, where this many cells are hidden behind a wide symbol before them
 unfoldable pub visible_from : ℕ → ℕ → List Look → List Placed
 visible_from column hidden [] = []
 visible_from column zero (c ∷ cs) = record { column = column; cell = c } ∷ visible_from (column + 1) (step_of c.symbol - 1) cs

@@ -6,7 +6,7 @@ use Rattle.tui_text.specs.Visible.{Placed, step_of}
 use Rattle.tui_tty.specs.declared.trust.Trust.{Trust}
 use Rattle.tui_tty.specs.Symbols.{is_sendable}
 
--- What the next cells of a row lie under: so many of them are behind a cell. They don't show, or show as blanks in its colours.
+-- What the next cells of a row lie under: this many of them are behind a cell. They don't show, or show as blanks in its colours.
 pub record Cover : Type 0 where
   pub left : ℕ
   pub blank : Option Look
@@ -18,7 +18,7 @@ uncovered = record { left = 0; blank = None }
 abbrev pub blanked : Look → Look
 blanked c = record c { symbol = space }
 
--- what shows in the column of a cell, if anything begins there, where so many columns are left in the row: a symbol that may not be
+-- what shows in the column of a cell, if anything begins there, where this many columns are left in the row: a symbol that may not be
 -- sent is blanks in its columns and colours
 unfoldable pub seen : Trust → ℕ → Look → Look
 seen trust room c = if is_sendable trust room c.symbol then c else blanked c

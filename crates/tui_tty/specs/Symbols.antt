@@ -106,7 +106,7 @@ ends_chars (c ∷ cs) = last_ends c cs
 unfoldable pub is_ended : List ℕ → Bool
 is_ended symbol = ends_chars (chars symbol)
 
--- Whether a symbol may be sent, where so many columns are left in the row: it holds no control character, and fits; and a terminal is
+-- Whether a symbol may be sent, where this many columns are left in the row: it holds no control character, and fits; and a terminal is
 -- trusted with it, or it joins nothing beside it, and fits however wide it comes out.
 unfoldable pub is_sendable : Trust → ℕ → List ℕ → Bool
 is_sendable trust room symbol =

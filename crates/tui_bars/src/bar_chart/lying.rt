@@ -202,7 +202,7 @@ impl<'a> BarChart<'a> {
         paint_beyond(buf, plan, middle, filled, text, style)
     }
 
-    /// The row below so many bars.
+    /// The row below this many bars.
     fn gap_row(&self, plan: Plan, at: u16, count: usize) -> Rect
         ensures { result ≡ gap_row (bar_chart_data self.now) plan at count }
     {

@@ -22,7 +22,7 @@ impl<'a> BarChart<'a> {
         count.min((space as usize + self.bar_gap as usize) / step)
     }
 
-    /// The room of so many bars.
+    /// The room of this many bars.
     fn room(&self, count: usize) -> u128
         ensures { result ≡ room_of (bar_chart_data self.now) count }
     {

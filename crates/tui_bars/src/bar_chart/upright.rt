@@ -59,7 +59,7 @@ fn alignment_of(label: &Line<'_>) -> Alignment
     label.line_alignment().unwrap_or(Alignment::Left)
 }
 
-/// So many columns of a row, placed by an alignment.
+/// This many columns of a row, placed by an alignment.
 fn place_in(row: Rect, alignment: Alignment, width: u16) -> Rect
     ensures { result ≡ place_in row alignment width }
 {
@@ -135,7 +135,7 @@ impl<'a> BarChart<'a> {
         paint_levels(alloc, buf, plan.area, &self.bar_set, standing)
     }
 
-    /// The last row, below so many bars.
+    /// The last row, below this many bars.
     fn group_row(&self, plan: Plan, at: u16, count: usize) -> Rect
         ensures { result ≡ group_row (bar_chart_data self.now) plan at count }
     {

@@ -34,7 +34,7 @@ use tui_cells::{Buffer, Color, Mem, Position, Rect, Style, Widget, block};
 use tui_frames::paint_frame;
 use tui_text::{Span, set_span_in};
 
-/// The symbol of so many eighths of a cell, from the left.
+/// The symbol of this many eighths of a cell, from the left.
 #[tactic(auto, unfolding(crate::specs::Gauge::eighth))]
 fn eighth(eighths: u8) -> &'static str
     ensures is { result.now ≡ eighth eighths }
@@ -99,7 +99,7 @@ fn label_width(area: Rect, label: &Span<'_>) -> u16
     label.width().min(area.width as usize) as u16
 }
 
-/// Where a label of so many columns begins.
+/// Where a label of this many columns begins.
 fn label_place(area: Rect, width: u16) -> Position
     requires { width ≤ area.width }
     ensures { result ≡ label_place area width }
@@ -110,7 +110,7 @@ fn label_place(area: Rect, width: u16) -> Position
     }
 }
 
-/// The filled cells under a label of so many columns, and in the column after it.
+/// The filled cells under a label of this many columns, and in the column after it.
 fn label_area(area: Rect, fill: u16, width: u16) -> Rect
     requires { width ≤ area.width }
     ensures { result ≡ label_area area fill width }

@@ -48,7 +48,7 @@ impl<'a> Items<'a> {
         self.items.len()
     }
 
-    /// The items that a list shows in so many rows.
+    /// The items that a list shows in this many rows.
     pub(crate) fn window(
         &self,
         room: u16,

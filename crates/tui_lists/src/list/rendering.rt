@@ -84,7 +84,7 @@ impl<'a> List<'a> {
         Ok(())
     }
 
-    /// One item in its rows, beside so many columns for the symbol.
+    /// One item in its rows, beside this many columns for the symbol.
     fn paint_item(
         &self,
         alloc: Global,
@@ -267,7 +267,7 @@ fn cut_height(lines: usize, room: u16) -> u16
     lines.min(usize::from(room)) as u16
 }
 
-/// The row of an item's first line, behind so many rows from the edge where the items begin.
+/// The row of an item's first line, behind this many rows from the edge where the items begin.
 fn row_of(direction: ListDirection, room: u16, used: u16, height: u16) -> u16
     ensures { result ≡ row_of direction room used height }
 {

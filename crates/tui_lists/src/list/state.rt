@@ -113,7 +113,7 @@ impl ListState {
         self.selected = Some(usize::MAX);
     }
 
-    /// Selects the item so many places further down, counted from the first where none is selected. At the greatest place it
+    /// Selects the item this many places further down, counted from the first where none is selected. At the greatest place it
     /// stops.
     pub fn scroll_down_by(&mut self, amount: u16)
         ensures { self.new ≡ record self.old { selected = Some (forward_by self.old.selected amount) } }
@@ -121,7 +121,7 @@ impl ListState {
         self.selected = Some(forward_by(self.selected, amount));
     }
 
-    /// Selects the item so many places further up, counted from the first where none is selected. At the first it stops.
+    /// Selects the item this many places further up, counted from the first where none is selected. At the first it stops.
     pub fn scroll_up_by(&mut self, amount: u16)
         ensures { self.new ≡ record self.old { selected = Some (back_by self.old.selected amount) } }
     {

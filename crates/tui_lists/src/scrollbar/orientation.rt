@@ -50,7 +50,7 @@ impl ScrollbarOrientation {
         }
     }
 
-    /// The position so many places along the bar.
+    /// The position this many places along the bar.
     pub(crate) fn along(self, clip: Rect, place: usize) -> Position
         ensures { result ≡ along self clip place }
     {

@@ -16,7 +16,7 @@ use Rattle.tui_text.specs.Text.{TextData, empty_text}
 use Rattle.tui_text.specs.declared.alignment.Alignment.TheVariants.{Left}
 use Rattle.tui_show_run.specs.Demo.Text.{demo_text, letter}
 
--- item i has so many lines, each of them its letter
+-- item i has this many lines, each of them its letter
 abbrev pub item_lines : ℕ → ℕ
 item_lines i = 1 + i % 3
 
@@ -58,6 +58,6 @@ demo_scene n =
     record { area = area_of 0 0 20 8; item = list (demo_list n) (demo_state n) }
     ∷ record { area = area_of 20 0 20 8; item = still (paragraph (demo_paragraph (demo_text n))) } ∷ []
 
--- at 20 columns the words are wrapped into so many lines
+-- at 20 columns the words are wrapped into this many lines
 abbrev pub HasLines : ℕ → ℕ → Type 0
 HasLines n count = (lines : List GlyphLine) × WrappedText 20 demo_wrap Left (one_line (demo_text n)) lines × (count ≡ length lines)

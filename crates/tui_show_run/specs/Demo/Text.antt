@@ -6,11 +6,11 @@ use Rattle.std.specs.List.{join_with_byte, range_with_len, repeat}
 abbrev pub letter : ℕ → ℕ
 letter i = 97 + i % 26
 
--- of n words, word i is its letter, so many times
+-- of n words, word i is its letter, this many times
 abbrev pub times : ℕ → ℕ → ℕ
 times n i = 1 + (7 * i + n) % 9
 
--- word i of n: its letter, so many times
+-- word i of n: its letter, this many times
 abbrev pub word : ℕ → ℕ → List ℕ
 word n i = repeat (times n i) (letter i ∷ [])
 

@@ -41,7 +41,7 @@ fn push_gap(text: &mut String, i: u32) -> Mem<()>
     Ok(())
 }
 
-/// A letter, so many times.
+/// A letter, this many times.
 fn push_times(text: &mut String, letter: &str, count: u32) -> Mem<()>
     ensures { OnOk result (string_bytes text.new ≡ string_bytes text.old ++ repeat count letter.now) }
 {

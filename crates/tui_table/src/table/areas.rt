@@ -93,7 +93,7 @@ fn cells_if(row: &Option<Row<'_>>) -> usize
     }
 }
 
-/// A selection among so many: past the last it is the last, and there is none where there are none.
+/// A selection among this many: past the last it is the last, and there is none where there are none.
 pub(crate) fn cut_to(count: usize, selected: Option<usize>) -> Option<usize>
     ensures { result ≡ cut_to count selected }
 {

@@ -98,7 +98,7 @@ impl<'a> Table<'a> {
         paint_cells(buf, area, grid, self.column_spacing, kind, &row.cells)
     }
 
-    /// The header or the footer, if there is one, behind so many rows of the screen.
+    /// The header or the footer, if there is one, behind this many rows of the screen.
     #[tactic(auto, unfolding(crate::specs::Strokes::edge_layers))]
     fn paint_edge(
         &self,
@@ -357,7 +357,7 @@ fn kind_at(selected: Option<usize>, i: usize) -> RowKind
     }
 }
 
-/// One more, where there are so many.
+/// One more, where there are that many.
 fn one_more(last: usize, count: usize) -> usize
     requires { last ≤ count }
     ensures { result ≡ min (last + 1) count }
