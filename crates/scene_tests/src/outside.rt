@@ -5,7 +5,8 @@ use std::io;
 use std::io::{Cursor, ErrorKind, Read};
 use tui_cells::{Buffer, Mem, Rect};
 use tui_port::{
-    MemSink, Print, ReadEnd, StdSink, StdSource, WriteFault, put_all, read_all, write_screen,
+    MemSink, Print, ReadEnd, StdSink, StdSource, WriteFault, put_all, put_rows, read_all,
+    write_screen,
 };
 use tui_scene::Scene;
 
@@ -90,7 +91,7 @@ fn printed_twice(alloc: Global, sink: &mut MemSink) -> Mem<bool> {
     let mut print = Print::new();
     print.text(sink, "page ");
     print.number(sink, 1);
-    print.rows(sink, &buf);
+    put_rows(&mut print, &buf, sink);
     let first = print.end(sink);
     print.place(sink, None);
     print.place(sink, Some(23));
