@@ -13,7 +13,7 @@ use crate::style::Style;
 use arrayvec::ArrayString;
 use std::alloc::Global;
 
-/// So many blank cells.
+/// `width` blank cells.
 pub(crate) fn blank_cells(alloc: Global, width: u16) -> Mem<Vec<Cell>>
     ensures { IfOk result (λ cells. cells.items ≡ replicate width blank) }
 {
