@@ -1,6 +1,6 @@
 //! The bytes of commands, but for those that set a pen.
 
-ghost use Rattle.std.specs.Prelude.{◌+◌, ◌<◌, ◌×◌, [], ◌∷◌, ◌++◌, false, true};
+ghost use Rattle.std.specs.Prelude.{◌+◌, ◌<◌, [], ◌∷◌, ◌++◌, false, true};
 ghost use Rattle.tui_outside.specs.Gathers.{Gathers};
 ghost use Rattle.tui_tty.specs.Spelling.{spelling, tame_text};
 ghost use Rattle.tui_tty.specs.Terminal.{held, place, tame, turn, visible};
