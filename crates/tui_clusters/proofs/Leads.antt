@@ -1,12 +1,12 @@
 -- What a character's first bytes tell of it.
-use Rattle.std.proofs.Common.{◌≡◌, ℕ, ◌+◌, ◌/◌, ◌%◌, ◌<◌, ◌≤◌, Bool, true, ◌&&◌, ◌||◌, nat_le, List, [], ◌∷◌, ◌++◌, length, length-append, get_or, ⊎_elim, le-ltb, lt-ltb, refl, sym, ap, subst, ◌∙◌, arith}
+use Rattle.std.proofs.Common.{◌≡◌, ℕ, ◌+◌, ◌/◌, ◌%◌, ◌<◌, ◌≤◌, Bool, true, false, ◌⊎◌, inl, inr, ◌&&◌, ◌||◌, nat_le, List, [], ◌∷◌, ◌++◌, length, length-append, append-nil, get_or, ⊎_elim, le-ltb, lt-ltb, refl, sym, ap, subst, ◌∙◌, arith}
 use lib.Utf8.{encode}
 use Rattle.std.specs.Prelude.{encode_utf8_all}
 use Rattle.std.specs.Str.{IsUtf8}
 use Rattle.std.proofs.lemmas.Bool.{and_parts, cases_lt, leb-true, or_cases}
 use Rattle.std.proofs.lemmas.Bool.Decides.{nat_tests}
 use Rattle.ucd_table.specs.Rows.{Range, in_ranges}
-use Rattle.tui_clusters.specs.Plain.{is_plain, is_sign_start, plain_len, sign_ranges, told_ranges, IsCharIn, IsPlainChar, IsSign}
+use Rattle.tui_clusters.specs.Plain.{is_plain, is_sign_start, plain_len, sign_ranges, told_ranges, IsCharIn, IsLetter, IsPlainChar, IsSign}
 use Rattle.tui_clusters.proofs.PlainChars.{IsCharIn-from}
 
 module _ (c : ℕ) (r : List ℕ) where
@@ -39,7 +39,7 @@ one_byte : (b : ℕ) → b < 128 → 0 < plain_len b → (plain_len b ≡ 1) × 
 unfolding plain_len
 one_byte b low h = (grind (arith, nat_tests), grind (arith, nat_tests), grind (arith, nat_tests))
 
-abbrev leads_two : ℕ → Bool
+abbrev pub leads_two : ℕ → Bool
 leads_two b = (nat_le 0xC3 b && nat_le b 0xCB) || (nat_le 0xCE b && nat_le b 0xD1)
 
 two_bytes : (b : ℕ) → 192 ≤ b → b < 224 → 0 < plain_len b → (plain_len b ≡ 2) × (leads_two b ≡ true)
@@ -104,6 +104,39 @@ in_three c low high = (grind (arith, nat_tests), grind (arith, nat_tests))
 in_signs : (c : ℕ) → 0x2500 ≤ c → c ≤ 0x25BF → (in_ranges sign_ranges c ≡ true) × (is_plain c ≡ true)
 unfolding is_plain in_ranges
 in_signs c low high = (grind (arith, nat_tests), grind (arith, nat_tests))
+
+-- and the other way round: the first byte of such a letter tells it
+letter_range : (c : ℕ) → in_ranges (told_ranges 2) c ≡ true → (0xC0 ≤ c) × (c ≤ 0x47F) × (leads_two (192 + c / 64) ≡ true)
+unfolding in_ranges
+letter_range c h = ⊎_elim
+    (λ latin.
+    let p = and_parts (nat_le 0xC0 c) (nat_le c 0x2FF) latin in
+    let low = leb-true 0xC0 c p.0 in
+    let high = leb-true c 0x2FF p.1 in
+    (low, omega arith, leads (192 + c / 64) (inl (omega arith, omega arith))))
+    (λ others.
+    let p = and_parts (nat_le 0x380 c) (nat_le c 0x47F) (or_none (nat_le 0x380 c && nat_le c 0x47F) others) in
+    let low = leb-true 0x380 c p.0 in
+    let high = leb-true c 0x47F p.1 in
+    (omega arith, high, leads (192 + c / 64) (inr (omega arith, omega arith))))
+    (or_cases (nat_le 0xC0 c && nat_le c 0x2FF) ((nat_le 0x380 c && nat_le c 0x47F) || false) h)
+  where
+    or_none : (b : Bool) → b || false ≡ true → b ≡ true
+    or_none true e = refl
+    or_none false e = cc
+
+    leads : (b : ℕ) → ((0xC3 ≤ b) × (b ≤ 0xCB)) ⊎ ((0xCE ≤ b) × (b ≤ 0xD1)) → leads_two b ≡ true
+    leads b (inl p) = let low = p.0 in let high = p.1 in grind (arith, nat_tests)
+    leads b (inr p) = let low = p.0 in let high = p.1 in grind (arith, nat_tests)
+
+pub letter_bytes : (text : List ℕ) → IsLetter text → (length text ≡ 2) × (leads_two (get_or text 0 0) ≡ true)
+letter_bytes text p =
+    let range = letter_range p.char p.within in
+    let low = range.0 in
+    let high = range.1 in
+    let first = first_two p.char [] (omega arith) (omega arith) in
+    let whole : text ≡ encode p.char ++ [] = p.spelt ∙ sym (append-nil (encode p.char)) in
+    (ap length p.spelt ∙ first.1, subst (λ b. leads_two b ≡ true) (sym (ap (λ t. get_or t 0 0) whole ∙ first.0)) range.2)
 
 sign_bytes : (a b : ℕ) → is_sign_start a b ≡ true → (a ≡ 0xE2) × (0x94 ≤ b) × (b ≤ 0x96)
 sign_bytes a b h = (grind (arith, nat_tests), grind (arith, nat_tests), grind (arith, nat_tests))

@@ -1,11 +1,12 @@
 -- No rule on grapheme clusters names a plain character.
-use Rattle.std.proofs.Common.{◌≡◌, ℕ, ◌<◌, ◌≤◌, Bool, true, false, ◌&&◌, ◌||◌, ◌==◌, nat_le, List, [], ◌∷◌, ◌++◌, length, map, append-nil, refl, sym, ap, ◌∙◌, arith}
+use Rattle.std.proofs.Common.{◌≡◌, ℕ, ◌+◌, ◌<◌, ◌≤◌, Bool, true, false, ◌&&◌, ◌||◌, ◌==◌, nat_le, List, [], ◌∷◌, ◌++◌, length, length-append, map, get_or, append-nil, refl, sym, ap, subst, ◌∙◌, arith}
 use Rattle.std.specs.Prelude.{encode_utf8, encode_utf8_all}
 use Rattle.std.specs.Char.{is_control}
 use Rattle.std.specs.List.{list_any}
-use Rattle.std.specs.Str.{IsUtf8}
+use Rattle.std.specs.Str.{chars, IsUtf8}
 use Rattle.std.proofs.lemmas.Bool.{and_parts}
 use Rattle.std.proofs.lemmas.Bool.Decides.{nat_tests}
+use Rattle.std.proofs.lemmas.Str.{chars-nil, chars_past_char}
 use Rattle.ucd_table.specs.Rows.{Range, in_ranges}
 use Rattle.ucd_table.proofs.StepsLemmas.{rises_from}
 use Rattle.ucd_table.proofs.Stepped.{Stepped, zip_stepped}
@@ -120,6 +121,21 @@ IsCharIn-from ranges text rest c u e none h = record {
 pub IsPlainChar-from : (text rest : List ℕ) (c : ℕ) → IsUtf8 text → text ≡ encode_utf8 c ++ rest → length rest ≡ 0 → is_plain c ≡ true → IsPlainChar text
 unfolding is_plain
 IsPlainChar-from text rest c u e none h = IsCharIn-from plain_ranges text rest c u e none h
+
+-- where a text of one character is parted behind its first one, nothing is left, and that one is plain
+pub lone_char_is : (text rest : List ℕ) (c : ℕ) → IsUtf8 text → text ≡ encode_utf8 c ++ rest → IsPlainChar text → (length rest ≡ 0) × (is_plain c ≡ true)
+unfolding is_plain
+lone_char_is text rest c u e p =
+    let same : c ≡ p.char = ap (λ l. get_or l 0 0) (sym (chars_past_char text rest c u e) ∙ p.is) in
+    let size : length (encode_utf8 c) + length rest ≡ length (encode_utf8 c) =
+    sym (length-append (encode_utf8 c) rest) ∙ (ap length (sym e ∙ p.spelt) ∙ ap (λ d. length (encode_utf8 d)) (sym same)) in
+    (omega arith, subst (λ d. in_ranges plain_ranges d ≡ true) (sym same) p.within)
+
+pub no_char_in_nothing : (text : List ℕ) → text ≡ [] → IsPlainChar text → ⊥
+no_char_in_nothing text none p = nothing p.char (sym chars-nil ∙ (ap chars (sym none) ∙ p.is))
+  where
+    nothing : (c : ℕ) → [] ≡ c ∷ [] → ⊥
+    nothing c e = cc
 
 -- a plain character is no control character
 no_control : (c : ℕ) → in_ranges plain_ranges c ≡ true → list_any is_control (c ∷ []) ≡ false

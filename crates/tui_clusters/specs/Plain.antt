@@ -111,6 +111,10 @@ pub record IsSeam (text : List ℕ) (place : ℕ) : Type 0 where
   pub last_plain : is_plain last ≡ true
   pub next_plain : is_plain next ≡ true
 
+-- the text begins with a printable byte, and then ends, or goes on with another one
+abbrev pub BeginsPrintable : List ℕ → Type 0
+BeginsPrintable text = (is_printable (slice_index text 0) ≡ true) × (1 < length text → is_printable (slice_index text 1) ≡ true)
+
 -- the text begins with n printable bytes, each of which is a cluster by itself: past the last one the text ends, or a byte tells
 -- that a plain character begins
 pub record IsRun (text : List ℕ) (n : ℕ) : Type 0 where

@@ -1,9 +1,8 @@
 //! Plain characters: no rule on grapheme clusters joins one with another.
 
-ghost use Rattle.std.specs.Prelude.{◌≡◌, ◌<◌, ◌≤◌, ◌&&◌, nat_le, [], ◌∷◌, ◌++◌, chars, length, encode_utf8, true, slice_index, IfSome, IsTrue};
+ghost use Rattle.std.specs.Prelude.{◌≡◌, ◌<◌, ◌≤◌, ◌↔◌, ◌&&◌, nat_le, [], ◌∷◌, ◌++◌, chars, length, encode_utf8, None, IfSome, IsTrue};
 ghost use Rattle.std.specs.Str.{IsUtf8};
-ghost use Rattle.tui_clusters.specs.Plain.{is_plain, is_sign_start, plain_len, IsIdeograph, IsLetter, IsPlainChar, IsPlainFirst, IsRun, IsSeam, IsSign};
-ghost use Rattle.tui_clusters.specs.Printable.{is_printable};
+ghost use Rattle.tui_clusters.specs.Plain.{is_plain, is_sign_start, plain_len, BeginsPrintable, IsIdeograph, IsLetter, IsPlainChar, IsPlainFirst, IsRun, IsSeam, IsSign};
 
 use crate::printable::{is_printable, printable_len};
 
@@ -74,8 +73,8 @@ fn plain_len(byte: u8) -> usize
 #[inline(always)]
 pub fn is_printable_first(text: &str) -> bool
     requires { 0 < length text.now }
+    ensures is { IsTrue result ↔ BeginsPrintable text.now }
     ensures first { IsTrue result → IsPlainFirst text.now 1 }
-    ensures printable { IsTrue result → is_printable (slice_index text.now 0) ≡ true }
 {
     begins_printable(text.as_bytes())
 }
@@ -84,8 +83,7 @@ pub fn is_printable_first(text: &str) -> bool
 #[inline(always)]
 fn begins_printable(bytes: &[u8]) -> bool
     requires { 0 < length bytes.now }
-    ensures first { IsTrue result → is_printable (slice_index bytes.now 0) ≡ true }
-    ensures second { IsTrue result → 1 < length bytes.now → is_printable (slice_index bytes.now 1) ≡ true }
+    ensures { IsTrue result ↔ BeginsPrintable bytes.now }
 {
     is_printable(bytes[0]) && (bytes.len() == 1 || is_printable(bytes[1]))
 }
@@ -150,6 +148,7 @@ pub(crate) fn is_sign_first(text: &str) -> bool
 /// A text's first character, and the text behind it.
 #[inline]
 pub(crate) fn split_first(text: &str) -> Option<(char, &str)>
+    ensures none { result ≡ None → text.now ≡ [] }
     ensures split { IfSome result (λ (c, rest). text.now ≡ encode_utf8 c ++ rest.now) }
     ensures utf8 { IfSome result (λ (c, rest). IsUtf8 rest.now) }
     ensures shorter { IfSome result (λ (c, rest). length rest.now < length text.now) }
@@ -164,7 +163,7 @@ pub(crate) fn split_first(text: &str) -> Option<(char, &str)>
 /// Whether the text is one plain character. Never inlined, so that printable bytes, which are told before, cost no call.
 #[inline(never)]
 pub fn is_plain_char(text: &str) -> bool
-    ensures { IsTrue result → IsPlainChar text.now }
+    ensures { IsTrue result ↔ IsPlainChar text.now }
 {
     if is_sign(text) {
         return true;
@@ -201,7 +200,7 @@ pub(crate) fn is_ideograph(text: &str) -> bool
 /// Whether the text is one letter or sign of two bytes that the first of them tells.
 #[inline(always)]
 pub fn is_letter(text: &str) -> bool
-    ensures { IsTrue result → IsLetter text.now }
+    ensures { IsTrue result ↔ IsLetter text.now }
 {
     let bytes = text.as_bytes();
     if bytes.len() != 2 {

@@ -1,7 +1,10 @@
 //! Laws, each a function that does nothing.
 
 ghost use Rattle.tui_tty.specs.Session.{GivesBack};
-ghost use Rattle.tui_tty_laws.specs.Laws.{ChangeIsShown, DepthsRest, DrawingIsTrusted, FewParameters, FramesFollow, FullIsShown, NamesStay, NearestInPalette, NearestName, SendsNothing, TrueChangesNothing};
+ghost use Rattle.tui_tty_laws.specs.Laws.{
+    ChangeIsShown, DepthsRest, DrawingIsTrusted, FewParameters, FramesFollow, FullIsShown, NamesStay, NearestInPalette, NearestName, SendsNothing,
+    TrueChangesNothing,
+};
 
 /// The commands of a full screen show it on any terminal, and those of a change show the new screen where the old one showed; so
 /// they follow one another. Where nothing has changed, nothing is sent.

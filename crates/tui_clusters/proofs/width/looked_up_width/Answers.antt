@@ -6,7 +6,7 @@ pub returns-then-is_ideograph : goal.returns-then-is_ideograph
 returns-then-is_ideograph c = sym (ideograph_width c.args.text.now (c.is_ideograph.ensures c.if-is_ideograph.true))
 
 pub returns-then-is_letter : goal.returns-then-is_letter
-returns-then-is_letter c = sym (letter_width c.args.text.now (c.is_letter.ensures c.if-is_letter.true))
+returns-then-is_letter c = sym (letter_width c.args.text.now (c.is_letter.ensures.0 c.if-is_letter.true))
 
 pub returns-then-is_sign : goal.returns-then-is_sign
 returns-then-is_sign c = sym (sign_width c.args.text.now (c.is_sign.ensures c.if-is_sign.true))

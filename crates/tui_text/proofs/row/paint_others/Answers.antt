@@ -8,11 +8,11 @@ use Rattle.tui_text.proofs.row.paint_others.Goals as goal
 
 pub returns-then-is_plain_char-clause-shown : goal.returns-then-is_plain_char-clause-shown
 returns-then-is_plain_char-clause-shown c =
-    let lone = lone_cluster c.args.text.now (c.is_plain_char.ensures c.if-is_plain_char.true) in
+    let lone = lone_cluster c.args.text.now (c.is_plain_char.ensures.0 c.if-is_plain_char.true) in
     if_ok c.paint_cluster.result (λ next p. painted_next c.args.row c.args.skip c.args.place next c.args.style c.args.text.now [] _ _ _ lone p)
     c.paint_cluster.ensures.shown
 
 pub returns-then-is_plain_char-clause-light : goal.returns-then-is_plain_char-clause-light
 returns-then-is_plain_char-clause-light c = λ all.
-    let lone = lone_cluster c.args.text.now (c.is_plain_char.ensures c.if-is_plain_char.true) in
+    let lone = lone_cluster c.args.text.now (c.is_plain_char.ensures.0 c.if-is_plain_char.true) in
     c.paint_cluster.ensures.light (All-head IsLight c.args.text.now [] (subst (λ cs. All IsLight cs) lone all))

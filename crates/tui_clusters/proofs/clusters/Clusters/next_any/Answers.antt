@@ -18,4 +18,4 @@ returns-then-is_plain_char c =
     let ended = rw c.in_default.is at c.next_in_part.ensures.found in
     c.clusters.invariant
     ∙ shown-plain (part_left c.clusters.self) (part_left c.next_in_part.new.self) c.clusters.self.rest.now c.first_part.result.0.now c.first_part.result.1.now
-    ended.0 ended.1 (sym (ap (graphemes true) c.next_in_part.ensures.rest) ∙ c.first_part.ensures.clusters) (c.is_plain_char.ensures c.if-is_plain_char.true)
+    ended.0 ended.1 (sym (ap (graphemes true) c.next_in_part.ensures.rest) ∙ c.first_part.ensures.clusters) (c.is_plain_char.ensures.0 c.if-is_plain_char.true)
