@@ -1,2 +1,3 @@
-mod Texts
 pub mod Nearest
+mod SymbolLemmas
+mod Texts

@@ -6,5 +6,6 @@ mod palette;
 mod pens;
 mod shade;
 mod spelling;
+mod symbols;
 
 pub use tui_tty::{Cursor, Depth, Output, Trust};
