@@ -1,5 +1,5 @@
 -- The nearest of a table's colours.
-use Rattle.std.proofs.Common.{◌≡◌, ℕ, ◌+◌, ◌-◌, ◌<◌, ◌≤◌, List, [], ◌∷◌, length, get_or, drop, map, slice_index_or, refl, sym, ap, ◌∙◌, add-one, drop-cons, arith}
+use Rattle.std.proofs.Common.{◌≡◌, ℕ, ◌+◌, ◌<◌, ◌≤◌, List, ◌∷◌, length, get_or, drop, slice_index_or, refl, sym, ap, ◌∙◌, add-one, drop-cons, arith}
 use Rattle.std.proofs.Math.ListN.{drop_of_length-le}
 use Rattle.std.proofs.lemmas.List.{get_or-map, length-map}
 use Rattle.tui_terminal.specs.Shades.{all_named, named_of}

@@ -1,2 +1,3 @@
+pub mod Depth
 pub mod Marks
 pub mod Shades

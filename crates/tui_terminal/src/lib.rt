@@ -2,10 +2,14 @@
 #![tactic(auto)]
 
 mod colours;
+mod depth;
 mod palette;
 mod pens;
+mod session;
 mod shade;
 mod spelling;
 mod symbols;
 
+pub use depth::depth_of;
+pub use session::{enter, leave};
 pub use tui_tty::{Cursor, Depth, Output, Trust};
