@@ -1,3 +1,6 @@
+mod Looks
 pub mod Nearest
+mod RowWalks
 mod SymbolLemmas
 mod Texts
+mod Walking

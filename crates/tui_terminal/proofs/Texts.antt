@@ -88,3 +88,16 @@ marks_text a b c d e f g h k =
     more_text t (mark_if 0 a) _ _ (more_text t (mark_if 1 b) _ _ (more_text t (mark_if 2 c) _ _ (more_text t (mark_if 3 d) _ _
     (more_text t (mark_if 4 e) _ _ (more_text t (mark_if 5 f) _ _ (more_text t (mark_if 6 g) _ _ (more_text t (mark_if 7 h) (mark_if 8 k ++ []) _
     (ap (flat_map t) (sym (append-nil (mark_if 8 k)))))))))))
+
+-- ---- a command that may be left out
+
+pub left_out : (b : Bool) (cs : List Command) → b ≡ true → [] ≡ flat_map spelling (if b then [] else cs)
+left_out b cs e = sym (ap (flat_map spelling) (cond-true b [] cs e))
+
+pub not_left_out : (b : Bool) (cs : List Command) → b ≡ false → flat_map spelling cs ≡ flat_map spelling (if b then [] else cs)
+not_left_out b cs e = sym (ap (flat_map spelling) (cond-false b [] cs e))
+
+-- the commands of a cell
+pub piece_text : (ms ps : List Command) (symbol : List ℕ) → flat_map spelling ms ++ (flat_map spelling ps ++ symbol) ≡ flat_map spelling (ms ++ (ps ++ print symbol ∷ []))
+unfolding spelling
+piece_text ms ps symbol = more_text spelling ms (ps ++ print symbol ∷ []) _ (more_text spelling ps (print symbol ∷ []) symbol (sym (one_text spelling (print symbol))))

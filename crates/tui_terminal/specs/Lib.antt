@@ -1,3 +1,6 @@
 pub mod Depth
 pub mod Marks
+pub mod Risks
+pub mod Seeing
+pub mod Sent
 pub mod Shades

@@ -5,11 +5,16 @@ mod colours;
 mod depth;
 mod palette;
 mod pens;
+mod rows;
+mod seeing;
+mod sending;
 mod session;
 mod shade;
 mod spelling;
 mod symbols;
+mod write;
 
 pub use depth::depth_of;
 pub use session::{enter, leave};
 pub use tui_tty::{Cursor, Depth, Output, Trust};
+pub use write::{write_changes, write_full};

@@ -4,11 +4,31 @@ ghost use Rattle.std.specs.Prelude.{◌≡◌, ◌↔◌, ◌<◌, ◌++◌, IsT
 ghost use Rattle.tui_cells.specs.declared.color.Color.TheVariants.{Reset};
 ghost use Rattle.tui_outside.specs.Gathers.{Gathers};
 ghost use Rattle.tui_terminal.specs.Marks.{mark_if};
-ghost use Rattle.tui_tty.specs.Pens.{back_of, front_of, has_name, marks_from, marks_of, paints_of, then_back};
+ghost use Rattle.tui_tty.specs.Pens.{back_of, front_of, has_name, marks_from, marks_of, paints_of, pen_of, then_back};
 ghost use Rattle.tui_tty.specs.Spelling.{back_text, front_text, next_setting_text, spelling};
 
-use tui_cells::{Color, Modifier};
+use crate::colours::color_at;
+use tui_cells::{Attributes, Color, Modifier};
 use tui_outside::{Print, Sink};
+use tui_tty::Depth;
+
+/// Adds what sets the pen to some attributes, as a terminal of this depth has them, whatever it was.
+pub(crate) fn put_pen<K: Sink>(
+    print: &mut Print,
+    depth: Depth,
+    attributes: Attributes,
+    sink: &mut K,
+)
+    ensures { Gathers (K.told sink.old) (K.told sink.new) print.old print.new (flat_map spelling (paints_of (pen_of depth attributes))) }
+{
+    put_colours(
+        print,
+        color_at(depth, attributes.fg),
+        color_at(depth, attributes.bg),
+        attributes.modifier,
+        sink,
+    );
+}
 
 /// Adds what sets the pen to two colours, as they are sent, and some modifiers, whatever it was.
 pub(crate) fn put_colours<K: Sink>(

@@ -16,7 +16,8 @@ pub(crate) fn is_sendable(trust: Trust, room: usize, symbol: &str) -> bool
 {
     is_quiet(symbol)
         && symbol_columns(symbol) <= room
-        && (is_trusted(trust, symbol) || (is_led(symbol) && is_ended(symbol) && is_within_reach(symbol, room)))
+        && (is_trusted(trust, symbol)
+            || (is_led(symbol) && is_ended(symbol) && is_within_reach(symbol, room)))
 }
 
 /// Whether a terminal is trusted with a symbol.

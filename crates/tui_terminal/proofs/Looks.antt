@@ -1,0 +1,76 @@
+-- What shows of a cell.
+use Rattle.std.proofs.Common.{◌≡◌, ℕ, zero, suc, ◌-◌, ◌<◌, ◌≤◌, ◌==◌, min, Bool, true, false, List, sym, ap, ◌∙◌, arith}
+use Rattle.std.specs.Prelude.{Option, None, Some}
+use Rattle.std.proofs.lemmas.Bool.{cond-true, cond-false, true≢false}
+use Rattle.tui_cells.specs.Attributes.{look_of}
+use Rattle.tui_cells.specs.Cell.{Look, space}
+use Rattle.tui_cells.specs.declared.attributes.Attributes.{Attributes}
+use Rattle.tui_text.specs.Visible.{step_of}
+use Rattle.tui_tty.specs.declared.trust.Trust.{Trust}
+use Rattle.tui_tty.specs.Pieces.{Cover, blanked, covered, next_cover, seen, shown}
+use Rattle.tui_tty.specs.Symbols.{is_sendable}
+use Rattle.tui_tty_laws.proofs.Seen.{blank_step, parts_of, seen_false, seen_true}
+
+-- ---- a symbol that may be sent, or not, as the code has read it from a cell
+
+of_cell : (trust : Trust) (room : ℕ) (s t : List ℕ) (b : Bool) (x : Bool) → s ≡ t → b ≡ is_sendable trust room s → b ≡ x → is_sendable trust room t ≡ x
+of_cell trust room s t b x es is on = ap (is_sendable trust room) (sym es) ∙ (sym is ∙ on)
+
+pub as_it_is : (trust : Trust) (room : ℕ) (c : Look) (s : List ℕ) (a : Attributes) (b : Bool) → s ≡ c.symbol → look_of c.symbol a ≡ c →
+    b ≡ is_sendable trust room s → b ≡ true → Some (look_of s a) ≡ Some (seen trust room c)
+as_it_is trust room c s a b es ea is on =
+    let same : look_of s a ≡ c = ap (λ (k : List ℕ). look_of k a) es ∙ ea in
+    ap Some (same ∙ sym (seen_true trust room c (of_cell trust room s c.symbol b true es is on)))
+
+pub as_blank : (trust : Trust) (room : ℕ) (c : Look) (s : List ℕ) (a : Attributes) (b : Bool) → s ≡ c.symbol → look_of c.symbol a ≡ c →
+    b ≡ is_sendable trust room s → b ≡ false → Some (look_of space a) ≡ Some (seen trust room c)
+as_blank trust room c s a b es ea is off =
+    let same : look_of space a ≡ blanked c = λ i. record { symbol = space; fg = (ea i).fg; bg = (ea i).bg; modifier = (ea i).modifier } in
+    ap Some (same ∙ sym (seen_false trust room c (of_cell trust room s c.symbol b false es is off)))
+
+abbrev under : ℕ → Option Look → Cover
+under left blank = record { left = left; blank = blank }
+
+pub cover_as_it_is : (trust : Trust) (room : ℕ) (c : Look) (s : List ℕ) (n : ℕ) (b : Bool) → s ≡ c.symbol → n ≡ min (step_of s) room - 1 →
+    b ≡ is_sendable trust room s → b ≡ true → under n None ≡ covered trust room c
+unfolding covered
+cover_as_it_is trust room c s n b es en is on =
+    let left : n ≡ min (step_of c.symbol) room - 1 = en ∙ ap (λ (k : List ℕ). min (step_of k) room - 1) es in
+    λ i. under (left i) (sym (cond-true (is_sendable trust room c.symbol) None (Some (blanked c)) (of_cell trust room s c.symbol b true es is on)) i)
+
+pub cover_as_blank : (trust : Trust) (room : ℕ) (c : Look) (s : List ℕ) (a : Attributes) (n : ℕ) (b : Bool) → s ≡ c.symbol → look_of c.symbol a ≡ c → n ≡ min (step_of s) room - 1 →
+    b ≡ is_sendable trust room s → b ≡ false → under n (Some (look_of space a)) ≡ covered trust room c
+unfolding covered
+cover_as_blank trust room c s a n b es ea en is off =
+    let left : n ≡ min (step_of c.symbol) room - 1 = en ∙ ap (λ (k : List ℕ). min (step_of k) room - 1) es in
+    let same : look_of space a ≡ blanked c = λ i. record { symbol = space; fg = (ea i).fg; bg = (ea i).bg; modifier = (ea i).modifier } in
+    let blank = ap Some same ∙ sym (cond-false (is_sendable trust room c.symbol) None (Some (blanked c)) (of_cell trust room s c.symbol b false es is off)) in
+    λ i. under (left i) (blank i)
+
+pub fits_as_it_is : (trust : Trust) (room : ℕ) (s : List ℕ) (b : Bool) → b ≡ is_sendable trust room s → b ≡ true → step_of s ≤ room
+fits_as_it_is trust room s b is on = (parts_of trust room s (sym is ∙ on)).fits
+
+pub blank_fits : (room : ℕ) → 0 < room → step_of space ≤ room
+blank_fits room some = omega (arith, blank_step)
+
+-- ---- what the cell lies under
+
+pub not_open : (n : ℕ) → (n == 0) ≡ false → 0 < n
+not_open zero e = absurd (true≢false e)
+not_open (suc n) e = omega arith
+
+pub shown_open : (trust : Trust) (u : Cover) (room : ℕ) (c : Look) → (u.left == 0) ≡ true → Some (seen trust room c) ≡ shown trust u room c
+unfolding shown
+shown_open trust u room c e = sym (cond-true (u.left == 0) (Some (seen trust room c)) u.blank e)
+
+pub shown_under : (trust : Trust) (u : Cover) (room : ℕ) (c : Look) → (u.left == 0) ≡ false → u.blank ≡ shown trust u room c
+unfolding shown
+shown_under trust u room c e = sym (cond-false (u.left == 0) (Some (seen trust room c)) u.blank e)
+
+pub next_open : (trust : Trust) (u : Cover) (room : ℕ) (c : Look) → (u.left == 0) ≡ true → covered trust room c ≡ next_cover trust u room c
+unfolding next_cover
+next_open trust u room c e = sym (cond-true (u.left == 0) (covered trust room c) (record u { left = u.left - 1 }) e)
+
+pub next_under : (trust : Trust) (u : Cover) (room : ℕ) (c : Look) → (u.left == 0) ≡ false → under (u.left - 1) u.blank ≡ next_cover trust u room c
+unfolding next_cover
+next_under trust u room c e = sym (cond-false (u.left == 0) (covered trust room c) (record u { left = u.left - 1 }) e)

@@ -1,0 +1,42 @@
+use Rattle.std.proofs.Common.{◌≡◌, ◌-◌, min, rules, true, false, arith}
+use Rattle.tui_text.proofs.ShownCells.{some_step}
+use Rattle.tui_text.specs.Visible.{step_of}
+use Rattle.tui_terminal.proofs.Looks.{as_blank, as_it_is, blank_fits, cover_as_blank, cover_as_it_is, fits_as_it_is}
+use Rattle.tui_terminal.proofs.seeing.see_open.Goals as goal
+
+pub overflow_sub-left : goal.overflow_sub-left
+overflow_sub-left c = omega (arith, c.symbol_columns.ensures, c.min-left.ensures, some_step c.symbol-symbol.result.now, c.requires.0)
+
+pub returns-then-is_sendable-clause-shown : goal.returns-then-is_sendable-clause-shown
+returns-then-is_sendable-clause-shown c =
+    let on : c.is_sendable.result ≡ true = search rules in
+    as_it_is c.args.trust c.args.room c.args.cell.now c.symbol-symbol.result.now c.attributes-attributes.result c.is_sendable.result
+    c.symbol-symbol.ensures.is c.attributes-attributes.ensures c.is_sendable.ensures on
+
+pub returns-then-is_sendable-clause-next : goal.returns-then-is_sendable-clause-next
+returns-then-is_sendable-clause-next c =
+    let on : c.is_sendable.result ≡ true = search rules in
+    let left : _ ≡ min (step_of c.symbol-symbol.result.now) c.args.room - 1 = omega (arith, c.symbol_columns.ensures, c.min-left.ensures) in
+    cover_as_it_is c.args.trust c.args.room c.args.cell.now c.symbol-symbol.result.now _ c.is_sendable.result
+    c.symbol-symbol.ensures.is left c.is_sendable.ensures on
+
+pub returns-then-is_sendable-clause-fits : goal.returns-then-is_sendable-clause-fits
+returns-then-is_sendable-clause-fits c =
+    let on : c.is_sendable.result ≡ true = search rules in
+    fits_as_it_is c.args.trust c.args.room c.symbol-symbol.result.now c.is_sendable.result c.is_sendable.ensures on
+
+pub returns-else-is_sendable-clause-shown : goal.returns-else-is_sendable-clause-shown
+returns-else-is_sendable-clause-shown c =
+    let off : c.is_sendable.result ≡ false = search rules in
+    as_blank c.args.trust c.args.room c.args.cell.now c.symbol-symbol.result.now c.attributes-attributes.result c.is_sendable.result
+    c.symbol-symbol.ensures.is c.attributes-attributes.ensures c.is_sendable.ensures off
+
+pub returns-else-is_sendable-clause-next : goal.returns-else-is_sendable-clause-next
+returns-else-is_sendable-clause-next c =
+    let off : c.is_sendable.result ≡ false = search rules in
+    let left : _ ≡ min (step_of c.symbol-symbol.result.now) c.args.room - 1 = omega (arith, c.symbol_columns.ensures, c.min-left.ensures) in
+    cover_as_blank c.args.trust c.args.room c.args.cell.now c.symbol-symbol.result.now c.attributes-attributes.result _ c.is_sendable.result
+    c.symbol-symbol.ensures.is c.attributes-attributes.ensures left c.is_sendable.ensures off
+
+pub returns-else-is_sendable-clause-fits : goal.returns-else-is_sendable-clause-fits
+returns-else-is_sendable-clause-fits c = blank_fits c.args.room c.requires.0

@@ -1,0 +1,118 @@
+//! The bytes that send a cell.
+
+ghost use Rattle.std.specs.Prelude.{◌≡◌, ◌+◌, ◌<◌, ◌≤◌, flat_map};
+ghost use Rattle.tui_cells.specs.Cell.{space};
+ghost use Rattle.tui_outside.specs.Gathers.{Gathers};
+ghost use Rattle.tui_terminal.specs.Seeing.{look_in};
+ghost use Rattle.tui_terminal.specs.Sent.{is_pen, is_there, placed_at, placed_if};
+ghost use Rattle.tui_text.specs.Visible.{step_of};
+ghost use Rattle.tui_tty.specs.Spelling.{spelling};
+ghost use Rattle.tui_tty_laws.specs.Sending.{at_after, moves, next_at, paints, send, send_one};
+
+use crate::pens::put_pen;
+use crate::seeing::Seen;
+use crate::spelling::put_place;
+use crate::symbols::is_trusted;
+use tui_cells::Attributes;
+use tui_outside::{Print, Sink};
+use tui_text::symbol_columns;
+use tui_tty::{Depth, Output};
+use tui_tty_laws::At;
+
+/// Adds what sends a cell in a column, if it is wanted, and answers what is known of the terminal then.
+pub(crate) fn put_if<K: Sink>(
+    print: &mut Print,
+    output: Output,
+    y: usize,
+    at: At,
+    column: usize,
+    wanted: bool,
+    seen: Seen<'_>,
+    sink: &mut K,
+) -> At
+    requires { (column + step_of seen.symbol.now ≤ 65535) × (y < 65536) }
+    ensures next { result ≡ at_after output.trust at (placed_if wanted column (look_in seen.entry)) }
+    ensures put { Gathers (K.told sink.old) (K.told sink.new) print.old print.new
+        (flat_map spelling (send output y at (placed_if wanted column (look_in seen.entry)))) }
+{
+    if wanted {
+        put_piece(
+            print,
+            output,
+            y,
+            at,
+            column,
+            seen.symbol,
+            seen.attributes,
+            sink,
+        )
+    } else {
+        at
+    }
+}
+
+// Adds what sends a symbol with attributes in a column, and answers what is known then.
+fn put_piece<K: Sink>(
+    print: &mut Print,
+    output: Output,
+    y: usize,
+    at: At,
+    column: usize,
+    symbol: &str,
+    attributes: Attributes,
+    sink: &mut K,
+) -> At
+    requires { (column + step_of symbol.now ≤ 65535) × (y < 65536) }
+    ensures next { result ≡ next_at output.trust (placed_at column symbol.now attributes) }
+    ensures put { Gathers (K.told sink.old) (K.told sink.new) print.old print.new
+        (flat_map spelling (send_one output.depth y at (placed_at column symbol.now attributes))) }
+{
+    put_moves(print, y, at, column, sink);
+    put_paints(print, output.depth, at, attributes, sink);
+    print.text(sink, symbol);
+    At {
+        column: column + symbol_columns(symbol),
+        placed: is_trusted(output.trust, symbol),
+        pen: attributes,
+        painted: true,
+    }
+}
+
+// Moves the cursor, unless it is known to stand there.
+fn put_moves<K: Sink>(print: &mut Print, y: usize, at: At, column: usize, sink: &mut K)
+    requires { (column < 65536) × (y < 65536) }
+    ensures { Gathers (K.told sink.old) (K.told sink.new) print.old print.new
+        (flat_map spelling (moves y at (placed_at column space at.pen))) }
+{
+    if !is_there(at, column) {
+        put_place(print, column, y, sink);
+    }
+}
+
+fn is_there(at: At, column: usize) -> bool
+    ensures { result ≡ is_there at column }
+{
+    at.placed && at.column == column
+}
+
+// Sets the pen, unless it is known to be this one.
+fn put_paints<K: Sink>(
+    print: &mut Print,
+    depth: Depth,
+    at: At,
+    attributes: Attributes,
+    sink: &mut K,
+)
+    ensures { Gathers (K.told sink.old) (K.told sink.new) print.old print.new
+        (flat_map spelling (paints depth at (placed_at 0 space attributes))) }
+{
+    if !is_pen(at, attributes) {
+        put_pen(print, depth, attributes, sink);
+    }
+}
+
+fn is_pen(at: At, attributes: Attributes) -> bool
+    ensures { result ≡ is_pen at attributes }
+{
+    at.painted && at.pen == attributes
+}
