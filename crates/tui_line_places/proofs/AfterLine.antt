@@ -21,7 +21,7 @@ use Rattle.tui_text.specs.Graphemes.{glyph_in}
 use Rattle.unicode_segmentation.specs.Grapheme.{graphemes}
 use Rattle.tui_line_places.specs.AfterLine.{HasLineCount, IsFromLine, wrapped_lines}
 use Rattle.tui_line_places.specs.Next.{IsOver}
-use Rattle.tui_line_places.specs.Places.{GoesOnInLine, behind_line, line_part, shown_in}
+use Rattle.tui_line_places.specs.Places.{GoesOnInLine, behind_line, line_clusters, shown_in}
 use Rattle.tui_line_places.specs.Rests.{cluster_rule, first_rest, line_rest}
 use Rattle.tui_line_places.proofs.Rests.{FirstThen, first_then, lines_behind}
 use Rattle.tui_line_places.proofs.WrappedLines.{all_lines, by_first, shown_style, styled}
@@ -58,7 +58,7 @@ walked w trim xs start end rest room e f g = g ∙ ap (λ r. after_break (cluste
 
 module _ (w : ℕ) (trim : Bool) (text : List ℕ) (u : IsUtf8 text) (rest : List ℕ) (shown : shown_in w rest ≡ first_rest (cluster_rule w trim) (shown_in w text)) where
   abbrev fits : (bytes : List ℕ) → AllFit width_of w (shown_in w bytes)
-  fits bytes = all_fit-kept width_of w (filter is_shown (line_part (graphemes true bytes)))
+  fits bytes = all_fit-kept width_of w (filter is_shown (line_clusters (graphemes true bytes)))
 
   the_first : FirstThen (cluster_rule w trim) (shown_in w text)
   the_first = first_then (cluster_rule w trim) (shown_in w text) (fits text) (subst (AllFit width_of w) shown (fits rest))
@@ -113,7 +113,7 @@ module _ (w : ℕ) (trim : Bool) (text : List ℕ) (u : IsUtf8 text) (rest : Lis
 pub has_line : (style : Style) (alignment : Alignment) (w : ℕ) (trim : Bool) (text : List ℕ) → IsUtf8 text → 0 < length (wrapped_lines style alignment w trim text)
 has_line style alignment w trim text u =
     let R = cluster_rule w trim in
-    let some = wrap_some R (shown_in w text) (all_fit-kept width_of w (filter is_shown (line_part (graphemes true text)))) in
+    let some = wrap_some R (shown_in w text) (all_fit-kept width_of w (filter is_shown (line_clusters (graphemes true text)))) in
     let first = by_first style w trim alignment text u in
     let size = length-append (map (glyph_line alignment) (styled style w trim (wrap_kept R (shown_in w text)))) (all_lines style w trim alignment (lines (behind_line text))) in
     let a = length-map (styled style w trim (wrap_kept R (shown_in w text))) (glyph_line alignment) in

@@ -10,7 +10,7 @@ use Rattle.std.proofs.lemmas.Str.{IsUtf8-drop, IsUtf8-take, IsCharBoundary-after
 use Rattle.std.proofs.Math.Seq.{drop-append_seam, take-append_seam}
 use Rattle.unicode_segmentation.specs.Grapheme.{graphemes}
 use Rattle.tui_text.specs.Text.{text_lines}
-use Rattle.tui_line_places.specs.Places.{is_newline, line_part, behind_part}
+use Rattle.tui_line_places.specs.Places.{is_newline, line_clusters, behind_part}
 use Rattle.tui_clusters.proofs.Boundaries.{concat-graphemes}
 use Rattle.tui_clusters.proofs.LineEnds.{graphemes-feed, graphemes-return}
 use Rattle.tui_line_places.proofs.NewLines.{Newline, OneLine, none, feed, both, first_line, is_newline_byte, one_parts}
@@ -28,30 +28,30 @@ no_newline : (clusters : List (List ℕ)) → OneLine (concat clusters) → NoNe
 no_newline [] h = tt
 no_newline (c ∷ cs) h = let p = one_parts c (concat cs) h in (one_cluster c p.0, no_newline cs p.1)
 
-pub all_of_it : (ps : List (List ℕ)) → NoNewline ps → (line_part ps ≡ ps) × (behind_part ps ≡ [])
+pub all_of_it : (ps : List (List ℕ)) → NoNewline ps → (line_clusters ps ≡ ps) × (behind_part ps ≡ [])
 all_of_it [] h = (refl, refl)
 all_of_it (p ∷ ps) h =
     let rest = all_of_it ps h.1 in
-    (ap (λ b. cond b [] (p ∷ line_part ps)) h.0 ∙ ap (λ t. p ∷ t) rest.0, ap (λ b. cond b ps (behind_part ps)) h.0 ∙ rest.1)
+    (ap (λ b. cond b [] (p ∷ line_clusters ps)) h.0 ∙ ap (λ t. p ∷ t) rest.0, ap (λ b. cond b ps (behind_part ps)) h.0 ∙ rest.1)
 
 up_to_newline : (ps : List (List ℕ)) (n : List ℕ) (qs : List (List ℕ)) → NoNewline ps → is_newline n ≡ true
-    → (line_part (ps ++ n ∷ qs) ≡ ps) × (behind_part (ps ++ n ∷ qs) ≡ qs)
-up_to_newline [] n qs h e = (ap (λ b. cond b [] (n ∷ line_part qs)) e, ap (λ b. cond b qs (behind_part qs)) e)
+    → (line_clusters (ps ++ n ∷ qs) ≡ ps) × (behind_part (ps ++ n ∷ qs) ≡ qs)
+up_to_newline [] n qs h e = (ap (λ b. cond b [] (n ∷ line_clusters qs)) e, ap (λ b. cond b qs (behind_part qs)) e)
 up_to_newline (p ∷ ps) n qs h e =
     let rest = up_to_newline ps n qs h.1 e in (
-      ap (λ b. cond b [] (p ∷ line_part (ps ++ n ∷ qs))) h.0 ∙ ap (λ t. p ∷ t) rest.0,
+      ap (λ b. cond b [] (p ∷ line_clusters (ps ++ n ∷ qs))) h.0 ∙ ap (λ t. p ∷ t) rest.0,
       ap (λ b. cond b (ps ++ n ∷ qs) (behind_part (ps ++ n ∷ qs))) h.0 ∙ rest.1,
     )
 
 -- a text's lines are that of the clusters up to the first newline, and those of the text behind it
 pub record ByClusters (text : List ℕ) : Type 0 where
-  pub lines_are : text_lines text ≡ concat (line_part (graphemes true text)) ∷ lines (concat (behind_part (graphemes true text)))
-  pub line_is : graphemes true (concat (line_part (graphemes true text))) ≡ line_part (graphemes true text)
+  pub lines_are : text_lines text ≡ concat (line_clusters (graphemes true text)) ∷ lines (concat (behind_part (graphemes true text)))
+  pub line_is : graphemes true (concat (line_clusters (graphemes true text))) ≡ line_clusters (graphemes true text)
 
-by_line : (text line behind : List ℕ) (front back : List (List ℕ)) → IsUtf8 line → line_part (graphemes true text) ≡ front → behind_part (graphemes true text) ≡ back
+by_line : (text line behind : List ℕ) (front back : List (List ℕ)) → IsUtf8 line → line_clusters (graphemes true text) ≡ front → behind_part (graphemes true text) ≡ back
     → front ≡ graphemes true line → concat back ≡ behind → text_lines text ≡ line ∷ lines behind → ByClusters text
 by_line text line behind front back u e f g k lines_are =
-    let same : line ≡ concat (line_part (graphemes true text)) = sym (concat-graphemes line u) ∙ ap concat (sym (e ∙ g)) in
+    let same : line ≡ concat (line_clusters (graphemes true text)) = sym (concat-graphemes line u) ∙ ap concat (sym (e ∙ g)) in
     record {
       lines_are = lines_are ∙ ap₂ (λ x y. x ∷ lines y) same (sym (ap concat f ∙ k));
       line_is = ap (graphemes true) (sym same) ∙ sym (e ∙ g);
@@ -84,7 +84,7 @@ by_newline : (text line behind n : List ℕ) → IsUtf8 line → IsUtf8 behind �
     → graphemes true text ≡ graphemes true line ++ n ∷ graphemes true behind → text_lines text ≡ line ∷ lines behind → ByClusters text
 by_newline text line behind n u v one newline e lines_are =
     let p = up_to_newline (graphemes true line) n (graphemes true behind) (no_newline_in line u one) newline in
-    by_line text line behind _ _ u (ap line_part e ∙ p.0) (ap behind_part e ∙ p.1) refl (concat-graphemes behind v) lines_are
+    by_line text line behind _ _ u (ap line_clusters e ∙ p.0) (ap behind_part e ∙ p.1) refl (concat-graphemes behind v) lines_are
 
 pub by_clusters : (text : List ℕ) → IsUtf8 text → ByClusters text
 by_clusters text u =
@@ -95,7 +95,7 @@ by_clusters text u =
     cases line behind (none e b one) lines_are =
         let v = subst IsUtf8 e u in
         let p = all_of_it (graphemes true line) (no_newline_in line v one) in
-        by_line text line behind _ _ v (ap (λ t. line_part (graphemes true t)) e ∙ p.0) (ap (λ t. behind_part (graphemes true t)) e ∙ p.1) refl (sym b) lines_are
+        by_line text line behind _ _ v (ap (λ t. line_clusters (graphemes true t)) e ∙ p.0) (ap (λ t. behind_part (graphemes true t)) e ∙ p.1) refl (sym b) lines_are
     cases line behind (feed e other one) lines_are =
         let both_utf8 = at_newline line behind (subst IsUtf8 e u) in
         by_newline text line behind (10 ∷ []) both_utf8.0 both_utf8.1 one refl (ap (graphemes true) e ∙ graphemes-feed line behind both_utf8.0 other) lines_are

@@ -57,7 +57,7 @@ use Rattle.tui_clusters.proofs.Seams.{graphemes-seam, printable_seam}
 use Rattle.unicode_segmentation.specs.Grapheme.{graphemes}
 use Rattle.tui_line_places.specs.AfterLine.{wrapped_lines}
 use Rattle.tui_line_places.specs.Parts.{EndsBetweenPrintable, EndsInNewline, HaveSameLines, IsBetweenPrintable}
-use Rattle.tui_line_places.specs.Places.{behind_line, line_part, shown_in}
+use Rattle.tui_line_places.specs.Places.{behind_line, line_clusters, shown_in}
 use Rattle.tui_line_places.specs.Rests.{cluster_rule}
 use Rattle.tui_line_places.proofs.AfterLine.{has_line}
 use Rattle.tui_line_places.proofs.FirstPart.{newline_lines, same_lines}
@@ -67,9 +67,9 @@ use Rattle.tui_line_places.proofs.NewLines.{OneLine, is_newline_byte}
 use Rattle.tui_line_places.proofs.WrappedLines.{all_lines, by_first, shown_style, styled}
 
 -- clusters without a newline begin the line, whatever follows
-line_part-append : (ps qs : List (List ℕ)) → NoNewline ps → line_part (ps ++ qs) ≡ ps ++ line_part qs
-line_part-append [] qs h = refl
-line_part-append (p ∷ ps) qs h = ap (λ b. cond b [] (p ∷ line_part (ps ++ qs))) h.0 ∙ ap (λ t. p ∷ t) (line_part-append ps qs h.1)
+line_clusters-append : (ps qs : List (List ℕ)) → NoNewline ps → line_clusters (ps ++ qs) ≡ ps ++ line_clusters qs
+line_clusters-append [] qs h = refl
+line_clusters-append (p ∷ ps) qs h = ap (λ b. cond b [] (p ∷ line_clusters (ps ++ qs))) h.0 ∙ ap (λ t. p ∷ t) (line_clusters-append ps qs h.1)
 
 -- the clusters of a text are those of its parts
 abbrev ArePartsClusters : List ℕ → List ℕ → Type 0
@@ -82,11 +82,11 @@ shown-append w part more u one e =
     let hs = graphemes true more in
     let no = no_newline_in part u one in
     let fits = λ (c : List ℕ). nat_le (width_of c) w in
-    let line : line_part (graphemes true (part ++ more)) ≡ line_part gs ++ line_part hs =
-    ap line_part e ∙ (line_part-append gs hs no ∙ ap (λ t. t ++ line_part hs) (sym (all_of_it gs no).0)) in
+    let line : line_clusters (graphemes true (part ++ more)) ≡ line_clusters gs ++ line_clusters hs =
+    ap line_clusters e ∙ (line_clusters-append gs hs no ∙ ap (λ t. t ++ line_clusters hs) (sym (all_of_it gs no).0)) in
     ap (λ t. filter fits (filter is_shown t)) line
-    ∙ (ap (filter fits) (filter-append is_shown (line_part gs) (line_part hs))
-    ∙ filter-append fits (filter is_shown (line_part gs)) (filter is_shown (line_part hs)))
+    ∙ (ap (filter fits) (filter-append is_shown (line_clusters gs) (line_clusters hs))
+    ∙ filter-append fits (filter is_shown (line_clusters gs)) (filter is_shown (line_clusters hs)))
 
 module _ (style : Style) (w : ℕ) (trim : Bool) (alignment : Alignment) where
   abbrev lines_in : List ℕ → List GlyphLine
@@ -117,9 +117,9 @@ module _ (style : Style) (w : ℕ) (trim : Bool) (alignment : Alignment) where
       ∙ append-nil (shown_lines (wrap_kept R xs))) in
       let both : lines_in (part ++ more) ≡ shown_lines (wrap_kept R (xs ++ ys)) ++ others =
       by_first style w trim alignment (part ++ more) v ∙ ap (λ t. shown_lines (wrap_kept R t) ++ others) (shown-append w part more u one e) in
-      let fit = all_fit-kept width_of w (filter is_shown (line_part (graphemes true part))) in
+      let fit = all_fit-kept width_of w (filter is_shown (line_clusters (graphemes true part))) in
       let all_fit : AllFit width_of w (xs ++ ys) =
-      subst (AllFit width_of w) (shown-append w part more u one e) (all_fit-kept width_of w (filter is_shown (line_part (graphemes true (part ++ more))))) in
+      subst (AllFit width_of w) (shown-append w part more u one e) (all_fit-kept width_of w (filter is_shown (line_clusters (graphemes true (part ++ more))))) in
       let size = ap length alone ∙ shown_lines-length (wrap_kept R xs) in
       let same = wrap-append R n xs ys fit all_fit (omega (arith, few, size)) in
       let long = shown_lines-length (wrap_kept R (xs ++ ys)) in

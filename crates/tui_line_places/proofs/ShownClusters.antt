@@ -10,7 +10,7 @@ use Rattle.tui_clusters.specs.Shown.{has_control, is_shown}
 use Rattle.tui_clusters.specs.Width.{width_of}
 use Rattle.unicode_segmentation.specs.Grapheme.{graphemes}
 use Rattle.tui_line_places.specs.Next.{IsHiddenUpTo, IsOver, IsNextShown}
-use Rattle.tui_line_places.specs.Places.{GoesOnInLine, behind_line, behind_part, is_newline, line_part, shown_in}
+use Rattle.tui_line_places.specs.Places.{GoesOnInLine, behind_line, behind_part, is_newline, line_clusters, shown_in}
 use Rattle.tui_clusters.proofs.Boundaries.{concat-graphemes}
 
 abbrev fits : ℕ → List ℕ → Bool
@@ -18,18 +18,18 @@ fits w c = nat_le (width_of c) w
 
 -- the clusters of a line, those that are shown of them
 abbrev shown : ℕ → List (List ℕ) → List (List ℕ)
-shown w clusters = filter (fits w) (filter is_shown (line_part clusters))
+shown w clusters = filter (fits w) (filter is_shown (line_clusters clusters))
 
 module _ (w : ℕ) (text rest c : List ℕ) (clusters : graphemes true text ≡ c ∷ graphemes true rest) where
-  line_goes : is_newline c ≡ false → line_part (graphemes true text) ≡ c ∷ line_part (graphemes true rest)
-  line_goes other = ap line_part clusters ∙ ap (λ b. cond b [] (c ∷ line_part (graphemes true rest))) other
+  line_goes : is_newline c ≡ false → line_clusters (graphemes true text) ≡ c ∷ line_clusters (graphemes true rest)
+  line_goes other = ap line_clusters clusters ∙ ap (λ b. cond b [] (c ∷ line_clusters (graphemes true rest))) other
 
   pub behind_goes : is_newline c ≡ false → behind_line rest ≡ behind_line text
   behind_goes other = sym (ap (λ t. concat (behind_part t)) clusters ∙ ap (λ b. concat (cond b (graphemes true rest) (behind_part (graphemes true rest)))) other)
 
   pub shown_next : is_newline c ≡ false → has_control c ≡ false → nat_le (width_of c) w ≡ true → shown_in w text ≡ c ∷ shown_in w rest
   shown_next other no_control fit =
-      let left = filter is_shown (line_part (graphemes true rest)) in
+      let left = filter is_shown (line_clusters (graphemes true rest)) in
       ap (λ t. filter (fits w) (filter is_shown t)) (line_goes other)
       ∙ ap (λ b. filter (fits w) (cond (not b) (c ∷ left) left)) no_control
       ∙ ap (λ b. cond b (c ∷ filter (fits w) left) (filter (fits w) left)) fit
@@ -44,11 +44,11 @@ module _ (w : ℕ) (text rest c : List ℕ) (clusters : graphemes true text ≡ 
 
   pub hidden : is_newline c ≡ false → (nat_le (width_of c) w && not (has_control c)) ≡ false → shown_in w text ≡ shown_in w rest
   hidden other h =
-      ap (λ t. filter (fits w) (filter is_shown t)) (line_goes other) ∙ left_out (has_control c) (filter is_shown (line_part (graphemes true rest))) h
+      ap (λ t. filter (fits w) (filter is_shown t)) (line_goes other) ∙ left_out (has_control c) (filter is_shown (line_clusters (graphemes true rest))) h
 
   pub line_over : IsUtf8 rest → is_newline c ≡ true → (shown_in w text ≡ []) × (behind_line text ≡ rest)
   line_over u newline = (
-    ap (shown w) clusters ∙ ap (λ b. filter (fits w) (filter is_shown (cond b [] (c ∷ line_part (graphemes true rest))))) newline,
+    ap (shown w) clusters ∙ ap (λ b. filter (fits w) (filter is_shown (cond b [] (c ∷ line_clusters (graphemes true rest))))) newline,
     ap (λ t. concat (behind_part t)) clusters ∙ ap (λ b. concat (cond b (graphemes true rest) (behind_part (graphemes true rest)))) newline ∙ concat-graphemes rest u,
   )
 

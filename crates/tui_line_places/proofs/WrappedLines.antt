@@ -20,7 +20,7 @@ use Rattle.tui_para.specs.WrappedText.{text_glyph_line}
 use Rattle.tui_para.specs.Wrapped.{not_wider}
 use Rattle.tui_para.proofs.WithoutSplits.{no_splits, plain, wrap_map}
 use Rattle.tui_line_places.specs.AfterLine.{wrapped_lines}
-use Rattle.tui_line_places.specs.Places.{behind_line, line_part, shown_in}
+use Rattle.tui_line_places.specs.Places.{behind_line, line_clusters, shown_in}
 use Rattle.tui_line_places.specs.Rests.{cluster_rule}
 use Rattle.tui_line_places.proofs.LineClusters.{by_clusters}
 
@@ -77,7 +77,7 @@ module _ (style : Style) (w : ℕ) (trim : Bool) where
         ≡ map (glyph_line alignment) (styled (wrap_kept (cluster_rule w trim) (shown_in w text))) ++ all_lines (lines (behind_line text))
     by_first text u =
         let b = by_clusters text u in
-        let line = concat (line_part (graphemes true text)) in
+        let line = concat (line_clusters (graphemes true text)) in
         ap all_lines b.lines_are
         ∙ ap (λ t. map (glyph_line alignment) t ++ all_lines (lines (behind_line text)))
         (line_wraps line ∙ ap (λ t. styled (wrap_kept (cluster_rule w trim) (filter (λ c. nat_le (width_of c) w) (filter is_shown t)))) b.line_is)

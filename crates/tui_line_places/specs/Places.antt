@@ -12,9 +12,9 @@ abbrev pub is_newline : List ℕ → Bool
 is_newline cluster = pointwise nat_eq cluster (10 ∷ []) || pointwise nat_eq cluster (13 ∷ 10 ∷ [])
 
 -- the clusters up to the first newline, and those behind it
-abbrev pub line_part : List (List ℕ) → List (List ℕ)
-line_part [] = []
-line_part (c ∷ cs) = if is_newline c then [] else c ∷ line_part cs
+abbrev pub line_clusters : List (List ℕ) → List (List ℕ)
+line_clusters [] = []
+line_clusters (c ∷ cs) = if is_newline c then [] else c ∷ line_clusters cs
 
 -- the clusters behind the first newline
 abbrev pub behind_part : List (List ℕ) → List (List ℕ)
@@ -24,7 +24,7 @@ behind_part (c ∷ cs) = if is_newline c then cs else behind_part cs
 -- what is shown of the text's first line in lines of w columns: its clusters without those that hold a control character and
 -- those that are wider
 abbrev pub shown_in : ℕ → List ℕ → List (List ℕ)
-shown_in w text = filter (λ c. nat_le (width_of c) w) (filter is_shown (line_part (graphemes true text)))
+shown_in w text = filter (λ c. nat_le (width_of c) w) (filter is_shown (line_clusters (graphemes true text)))
 
 -- the text behind its first line
 abbrev pub behind_line : List ℕ → List ℕ

@@ -1,6 +1,6 @@
 //! A first part of a text, where nothing behind it is shown.
 
-ghost use Rattle.std.specs.Prelude.{◌≡◌, ◌<◌, ◌≤◌, ◌⊎◌, ◌++◌, ℕ, List, length, take, true};
+ghost use Rattle.std.specs.Prelude.{◌≡◌, ◌↔◌, ◌<◌, ◌≤◌, ◌⊎◌, ◌++◌, ℕ, IsTrue, List, length, take, true};
 ghost use Rattle.tui_cells.specs.declared.style.Style.{Style};
 ghost use Rattle.tui_text.specs.declared.alignment.Alignment.{Alignment};
 ghost use Rattle.tui_line_places.specs.AfterLine.{wrapped_lines};
@@ -90,9 +90,9 @@ fn is_cut(text: &str, place: usize) -> bool
     is_behind_newline(bytes, place) || is_seam(bytes, place)
 }
 
-/// Whether a newline stands before a place.
+/// Whether a newline stands directly before a place, which may be the end.
 pub fn is_behind_newline(bytes: &[u8], place: usize) -> bool
-    ensures { result ≡ true → (place ≤ length bytes.now) × EndsInNewline (take place bytes.now) }
+    ensures { IsTrue result ↔ (place ≤ length bytes.now) × EndsInNewline (take place bytes.now) }
 {
     0 < place && place <= bytes.len() && bytes[place - 1] == NEWLINE
 }

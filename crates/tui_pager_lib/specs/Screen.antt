@@ -47,7 +47,7 @@ use Rattle.tui_pager_lib.specs.Pager.{PagerData}
 use Rattle.tui_pager_lib.specs.Steps.{Sizes, most_of}
 use Rattle.tui_pager_lib.specs.declared.state.PagerState.{PagerState}
 
--- the screen: a third of its width for the titles, the rest for the body, and a row below both; the bar stands on the body's right border
+-- The screen. A third of its width is for the titles, the rest for the body, and a row stands below both.
 abbrev pub page_area : ℕ → ℕ → Rect
 page_area width height = record { x = 0; y = 0; width = width; height = height }
 
@@ -59,7 +59,7 @@ titles_area width height = record { x = 0; y = 0; width = width / 3; height = he
 abbrev pub body_area : ℕ → ℕ → Rect
 body_area width height = record { x = width / 3; y = 0; width = width - width / 3; height = height - 1 }
 
--- the last column between the corners of the body's block
+-- the bar, on the right border of the body's block, between its corners
 abbrev pub bar_area : ℕ → ℕ → Rect
 bar_area width height = record { x = width - 1; y = 1; width = 1; height = height - 3 }
 
@@ -67,7 +67,7 @@ bar_area width height = record { x = width - 1; y = 1; width = 1; height = heigh
 abbrev pub last_row : ℕ → ℕ → Rect
 last_row width height = record { x = 0; y = height - 1; width = width; height = 1 }
 
--- the list of the titles
+-- a title as an item of the list
 abbrev pub title_item : EntryData → ListItemData
 title_item e = record { content = raw_text e.title; style = no_style }
 
@@ -75,7 +75,7 @@ title_item e = record { content = raw_text e.title; style = no_style }
 abbrev pub titles_block : BlockData
 titles_block = record (block_of 15) { titles = record { line = raw_line (codes "Entries"); position = None } ∷ [] }
 
--- a list of items inside it
+-- a list of items inside it, padded by one entry around the selected one
 abbrev pub list_over : List ListItemData → ListData
 list_over items = record (list_of items) {
   block = Some titles_block;
@@ -92,12 +92,12 @@ titles_list entries = list_over (map title_item entries)
 abbrev pub list_state : PagerState → ListState
 list_state s = record { offset = s.offset; selected = s.selected }
 
--- the body, in lines without the blanks at which they break and without breaks after hyphens, from a line on
+-- the text of the selected body, none where there is none
 abbrev pub body_of : List EntryData → Option ℕ → List ℕ
 body_of entries None = []
 body_of entries (Some place) = (slice_index_or entries place (record { title = []; body = [] })).body
 
--- the body from a line on, without its block
+-- The body from a line on, without its block. Its lines lose the blanks at which they break, and never break after a hyphen.
 abbrev pub unframed : List ℕ → ℕ → ParagraphData
 unframed body line = record (paragraph_of (raw_text body)) { wrap = Some (at_blanks true); scroll_y = line }
 

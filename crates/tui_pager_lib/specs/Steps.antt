@@ -43,7 +43,7 @@ line_by most BodyTop line = 0
 line_by most BodyEnd line = most
 line_by most _ line = line
 
--- the state after a key, before the list is scrolled; nothing moves without entries
+-- the state after a key, before the list is scrolled: a selection that changes begins with the first line of its body
 abbrev pub moved_from : ℕ → ℕ → ℕ → Key → PagerState → Option ℕ → PagerState
 moved_from rows count most key s None = s
 moved_from rows count most key s (Some place) = record {
@@ -52,7 +52,7 @@ moved_from rows count most key s (Some place) = record {
   line = if selected_by rows count key place == place then line_by most key s.line else 0;
 }
 
--- a selection that changes begins with the first line
+-- the same by the present selection; nothing moves where there is none
 abbrev pub moved_by : ℕ → ℕ → ℕ → Key → PagerState → PagerState
 moved_by rows count most key s = moved_from rows count most key s s.selected
 

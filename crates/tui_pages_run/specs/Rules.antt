@@ -23,13 +23,13 @@ IsWritten command.Print r text = AreAllPages r text
 IsWritten command.Count r text = text ≡ count_line r
 
 -- what may stand alone where memory ends
-abbrev pub IsFirst : PagesCommand → ReportData → List ℕ → Type 0
-IsFirst command.Print r text = AreFewerPages r text
-IsFirst command.Count r text = nothing text
+abbrev pub MayStandAlone : PagesCommand → ReportData → List ℕ → Type 0
+MayStandAlone command.Print r text = AreFewerPages r text
+MayStandAlone command.Count r text = nothing text
 
 -- what a command does with a value
 abbrev pub pages_job : PagesCommand → JobRules PagesRefusal
-pages_job c = record { Input = ReportData; input_of = report_in; line = refusal_line; due = IsWritten c; part = IsFirst c }
+pages_job c = record { Input = ReportData; input_of = report_in; line = refusal_line; due = IsWritten c; part = MayStandAlone c }
 
 -- the rules of all commands
 abbrev pub pages_rules : Rules PagesCommand PagesRefusal

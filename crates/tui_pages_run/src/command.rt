@@ -3,7 +3,7 @@
 ghost use Rattle.std.specs.Prelude.{◌≡◌};
 ghost use Rattle.tui_pages_lib.specs.Strokes.{page_area};
 ghost use Rattle.tui_program.specs.Endings.{AnswersWith, no_refusal};
-ghost use Rattle.tui_pages_run.specs.Rules.{IsFirst, IsWritten};
+ghost use Rattle.tui_pages_run.specs.Rules.{MayStandAlone, IsWritten};
 
 use crate::paged_report::{PagedReport, read_report};
 use crate::printing::{print_count, print_pages};
@@ -71,7 +71,7 @@ fn write<K: Sink>(
     sink: &mut K,
 ) -> Result<(), Stop<PagesRefusal>>
     requires { paged.now.area ≡ page_area paged.now.report }
-    ensures { AnswersWith (IsWritten command paged.now.report) (IsFirst command paged.now.report) no_refusal
+    ensures { AnswersWith (IsWritten command paged.now.report) (MayStandAlone command paged.now.report) no_refusal
         (K.told sink.old) (K.told sink.new) result }
 {
     match command {

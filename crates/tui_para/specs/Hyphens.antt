@@ -19,7 +19,7 @@ is_hyphen_text text = pointwise nat_eq text (45 ∷ [])
 abbrev pub is_hyphen : Glyph → Bool
 is_hyphen g = is_hyphen_text g.text
 
--- a grapheme of a word that is not
+-- whether it is neither a hyphen nor a blank
 abbrev pub is_letter : Glyph → Bool
 is_letter g = not (is_hyphen g) && not (glyph_blank g)
 
@@ -43,7 +43,7 @@ glyph_rule w wrap = record { blank = λ p. glyph_blank p.0; split = λ p. p.1; s
 abbrev pub unsplit : List (List (Glyph × Bool)) → List (List Glyph)
 unsplit lines = map (map (λ p. p.0)) lines
 
--- the same for lines that a relation admits
+-- lines that a relation admits, without what tells of splits
 abbrev pub Unsplit : (List (List (Glyph × Bool)) → Type 0) → List (List Glyph) → Type 0
 Unsplit R lines = (parts : List (List (Glyph × Bool))) × R parts × (lines ≡ unsplit parts)
 

@@ -7,7 +7,6 @@ use Rattle.tui_para.specs.Hyphens.{wrap}
 use Rattle.tui_para.specs.Truncated.{truncate}
 use Rattle.tui_para.specs.declared.wrap.Wrap.{Wrap}
 use Rattle.tui_text.specs.Grapheme.{Glyph, glyph_blank, glyph_width}
-use Rattle.tui_para.specs.declared.wrap.Wrap.{Wrap}
 use Rattle.tui_text.specs.Graphemes.{line_graphemes}
 use Rattle.tui_text.specs.Line.{LineData}
 use Rattle.tui_text.specs.Text.{TextData}

@@ -48,7 +48,7 @@ use Rattle.tui_schema.specs.Items.Names.{widget_of}
 use Rattle.tui_schema.specs.Items.ScrollbarFields.{shown_scrollbar}
 use Rattle.tui_schema.specs.Items.TableFields.{shown_table}
 use Rattle.tui_schema.specs.Items.TabsFields.{shown_tabs}
-use Rattle.tui_schema.specs.Kinds.Area.{area_of}
+use Rattle.tui_schema.specs.Kinds.Area.{area_in}
 use Rattle.tui_json.specs.Refusals.{◌>>=◌, numbered}
 use Rattle.tui_schema.specs.Refusals.{required}
 use Rattle.tui_schema.specs.declared.bad_field.BadField.{BadField}
@@ -100,7 +100,7 @@ shown_of widgets.Logo i d = do
 unfoldable pub placed_of : ℕ → Data → Result PlacedData BadField
 placed_of i d = do
   widget ← required widget_of (Some i) fields.Widget d
-  area ← required area_of (Some i) fields.Area d
+  area ← required area_in (Some i) fields.Area d
   shown ← shown_of widget (Some i) d
   Ok (record { area = area; item = shown })
 

@@ -8,5 +8,5 @@ use Rattle.tui_schema.specs.Kinds.Four.{four_in}
 abbrev pub area : ℕ → ℕ → ℕ → ℕ → Rect
 area x y width height = record { x = x; y = y; width = width; height = height }
 
-unfoldable pub area_of : Data → Option Rect
-area_of d = option_and_then (four_in area) (as_array d)
+unfoldable pub area_in : Data → Option Rect
+area_in d = option_and_then (four_in area) (as_array d)

@@ -1,6 +1,6 @@
 //! Areas: `[x, y, width, height]`.
 
-ghost use Rattle.tui_schema.specs.Kinds.Area.{area_of};
+ghost use Rattle.tui_schema.specs.Kinds.Area.{area_in};
 
 use crate::field::Field;
 use crate::kinds::member::read;
@@ -16,9 +16,9 @@ impl<'v> Kind<'v, Field> for Rect {
 
     ghost seen = { λ area. area };
 
-    ghost kind = { area_of };
+    ghost kind = { area_in };
 
-    #[tactic(auto, using(crate::proofs::Arrays::four_other), unfolding(crate::specs::Kinds::Area::area_of))]
+    #[tactic(auto, using(crate::proofs::Arrays::four_other), unfolding(crate::specs::Kinds::Area::area_in))]
     fn read(alloc: Global, value: &'v Value) -> Result<Rect, KindError> {
         let [x, y, width, height] = elements(value)? else {
             return Err(KindError::WrongKind);
