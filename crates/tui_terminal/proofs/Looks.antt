@@ -1,5 +1,5 @@
 -- What shows of a cell.
-use Rattle.std.proofs.Common.{◌≡◌, ℕ, zero, suc, ◌-◌, ◌<◌, ◌≤◌, ◌==◌, min, Bool, true, false, List, refl, sym, ap, ◌∙◌, arith}
+use Rattle.std.proofs.Common.{◌≡◌, ℕ, zero, suc, ◌-◌, ◌<◌, ◌≤◌, ◌==◌, min, Bool, true, false, List, sym, ap, ◌∙◌, arith}
 use Rattle.std.specs.Prelude.{Option, None, Some}
 use Rattle.std.proofs.lemmas.Bool.{cond-true, cond-false, true≢false}
 use Rattle.tui_cells.specs.Attributes.{look_of}

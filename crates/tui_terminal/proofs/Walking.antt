@@ -16,7 +16,7 @@ use Rattle.tui_tty.specs.Symbols.{is_trusted}
 use Rattle.tui_tty.specs.Terminal.{Command}
 use Rattle.tui_tty_laws.specs.declared.at.At.{At}
 use Rattle.tui_tty_laws.specs.declared.wanted.Wanted.{Wanted}
-use Rattle.tui_tty_laws.specs.declared.wanted.Wanted.TheVariants.{Changed, Risky, Trusted}
+use Rattle.tui_tty_laws.specs.declared.wanted.Wanted.TheVariants.{Changed}
 use Rattle.tui_tty_laws.specs.Sent.{is_shown, sent, sent_here}
 use Rattle.tui_tty_laws.specs.Sending.{at_after, next_at, send, send_one}
 use Rattle.tui_terminal.specs.Sent.{is_of_pass, pass_of, placed_if, shows_same}

@@ -11,3 +11,4 @@ pub mod Screens
 pub mod Unchanged
 pub mod Between
 pub mod Depths
+pub mod Plain

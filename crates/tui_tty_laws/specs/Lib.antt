@@ -1,3 +1,4 @@
 pub mod Sent
 pub mod Sending
 pub mod Laws
+pub mod Plain

@@ -2,9 +2,19 @@
 
 ghost use Rattle.tui_tty.specs.Session.{GivesBack};
 ghost use Rattle.tui_tty_laws.specs.Laws.{
-    ChangeIsShown, DepthsRest, DrawingIsTrusted, FewParameters, FramesFollow, FullIsShown, NamesStay, NearestInPalette, NearestName, SendsNothing,
-    TrueChangesNothing,
+  ChangeIsShown,
+  DepthsRest,
+  DrawingIsTrusted,
+  FewParameters,
+  FramesFollow,
+  FullIsShown,
+  NamesStay,
+  NearestInPalette,
+  NearestName,
+  SendsNothing,
+  TrueChangesNothing,
 };
+ghost use Rattle.tui_tty_laws.specs.Plain.{StyledRowsArePlain};
 
 /// The commands of a full screen show it on any terminal, and those of a change show the new screen where the old one showed; so
 /// they follow one another. Where nothing has changed, nothing is sent.
@@ -35,4 +45,10 @@ pub fn colour_laws()
     ensures nearest_name { NearestName }
     ensures nearest { NearestInPalette }
     ensures few { FewParameters }
+{}
+
+/// Rows one under another are, but for what sets the pen, their symbols, and a newline behind each. On a terminal whose pen is at rest each
+/// symbol is drawn by the pen of its own cell, and the pen is at rest at each newline.
+pub fn styled_law()
+    ensures plain { StyledRowsArePlain }
 {}

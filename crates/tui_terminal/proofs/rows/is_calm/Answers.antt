@@ -1,6 +1,5 @@
-use Rattle.std.proofs.Common.{◌≡◌, ◌+◌, ◌-◌, ◌<◌, ◌≤◌, ◌&&◌, Bool, length, rules, refl, sym, ap, ap₂, ◌∙◌, arith, true, false}
+use Rattle.std.proofs.Common.{◌≡◌, ◌+◌, ◌-◌, ◌<◌, ◌≤◌, ◌&&◌, length, rules, refl, sym, ap, ◌∙◌, arith, true, false}
 use Rattle.std.specs.List.{list_all}
-use Rattle.tui_text.specs.Visible.{Placed}
 use Rattle.tui_tty.specs.Pieces.{shown, uncovered}
 use Rattle.tui_tty.specs.Symbols.{is_trusted}
 use Rattle.tui_tty_laws.specs.declared.wanted.Wanted.TheVariants.{Changed}

@@ -1,4 +1,4 @@
-use Rattle.std.proofs.Common.{◌≡◌, ◌+◌, ◌-◌, ◌<◌, ◌≤◌, [], ◌++◌, flat_map, length, rules, refl, sym, ap, ◌∙◌, arith, List}
+use Rattle.std.proofs.Common.{◌+◌, ◌-◌, ◌<◌, ◌≤◌, [], ◌++◌, flat_map, length, rules, refl, sym, ap, ◌∙◌, arith, List}
 use Rattle.tui_outside.proofs.Gathering.{Gathers-none, Gathers-then}
 use Rattle.tui_text.specs.Visible.{Placed}
 use Rattle.tui_tty.specs.Pieces.{shown, uncovered}

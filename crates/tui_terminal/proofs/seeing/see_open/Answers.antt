@@ -1,4 +1,4 @@
-use Rattle.std.proofs.Common.{◌≡◌, ◌-◌, min, rules, true, false, ap, sym, ◌∙◌, arith}
+use Rattle.std.proofs.Common.{◌≡◌, ◌-◌, min, rules, true, false, arith}
 use Rattle.tui_text.proofs.ShownCells.{some_step}
 use Rattle.tui_text.specs.Visible.{step_of}
 use Rattle.tui_terminal.proofs.Looks.{as_blank, as_it_is, blank_fits, cover_as_blank, cover_as_it_is, fits_as_it_is}

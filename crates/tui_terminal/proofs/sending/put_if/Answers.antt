@@ -1,4 +1,4 @@
-use Rattle.std.proofs.Common.{◌≡◌, ◌∷◌, [], sym, ap, ◌∙◌}
+use Rattle.std.proofs.Common.{◌∙◌}
 use Rattle.tui_outside.proofs.Gathering.{Gathers-none}
 use Rattle.tui_terminal.specs.Seeing.{look_in}
 use Rattle.tui_terminal.proofs.Texts.{Gathers-text}

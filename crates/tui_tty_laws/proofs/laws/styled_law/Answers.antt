@@ -1,0 +1,5 @@
+use Rattle.tui_tty_laws.proofs.Plain.{styled_plain}
+use Rattle.tui_tty_laws.proofs.laws.styled_law.Goals as goal
+
+pub returns : goal.returns
+returns c = record { plain = styled_plain }
