@@ -16,3 +16,4 @@ pub use Rattle.tui_line_places.specs as places
 pub use Rattle.tui_scene.specs as scene
 pub use Rattle.tui_table.specs as table
 pub use Rattle.tui_text.specs as text
+pub mod Outputs

@@ -3,6 +3,7 @@
 ghost use Rattle.std.proofs.Common.{rules};
 ghost use Rattle.std.specs.Prelude.{◌≡◌, ◌&&◌, true};
 ghost use Rattle.tui.specs.Order.{PaddingIsOrdered};
+ghost use Rattle.tui.specs.Outputs.{same_output};
 ghost use Rattle.tui.specs.Same.{same_bar};
 ghost use Rattle.tui.specs.Texts.{same_text};
 ghost use Rattle.tui_cells.specs.Same.{same_attributes, same_style};
@@ -20,6 +21,7 @@ use crate::report::{Column, Piece, ReportError};
 use crate::scene::DrawError;
 use crate::style::{Color, Modifier, ParseError, Style};
 use crate::symbols::MergeStrategy;
+use crate::terminal::{Cursor, Depth, Output, Trust};
 use crate::text::{Span, StyledGrapheme};
 use crate::widgets::{
     BorderType, Borders, Clear, Dimmed, Fill, GaugeError, HighlightSpacing, ListDirection, ListState,
@@ -204,6 +206,30 @@ impl Plain for Style {
 }
 
 impl Plain for MergeStrategy {
+    ghost same = { Prim.search rules };
+
+    ghost cloned = { Prim.search rules };
+}
+
+impl Plain for Cursor {
+    ghost same = { Prim.search rules };
+
+    ghost cloned = { Prim.search rules };
+}
+
+impl Plain for Depth {
+    ghost same = { Prim.search rules };
+
+    ghost cloned = { Prim.search rules };
+}
+
+impl Plain for Output {
+    ghost same = { same_output };
+
+    ghost cloned = { Prim.search rules };
+}
+
+impl Plain for Trust {
     ghost same = { Prim.search rules };
 
     ghost cloned = { Prim.search rules };
