@@ -1,4 +1,5 @@
 pub mod Order
+pub mod Outputs
 pub mod Same
 pub mod Texts
 pub use Rattle.tui_bars.specs as bars
@@ -8,6 +9,7 @@ pub use Rattle.tui_clusters.specs as clusters
 pub use Rattle.tui_frames.specs as frames
 pub use Rattle.tui_layout.specs as layout
 pub use Rattle.tui_lists.specs as lists
+pub use Rattle.tui_outside.specs as outside
 pub use Rattle.tui_pager_lib.specs as pager
 pub use Rattle.tui_pages_lib.specs as pages
 pub use Rattle.tui_panes_lib.specs as panes
@@ -15,5 +17,6 @@ pub use Rattle.tui_para.specs as para
 pub use Rattle.tui_line_places.specs as places
 pub use Rattle.tui_scene.specs as scene
 pub use Rattle.tui_table.specs as table
+pub use Rattle.tui_terminal.specs as terminal
 pub use Rattle.tui_text.specs as text
-pub mod Outputs
+pub use Rattle.tui_tty.specs as tty
