@@ -1,6 +1,8 @@
+mod Bytes
 mod Looks
 pub mod Nearest
 mod RowWalks
+mod SameRows
 mod SymbolLemmas
 mod Texts
 mod Walking
