@@ -1,14 +1,18 @@
 -- What shows of a cell.
-use Rattle.std.proofs.Common.{◌≡◌, ℕ, zero, suc, ◌-◌, ◌<◌, ◌≤◌, ◌==◌, min, Bool, true, false, List, sym, ap, ◌∙◌, arith}
-use Rattle.std.specs.Prelude.{Option, None, Some}
-use Rattle.std.proofs.lemmas.Bool.{cond-true, cond-false, true≢false}
+use Rattle.std.proofs.Common.{◌≡◌, ℕ, zero, suc, ◌-◌, ◌<◌, ◌≤◌, ◌==◌, min, Bool, true, false, List, sym, ap, ◌∙◌, arith, [], ◌∷◌, ◌&&◌, ◌||◌, refl}
+use Rattle.std.specs.Prelude.{nat_le, Option, None, Some}
+use Rattle.std.proofs.lemmas.Bool.{and_from, and_parts, cond-true, cond-false, leb-true, true≢false}
+use Rattle.std.proofs.lemmas.Bool.Decides.{nat_tests}
 use Rattle.tui_cells.specs.Attributes.{look_of}
 use Rattle.tui_cells.specs.Cell.{Look, space}
 use Rattle.tui_cells.specs.declared.attributes.Attributes.{Attributes}
 use Rattle.tui_text.specs.Visible.{step_of}
 use Rattle.tui_tty.specs.declared.trust.Trust.{Trust}
 use Rattle.tui_tty.specs.Pieces.{Cover, blanked, covered, next_cover, seen, shown}
-use Rattle.tui_tty.specs.Symbols.{is_sendable}
+use Rattle.tui_tty.specs.declared.trust.Trust.TheVariants.{Common, Ascii}
+use Rattle.tui_tty.specs.Symbols.{is_ascii, is_common, is_ended, is_led, is_quiet, is_sendable, is_trusted}
+use Rattle.tui_tty.specs.Terminal.{reach}
+use Rattle.tui_terminal.proofs.Bytes.{one_byte}
 use Rattle.tui_tty_laws.proofs.Seen.{blank_step, parts_of, seen_false, seen_true}
 
 -- ---- a symbol that may be sent, or not, as the code has read it from a cell
@@ -74,3 +78,56 @@ next_open trust u room c e = sym (cond-true (u.left == 0) (covered trust room c)
 pub next_under : (trust : Trust) (u : Cover) (room : ℕ) (c : Look) → (u.left == 0) ≡ false → under (u.left - 1) u.blank ≡ next_cover trust u room c
 unfolding next_cover
 next_under trust u room c e = sym (cond-false (u.left == 0) (covered trust room c) (record u { left = u.left - 1 }) e)
+
+-- ---- a printable byte
+
+pub record IsByte (s : List ℕ) (b : ℕ) : Type 0 where
+  pub is : s ≡ b ∷ []
+  pub low : 32 ≤ b
+  pub high : b ≤ 126
+
+or_false : (a : Bool) → (a || false) ≡ a
+or_false true = refl
+or_false false = refl
+
+byte_of : (s : List ℕ) → is_ascii s ≡ true → (b : ℕ) × IsByte s b
+unfolding is_ascii
+byte_of [] e = absurd (true≢false (sym e))
+byte_of (b ∷ []) e =
+    let both = and_parts (nat_le 32 b) (nat_le b 126) (sym (or_false (nat_le 32 b && nat_le b 126)) ∙ e) in
+    (b, record { is = refl; low = leb-true 32 b both.0; high = leb-true b 126 both.1 })
+byte_of (a ∷ b ∷ s) e = absurd (true≢false (sym e))
+
+ascii_trusted : (trust : Trust) (s : List ℕ) (b : ℕ) → s ≡ b ∷ [] → is_ascii s ≡ true → is_trusted trust s ≡ true
+unfolding is_ascii is_common
+ascii_trusted Common s b is e = ap is_common is ∙ (sym (ap is_ascii is) ∙ e)
+ascii_trusted Ascii s b is e = e
+
+byte_quiet : (b : ℕ) → 32 ≤ b → b ≤ 126 → is_quiet (b ∷ []) ≡ true
+unfolding is_quiet
+byte_quiet b low high = grind (arith, nat_tests)
+
+pub byte_steps : (s : List ℕ) → is_ascii s ≡ true → step_of s ≡ 1
+byte_steps s e = let b = byte_of s e in ap step_of b.1.is ∙ one_byte b.0 b.1.low b.1.high
+
+-- it may be sent wherever a column is left
+pub byte_sendable : (trust : Trust) (room : ℕ) (s : List ℕ) → 0 < room → is_ascii s ≡ true → is_sendable trust room s ≡ true
+unfolding is_sendable
+byte_sendable trust room s some e =
+    let b = byte_of s e in
+    let quiet : is_quiet s ≡ true = ap is_quiet b.1.is ∙ byte_quiet b.0 b.1.low b.1.high in
+    let step = byte_steps s e in
+    let fits : nat_le (step_of s) room ≡ true = (let le : step_of s ≤ room = omega (arith, step) in grind (arith, nat_tests)) in
+    let trusted = ascii_trusted trust s b.0 b.1.is e in
+    let either : (is_trusted trust s || ((is_led s && is_ended s) && nat_le (reach s) room)) ≡ true = ap (λ (k : Bool). k || ((is_led s && is_ended s) && nat_le (reach s) room)) trusted in
+    and_from (is_quiet s && nat_le (step_of s) room) _ (and_from (is_quiet s) _ quiet fits) either
+
+pub byte_shown : (trust : Trust) (room : ℕ) (c : Look) (s : List ℕ) (a : Attributes) → 0 < room → s ≡ c.symbol → look_of c.symbol a ≡ c → is_ascii s ≡ true →
+    Some (look_of s a) ≡ Some (seen trust room c)
+byte_shown trust room c s a some es ea e = as_it_is trust room c s a true es ea (sym (byte_sendable trust room s some e)) refl
+
+pub byte_covers : (trust : Trust) (room : ℕ) (c : Look) (s : List ℕ) → 0 < room → s ≡ c.symbol → is_ascii s ≡ true → under 0 None ≡ covered trust room c
+byte_covers trust room c s some es e =
+    let step = byte_steps s e in
+    let none : 0 ≡ min (step_of s) room - 1 = omega (arith, step) in
+    cover_as_it_is trust room c s 0 true es none (sym (byte_sendable trust room s some e)) refl

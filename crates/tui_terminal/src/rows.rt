@@ -1,6 +1,7 @@
 //! The rows of a buffer.
 
-ghost use Rattle.std.specs.Prelude.{◌≡◌, ◌+◌, ◌<◌, ◌≤◌, ◌&&◌, ◌||◌, ℕ, flat_map, length, not};
+ghost use Rattle.std.specs.Prelude.{◌≡◌, ◌+◌, ◌<◌, ◌≤◌, ◌&&◌, ◌||◌, ℕ, IsTrue, flat_map, length, nat_eq, not};
+ghost use Rattle.std.specs.Cmp.Lexicographic.{pointwise};
 ghost use Rattle.tui_outside.specs.Gathers.{Gathers};
 ghost use Rattle.tui_terminal.specs.Seeing.{look_in, shown_in};
 ghost use Rattle.tui_terminal.specs.Sent.{is_calm_both, is_of_pass, pass_of, shows_same};
@@ -50,10 +51,49 @@ pub(crate) fn put_changes<K: Sink>(
     ensures { Gathers (K.told sink.old) (K.told sink.new) print.old print.new
         (flat_map spelling (send output y nowhere (row_changes output.trust left old.now new.now))) }
 {
+    if is_same_row(old, new) {
+        return;
+    }
     if is_calm(output.trust, old, new) {
         put_new(print, output, y, left, old, new, sink);
     } else {
         put_anew(print, output, y, left, new, sink);
+    }
+}
+
+// Whether no cell of a row differs. This passes over most rows of most frames.
+fn is_same_row(old: &[Cell], new: &[Cell]) -> bool
+    requires { length old.now ≡ length new.now }
+    ensures { IsTrue result → old.now ≡ new.now }
+{
+    'columns: for column in 0..new.len() {
+        let cell_old = &old[column];
+        let cell = &new[column];
+        if !is_same_cell(cell_old, cell) {
+            return false;
+        }
+    }
+    true
+}
+
+fn is_same_cell(old: &Cell, new: &Cell) -> bool
+    ensures { result ≡ is_same old.now new.now }
+{
+    let symbol_old = old.symbol();
+    let attributes_old = old.attributes();
+    let symbol = new.symbol();
+    let attributes = new.attributes();
+    is_same_text(symbol_old, symbol) && attributes_old == attributes
+}
+
+// A comparison of texts is a call, which a single byte needs not.
+#[inline]
+fn is_same_text(one: &str, other: &str) -> bool
+    ensures { result ≡ pointwise nat_eq one.now other.now }
+{
+    match (one.as_bytes(), other.as_bytes()) {
+        ([a], [b]) => a == b,
+        _ => one == other,
     }
 }
 
@@ -179,5 +219,5 @@ fn is_same(old: Seen<'_>, new: Seen<'_>) -> bool
 fn is_same_look(old: Seen<'_>, new: Seen<'_>) -> bool
     ensures { result ≡ is_same (look_in old.entry) (look_in new.entry) }
 {
-    old.symbol == new.symbol && old.attributes == new.attributes
+    is_same_text(old.symbol, new.symbol) && old.attributes == new.attributes
 }

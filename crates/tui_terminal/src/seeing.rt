@@ -5,7 +5,7 @@ ghost use Rattle.tui_terminal.specs.Seeing.{blank_of, cover_of, shown_in};
 ghost use Rattle.tui_text.specs.Visible.{step_of};
 ghost use Rattle.tui_tty.specs.Pieces.{covered, next_cover, seen, shown, uncovered};
 
-use crate::symbols::is_sendable;
+use crate::symbols::{is_ascii, is_sendable};
 use tui_cells::{Attributes, Cell};
 use tui_text::symbol_columns;
 use tui_tty::Trust;
@@ -72,6 +72,15 @@ fn see_open<'c>(trust: Trust, room: usize, cell: &'c Cell) -> Seen<'c>
 {
     let symbol = cell.symbol();
     let attributes = cell.attributes();
+    // A printable byte takes one column, and is sent wherever one is left.
+    if is_ascii(symbol) {
+        return Seen {
+            shows: true,
+            symbol,
+            attributes,
+            under: Under::none(),
+        };
+    }
     let left = symbol_columns(symbol).min(room) - 1;
     if is_sendable(trust, room, symbol) {
         Seen {

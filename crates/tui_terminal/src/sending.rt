@@ -69,12 +69,23 @@ fn put_piece<K: Sink>(
 {
     put_moves(print, y, at, column, sink);
     put_paints(print, output.depth, at, attributes, sink);
-    print.text(sink, symbol);
+    put_symbol(print, symbol, sink);
     At {
         column: column + symbol_columns(symbol),
         placed: is_trusted(output.trust, symbol),
         pen: attributes,
         painted: true,
+    }
+}
+
+// A single byte needs no copy.
+#[inline]
+fn put_symbol<K: Sink>(print: &mut Print, symbol: &str, sink: &mut K)
+    ensures { Gathers (K.told sink.old) (K.told sink.new) print.old print.new symbol.now }
+{
+    match symbol.as_bytes() {
+        [byte] => print.push(sink, *byte),
+        _ => print.text(sink, symbol),
     }
 }
 

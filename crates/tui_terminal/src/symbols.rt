@@ -30,8 +30,10 @@ pub(crate) fn is_trusted(trust: Trust, symbol: &str) -> bool
     }
 }
 
+/// Whether a symbol is one printable byte, with which each terminal is trusted.
+#[inline]
 #[tactic(auto, unfolding(tui_tty::specs::Symbols::is_ascii))]
-fn is_ascii(symbol: &str) -> bool
+pub(crate) fn is_ascii(symbol: &str) -> bool
     ensures { result ≡ is_ascii symbol.now }
 {
     match symbol.as_bytes() {

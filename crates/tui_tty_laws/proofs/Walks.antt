@@ -116,14 +116,14 @@ own_symbol : (s : List ℕ) → pointwise nat_eq s s ≡ true
 own_symbol [] = refl
 own_symbol (x ∷ s) = let here : nat_eq x x ≡ true = grind (arith, nat_tests) in and_from (nat_eq x x) (pointwise nat_eq s s) here (own_symbol s)
 
-same_look : (o n : Look) → is_same o n ≡ true → o ≡ n
+pub same_look : (o n : Look) → is_same o n ≡ true → o ≡ n
 same_look o n e =
     let h = and_parts (pointwise nat_eq o.symbol n.symbol) _ e in
     let symbol = same_symbols o.symbol n.symbol h.0 in
     let others = same_attributes (attributes_of o) (attributes_of n) h.1 in
     λ i. record { symbol = symbol i; fg = (others i).fg; bg = (others i).bg; modifier = (others i).modifier.bits }
 
-own_look : (c : Look) → is_same c c ≡ true
+pub own_look : (c : Look) → is_same c c ≡ true
 own_look c = and_from (pointwise nat_eq c.symbol c.symbol) _ (own_symbol c.symbol) (attributes_self (attributes_of c))
 
 shown_is : (o : Option Look) (n : Look) → is_shown o n ≡ true → o ≡ Some n

@@ -5,6 +5,8 @@ use Rattle.tui_tty.specs.Spelling.{spelling}
 use Rattle.tui_tty_laws.specs.Sending.{nowhere, send}
 use Rattle.tui_tty_laws.specs.Sent.{anew, changes, row_shown}
 use Rattle.tui_terminal.specs.Sent.{is_calm_both}
+use Rattle.tui_outside.proofs.Gathering.{Gathers-none}
+use Rattle.tui_terminal.proofs.SameRows.{same_text}
 use Rattle.tui_terminal.proofs.Texts.{Gathers-text}
 use Rattle.tui_terminal.proofs.rows.put_changes.Goals as goal
 
@@ -27,3 +29,9 @@ returns-else-is_calm g c =
     let calm : c.is_calm.result ≡ false = search rules in
     let is = cond-false (is_calm_both trust a.left a.old.now a.new.now) (changes trust a.left olds news) (anew trust a.left news) (sym (c.is_calm.ensures a.left) ∙ calm) in
     Gathers-text (ap (λ (ps : List Placed). flat_map spelling (send a.output a.y nowhere ps)) (sym is)) c.put_anew.ensures
+
+pub returns-then-is_same_row : goal.returns-then-is_same_row
+returns-then-is_same_row g c =
+    let a = c.args in
+    let same : c.is_same_row.result ≡ true = search rules in
+    Gathers-text (same_text a.output a.y a.left a.old.now a.new.now (c.is_same_row.ensures same)) (Gathers-none _ _)

@@ -1,7 +1,7 @@
-use Rattle.std.proofs.Common.{◌≡◌, ◌-◌, min, rules, true, false, arith}
+use Rattle.std.proofs.Common.{◌≡◌, ◌-◌, min, rules, true, false, arith, sym, ◌∙◌}
 use Rattle.tui_text.proofs.ShownCells.{some_step}
 use Rattle.tui_text.specs.Visible.{step_of}
-use Rattle.tui_terminal.proofs.Looks.{as_blank, as_it_is, blank_fits, cover_as_blank, cover_as_it_is, fits_as_it_is}
+use Rattle.tui_terminal.proofs.Looks.{byte_covers, byte_shown, byte_steps, as_blank, as_it_is, blank_fits, cover_as_blank, cover_as_it_is, fits_as_it_is}
 use Rattle.tui_terminal.proofs.seeing.see_open.Goals as goal
 
 pub overflow_sub-left : goal.overflow_sub-left
@@ -40,3 +40,20 @@ returns-else-is_sendable-clause-next c =
 
 pub returns-else-is_sendable-clause-fits : goal.returns-else-is_sendable-clause-fits
 returns-else-is_sendable-clause-fits c = blank_fits c.args.room c.requires.0
+
+pub returns-then-is_ascii-clause-shown : goal.returns-then-is_ascii-clause-shown
+returns-then-is_ascii-clause-shown c =
+    let on : c.is_ascii.result ≡ true = search rules in
+    byte_shown c.args.trust c.args.room c.args.cell.now c.symbol-symbol.result.now c.attributes-attributes.result c.requires.0
+    c.symbol-symbol.ensures.is c.attributes-attributes.ensures (sym c.is_ascii.ensures ∙ on)
+
+pub returns-then-is_ascii-clause-next : goal.returns-then-is_ascii-clause-next
+returns-then-is_ascii-clause-next c =
+    let on : c.is_ascii.result ≡ true = search rules in
+    c.none.ensures ∙ byte_covers c.args.trust c.args.room c.args.cell.now c.symbol-symbol.result.now c.requires.0 c.symbol-symbol.ensures.is (sym c.is_ascii.ensures ∙ on)
+
+pub returns-then-is_ascii-clause-fits : goal.returns-then-is_ascii-clause-fits
+returns-then-is_ascii-clause-fits c =
+    let on : c.is_ascii.result ≡ true = search rules in
+    let step = byte_steps c.symbol-symbol.result.now (sym c.is_ascii.ensures ∙ on) in
+    omega (arith, step, c.requires.0)

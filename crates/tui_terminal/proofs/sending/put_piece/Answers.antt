@@ -9,4 +9,4 @@ pub returns-clause-put : goal.returns-clause-put
 returns-clause-put g c =
     let p : Placed = placed_at c.args.column c.args.symbol.now c.args.attributes in
     Gathers-text (piece_text (moves c.args.y c.args.at p) (paints c.args.output.depth c.args.at p) c.args.symbol.now)
-    (Gathers-then c.put_moves.ensures (Gathers-then c.put_paints.ensures c.text.ensures))
+    (Gathers-then c.put_moves.ensures (Gathers-then c.put_paints.ensures c.put_symbol.ensures))
