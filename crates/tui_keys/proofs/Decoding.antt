@@ -1,0 +1,76 @@
+-- Bytes in pieces, few events, and NUL.
+use Rattle.std.proofs.Common.{◌≡◌, ℕ, ◌≤◌, List, [], ◌∷◌, ◌++◌, length, Option, None, Some, refl, sym, ap, ◌∙◌, append_assoc, if◌then◌else◌, arith}
+use Rattle.std.proofs.lemmas.List.{length-append}
+use Rattle.tui_keys.specs.declared.event.Event.{Event}
+use Rattle.tui_keys.specs.declared.event.Event.TheVariants as events
+use Rattle.tui_keys.specs.declared.keys.Keys.{Keys}
+use Rattle.tui_keys.specs.declared.keys.Step.{Step}
+use Rattle.tui_keys.specs.Events.{events_of, keys_after, made, some_of}
+use Rattle.tui_keys.specs.Laws.{AreRead, EventsAreFew, NulIsATick, PiecesAreOne}
+use Rattle.tui_keys.specs.Steps.{stepped}
+
+pub one_piece : PiecesAreOne
+unfolding events_of keys_after
+one_piece keys [] b = record { events = refl; pending = refl }
+one_piece keys (x ∷ xs) b =
+    let rest = one_piece (stepped keys x).keys xs b in
+    record {
+      events = ap (λ (l : List Event). made (stepped keys x) ++ l) rest.events ∙ sym (append_assoc (made (stepped keys x)) _ _);
+      pending = rest.pending;
+    }
+
+-- bytes that are read, and behind them others
+pub joined : (k m n : Keys) (a b : List ℕ) (es fs : List Event) → AreRead k a es m → AreRead m b fs n → AreRead k (a ++ b) (es ++ fs) n
+joined k m n a b es fs h g =
+    let p = one_piece k a b in
+    record {
+      events = p.events ∙ ap (λ (l : List Event). l ++ events_of (keys_after k a) b) h.events
+          ∙ ap (λ (j : Keys). es ++ events_of j b) h.pending ∙ ap (λ (l : List Event). es ++ l) g.events;
+      pending = p.pending ∙ ap (λ (j : Keys). keys_after j b) h.pending ∙ g.pending;
+    }
+
+pub nothing_read : (k : Keys) → AreRead k [] [] k
+unfolding events_of keys_after
+nothing_read k = record { events = refl; pending = refl }
+
+-- a byte that makes one event
+pub one_step : (k m : Keys) (b : ℕ) (e : Event) → stepped k b ≡ record { keys = m; first = None; second = Some e } → AreRead k (b ∷ []) (e ∷ []) m
+unfolding events_of keys_after
+one_step k m b e is = record { events = ap (λ (s : Step). made s ++ []) is; pending = ap (λ (s : Step). s.keys) is }
+
+-- a byte that makes none
+pub no_step : (k m : Keys) (b : ℕ) → stepped k b ≡ record { keys = m; first = None; second = None } → AreRead k (b ∷ []) [] m
+unfolding events_of keys_after
+no_step k m b is = record { events = ap (λ (s : Step). made s ++ []) is; pending = ap (λ (s : Step). s.keys) is }
+
+few_options : (a b : Option Event) → length (some_of a ++ some_of b) ≤ 2
+few_options None None = omega arith
+few_options None (Some y) = omega arith
+few_options (Some x) None = omega arith
+few_options (Some x) (Some y) = omega arith
+
+pub few : EventsAreFew
+unfolding events_of
+few keys [] = omega arith
+few keys (x ∷ xs) =
+    let rest = few (stepped keys x).keys xs in
+    let here = few_options (stepped keys x).first (stepped keys x).second in
+    let sum = length-append (made (stepped keys x)) (events_of (stepped keys x).keys xs) in
+    omega (arith, rest, here, sum)
+
+tick_first : (m : Keys) (b : List ℕ) → events_of m (0 ∷ b) ≡ (if m.pasting then events.Unknown else events.Tick) ∷ events_of m b
+unfolding events_of stepped
+tick_first m b = refl
+
+tick_stays : (m : Keys) (b : List ℕ) → keys_after m (0 ∷ b) ≡ keys_after m b
+unfolding keys_after stepped
+tick_stays m b = refl
+
+pub nul_is_a_tick : NulIsATick
+nul_is_a_tick keys a b =
+    let p = one_piece keys a (0 ∷ b) in
+    let q = one_piece keys a b in
+    record {
+      events = p.events ∙ ap (λ (l : List Event). events_of keys a ++ l) (tick_first (keys_after keys a) b);
+      pending = p.pending ∙ tick_stays (keys_after keys a) b ∙ sym q.pending;
+    }

@@ -1,0 +1,8 @@
+pub mod Decoding
+pub mod Sizes
+pub mod Texts
+pub mod Pastes
+pub mod Others
+pub mod Digits
+pub mod Sending
+pub mod Alone

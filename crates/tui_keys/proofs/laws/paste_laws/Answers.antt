@@ -1,0 +1,11 @@
+use Rattle.tui_keys.proofs.Pastes.{only_end_ends, paste_is_itself, pasted_is_pasted}
+use Rattle.tui_keys.proofs.laws.paste_laws.Goals as goal
+
+pub returns-clause-pasted : goal.returns-clause-pasted
+returns-clause-pasted c = pasted_is_pasted
+
+pub returns-clause-ends : goal.returns-clause-ends
+returns-clause-ends c = only_end_ends
+
+pub returns-clause-itself : goal.returns-clause-itself
+returns-clause-itself c = paste_is_itself

@@ -1,0 +1,103 @@
+-- Laws of the events.
+use Rattle.std.specs.Prelude.{ℕ, ◌≡◌, ◌⊎◌, ◌≤◌, ◌*◌, Bool, true, false, List, [], ◌∷◌, ◌++◌, All, length, map, flat_map, codes, encode_utf8_all, Some, if◌then◌else◌, ⊤}
+use Rattle.tui_keys.specs.declared.event.Event.{Event}
+use Rattle.tui_keys.specs.declared.event.Event.TheVariants as events
+use Rattle.tui_keys.specs.declared.keys.Keys.{Keys}
+use Rattle.tui_keys.specs.Events.{events_of, events_read, keys_after, keys_read, made}
+use Rattle.tui_keys.specs.Sent.{HasSize, IsPlain, IsTold, IsToldAlone, csi, escape, sent_for}
+use Rattle.tui_keys.specs.Steps.{at_rest, start, stepped}
+
+-- From what is known in `keys` bytes are these events, and `next` is known then.
+pub record AreRead (keys : Keys) (bytes : List ℕ) (es : List Event) (next : Keys) : Type 0 where
+  pub events : events_of keys bytes ≡ es
+  pub pending : keys_after keys bytes ≡ next
+
+-- ---- all bytes
+
+-- bytes decode alike in one piece and in two
+abbrev pub PiecesAreOne : Type 0
+PiecesAreOne = (keys : Keys) (a b : List ℕ) →
+    AreRead keys (a ++ b) (events_of keys a ++ events_of (keys_after keys a) b) (keys_after (keys_after keys a) b)
+
+-- not more than two events a byte
+abbrev pub EventsAreFew : Type 0
+EventsAreFew = (keys : Keys) (bs : List ℕ) → length (events_of keys bs) ≤ 2 * length bs
+
+-- NUL between any bytes is a tick, or within a paste unknown, and all else is as without it
+abbrev pub NulIsATick : Type 0
+NulIsATick = (keys : Keys) (a b : List ℕ) →
+    AreRead keys (a ++ 0 ∷ b)
+    (events_of keys a ++ (if (keys_after keys a).pasting then events.Unknown else events.Tick) ∷ events_of (keys_after keys a) b)
+    (keys_after keys (a ++ b))
+
+-- each size is from 1 to 1000 either way
+abbrev pub SizesAreBounded : Type 0
+SizesAreBounded = (keys : Keys) (bs : List ℕ) → All HasSize (events_of keys bs)
+
+-- ---- pastes
+
+abbrev pub IsPasted : Event → Type 0
+IsPasted (events.Char c) = ⊤
+IsPasted events.PasteEnd = ⊤
+IsPasted events.Unknown = ⊤
+IsPasted event = ⊥
+
+-- within a paste each event is a character, the end, or unknown
+abbrev pub PastedIsPasted : Type 0
+PastedIsPasted = (keys : Keys) (b : ℕ) → keys.pasting ≡ true → All IsPasted (made (stepped keys b))
+
+-- nothing but its end ends a paste
+abbrev pub OnlyEndEnds : Type 0
+OnlyEndEnds = (keys : Keys) (b : ℕ) → keys.pasting ≡ true → (stepped keys b).keys.pasting ≡ false → (stepped keys b).second ≡ Some events.PasteEnd
+
+-- a text with newlines and tabs that is pasted is its characters
+abbrev pub PasteIsItself : Type 0
+PasteIsItself = (cs : List ℕ) → All (λ (c : ℕ). IsPlain c ⊎ ((c ≡ 9) ⊎ (c ≡ 10))) cs →
+    AreRead start (sent_for events.PasteBegin ++ (encode_utf8_all cs ++ sent_for events.PasteEnd))
+    (events.PasteBegin ∷ (map events.Char cs ++ events.PasteEnd ∷ [])) start
+
+-- ---- what is sent is read
+
+-- a text in UTF-8 without control characters is its characters, within a paste too
+abbrev pub TextIsItself : Type 0
+TextIsItself = (pasting : Bool) (cs : List ℕ) → All IsPlain cs → AreRead (at_rest pasting) (encode_utf8_all cs) (map events.Char cs) (at_rest pasting)
+
+-- what is sent for events is read as these events, and nothing is left pending
+abbrev pub SentIsRead : Type 0
+SentIsRead = (es : List Event) → All IsTold es → AreRead start (flat_map sent_for es) es start
+
+pub record IsReadAlone (event : Event) : Type 0 where
+  pub events : events_read start (sent_for event) ≡ event ∷ []
+  pub pending : keys_read start (sent_for event) ≡ start
+
+-- what is sent for one event is read as this event if it is all of a read
+abbrev pub AloneIsRead : Type 0
+AloneIsRead = (event : Event) → IsToldAlone event → IsReadAlone event
+
+-- ---- what other terminals send for the same, and what is passed over
+
+abbrev pub Means : List ℕ → List Event → Type 0
+Means bytes es = AreRead start bytes es start
+
+pub record OthersAreRead : Type 0 where
+  pub newline : Means (10 ∷ []) (events.Enter ∷ [])
+  pub control_h : Means (8 ∷ []) (events.Backspace ∷ [])
+  pub up_ss3 : Means (escape (codes "OA")) (events.Up ∷ [])
+  pub home_ss3 : Means (escape (codes "OH")) (events.Home ∷ [])
+  pub home_1 : Means (csi (codes "1~")) (events.Home ∷ [])
+  pub end_4 : Means (csi (codes "4~")) (events.End ∷ [])
+  pub home_7 : Means (csi (codes "7~")) (events.Home ∷ [])
+  pub end_8 : Means (csi (codes "8~")) (events.End ∷ [])
+  pub function_1 : Means (csi (codes "11~")) (events.F 1 ∷ [])
+  pub console_1 : Means (csi (codes "[A")) (events.F 1 ∷ [])
+  pub console_5 : Means (csi (codes "[E")) (events.F 5 ∷ [])
+  pub meta_up : Means (csi (codes "1;9A")) (events.Up ∷ [])
+  pub control_delete : Means (csi (codes "3;5~")) (events.Delete ∷ [])
+  pub no_rows : Means (csi (codes "8;0;80t")) (events.Unknown ∷ [])
+  pub many_columns : Means (csi (codes "8;24;1001t")) (events.Unknown ∷ [])
+  pub cursor_place : Means (csi (codes "24;80R")) (events.Unknown ∷ [])
+  pub private : Means (csi (codes "?1;2c")) (events.Unknown ∷ [])
+  pub stray_end : Means (csi (codes "201~")) (events.Unknown ∷ [])
+  pub color_answer : Means (escape (codes "]11;rgb:0000/0000/0000" ++ 27 ∷ codes "\\")) []
+  pub title_answer : Means (escape (codes "]lq" ++ 7 ∷ [])) []
+  pub status_answer : Means (escape (codes "P1$r0m" ++ 27 ∷ codes "\\")) []

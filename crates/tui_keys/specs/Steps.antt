@@ -1,0 +1,299 @@
+-- What a byte makes, by ECMA-48, UTF-8 and xterm's control sequences.
+use Rattle.std.specs.Prelude.{ℕ, ◌+◌, ◌-◌, ◌*◌, ◌/◌, ◌%◌, min, Bool, true, false, not, ◌&&◌, ◌||◌, ◌==◌, nat_le, nat_lt, Option, None, Some, if◌then◌else◌}
+use Rattle.std.specs.Option.{option_map}
+use Rattle.tui_keys.specs.declared.event.Event.{Event}
+use Rattle.tui_keys.specs.declared.event.Event.TheVariants as events
+use Rattle.tui_keys.specs.declared.event.Modifiers.{Modifiers}
+use Rattle.tui_keys.specs.declared.event.Motion.{Motion}
+use Rattle.tui_keys.specs.declared.event.Motion.TheVariants as motions
+use Rattle.tui_keys.specs.declared.keys.Begun.{Begun}
+use Rattle.tui_keys.specs.declared.keys.Keys.{Keys}
+use Rattle.tui_keys.specs.declared.keys.Numbers.{Numbers}
+use Rattle.tui_keys.specs.declared.keys.Pending.{Pending}
+use Rattle.tui_keys.specs.declared.keys.Pending.TheVariants.{Nothing, Escape, Bracket, Ss3, Console, Sequence, Opened, Answer, AnswerEscape, Character}
+use Rattle.tui_keys.specs.declared.keys.Step.{Step}
+
+-- nothing is pending, within a paste or not
+abbrev pub at_rest : Bool → Keys
+at_rest pasting = record { pasting = pasting; pending = Nothing }
+
+abbrev pub start : Keys
+start = at_rest false
+
+abbrev pub begins_paste : Event → Bool
+begins_paste events.PasteBegin = true
+begins_paste event = false
+
+-- an event
+abbrev pub one : Event → Step
+one event = record { keys = at_rest (begins_paste event); first = None; second = Some event }
+
+-- no event yet
+abbrev pub waits : Pending → Step
+waits pending = record { keys = record { pasting = false; pending = pending }; first = None; second = None }
+
+-- the first byte of a character of several, behind ESC or not
+unfoldable pub lead : Bool → ℕ → Step
+lead alt b =
+    if nat_lt b 194 then one events.Unknown
+    else if nat_lt b 224 then waits (Character (record { alt = alt; left = 1; least = 128; code = b - 192 }))
+    else if nat_lt b 240 then waits (Character (record { alt = alt; left = 2; least = 2048; code = b - 224 }))
+    else if nat_lt b 245 then waits (Character (record { alt = alt; left = 3; least = 65536; code = b - 240 }))
+    else one events.Unknown
+
+-- a byte where nothing is pending: 1 to 26 are letters with Ctrl but for Backspace, Tab and Enter, 27 is ESC
+unfoldable pub begin : ℕ → Step
+begin b =
+    if b == 8 then one events.Backspace
+    else if b == 9 then one events.Tab
+    else if b == 10 then one events.Enter
+    else if b == 13 then one events.Enter
+    else if nat_lt b 27 then one (events.Ctrl (b + 96))
+    else if b == 27 then waits Escape
+    else if nat_lt b 32 then one events.Unknown
+    else if nat_lt b 127 then one (events.Char b)
+    else if b == 127 then one events.Backspace
+    else lead false b
+
+-- an event for what was pending, before what the byte makes by itself
+abbrev pub broken_by : Event → ℕ → Step
+broken_by event b = record (begin b) { first = Some event }
+
+-- the modifiers of a number that is 1 and a sum of 1 for Shift, 2 for Alt, 4 for Ctrl, and more for others
+unfoldable pub modifiers_of : ℕ → Modifiers
+modifiers_of n = record { shift = (n - 1) % 2 == 1; alt = (n - 1) / 2 % 2 == 1; ctrl = (n - 1) / 4 % 2 == 1 }
+
+abbrev pub plain : Motion → Event
+plain motions.Up = events.Up
+plain motions.Down = events.Down
+plain motions.Left = events.Left
+plain motions.Right = events.Right
+plain motions.Home = events.Home
+plain motions.End = events.End
+
+-- a motion with what is held down, if anything is
+unfoldable pub moved : ℕ → Motion → Event
+moved n motion =
+    if (modifiers_of n).shift || (modifiers_of n).alt || (modifiers_of n).ctrl then events.With (modifiers_of n) motion else plain motion
+
+-- the key of the last byte of a sequence, with the number of its modifiers
+unfoldable pub letter : ℕ → ℕ → Event
+letter n b =
+    if b == 65 then moved n motions.Up
+    else if b == 66 then moved n motions.Down
+    else if b == 67 then moved n motions.Right
+    else if b == 68 then moved n motions.Left
+    else if b == 70 then moved n motions.End
+    else if b == 72 then moved n motions.Home
+    else if b == 80 then events.F 1
+    else if b == 81 then events.F 2
+    else if b == 82 then events.F 3
+    else if b == 83 then events.F 4
+    else if b == 90 then events.BackTab
+    else events.Unknown
+
+-- the key of a first number before a tilde, with the number of its modifiers
+unfoldable pub tilde : ℕ → ℕ → Event
+tilde n key =
+    if key == 1 then moved n motions.Home
+    else if key == 2 then events.Insert
+    else if key == 3 then events.Delete
+    else if key == 4 then moved n motions.End
+    else if key == 5 then events.PageUp
+    else if key == 6 then events.PageDown
+    else if key == 7 then moved n motions.Home
+    else if key == 8 then moved n motions.End
+    else if key == 11 then events.F 1
+    else if key == 12 then events.F 2
+    else if key == 13 then events.F 3
+    else if key == 14 then events.F 4
+    else if key == 15 then events.F 5
+    else if key == 17 then events.F 6
+    else if key == 18 then events.F 7
+    else if key == 19 then events.F 8
+    else if key == 20 then events.F 9
+    else if key == 21 then events.F 10
+    else if key == 23 then events.F 11
+    else if key == 24 then events.F 12
+    else if key == 200 then events.PasteBegin
+    else events.Unknown
+
+-- a number with one more digit
+abbrev pub more : ℕ → ℕ → ℕ
+more n digit = min (n * 10 + digit) 65535
+
+abbrev pub no_numbers : Numbers
+no_numbers = record { first = 0; second = 0; third = 0; place = 0; is_plain = true }
+
+unfoldable pub with_digit : Numbers → ℕ → Numbers
+with_digit n digit =
+    if n.place == 0 then record n { first = more n.first digit }
+    else if n.place == 1 then record n { second = more n.second digit }
+    else if n.place == 2 then record n { third = more n.third digit }
+    else n
+
+unfoldable pub with_next : Numbers → Numbers
+with_next n = if nat_lt n.place 3 then record n { place = n.place + 1 } else n
+
+abbrev pub is_size : ℕ → Bool
+is_size n = nat_lt 0 n && nat_le n 1000
+
+-- CSI 8 ; rows ; columns t
+unfoldable pub size_of : Numbers → Event
+size_of n =
+    if (n.first == 8) && (n.place == 2) && is_size n.second && is_size n.third then events.Resize n.third n.second else events.Unknown
+
+-- what a whole sequence says: a key has at most two numbers, of which the second one is its modifiers, and before a letter the first one
+-- is 1 or left out
+unfoldable pub sequence_of : Numbers → ℕ → Event
+sequence_of n last =
+    if not n.is_plain then events.Unknown
+    else if last == 116 then size_of n
+    else if nat_lt 1 n.place then events.Unknown
+    else if last == 126 then tilde n.second n.first
+    else if nat_lt 1 n.first then events.Unknown
+    else letter n.second last
+
+-- in a sequence: digits and semicolons make numbers, a byte from 64 to 126 is the last one
+unfoldable pub in_sequence : Numbers → ℕ → Step
+in_sequence n b =
+    if nat_lt b 32 then broken_by events.Unknown b
+    else if nat_lt b 48 then waits (Sequence (record n { is_plain = false }))
+    else if nat_lt b 58 then waits (Sequence (with_digit n (b - 48)))
+    else if b == 59 then waits (Sequence (with_next n))
+    else if nat_lt b 64 then waits (Sequence (record n { is_plain = false }))
+    else if nat_lt b 127 then one (sequence_of n b)
+    else broken_by events.Unknown b
+
+-- OSC, DCS, SOS, PM, APC
+abbrev pub opens_answer : ℕ → Bool
+opens_answer b = (b == 93) || (b == 80) || (b == 88) || (b == 94) || (b == 95)
+
+-- behind ESC
+unfoldable pub after_escape : ℕ → Step
+after_escape b =
+    if b == 91 then waits Bracket
+    else if b == 79 then waits Ss3
+    else if opens_answer b then waits (Opened b)
+    else if nat_lt b 32 then broken_by events.Esc b
+    else if nat_lt b 127 then one (events.Alt b)
+    else if b == 127 then broken_by events.Esc b
+    else lead true b
+
+-- behind ESC [
+unfoldable pub after_bracket : ℕ → Step
+after_bracket b = if b == 91 then waits Console else in_sequence no_numbers b
+
+-- behind ESC O
+unfoldable pub after_ss3 : ℕ → Step
+after_ss3 b = if nat_lt b 32 then broken_by events.Unknown b else if nat_lt b 127 then one (letter 0 b) else broken_by events.Unknown b
+
+-- behind ESC [ [, which the Linux console sends before A to E
+unfoldable pub console_key : ℕ → Event
+console_key b = if nat_lt b 65 then events.Unknown else if nat_lt b 70 then events.F (b - 64) else events.Unknown
+
+unfoldable pub in_console : ℕ → Step
+in_console b = if nat_lt b 32 then broken_by events.Unknown b else if nat_lt b 127 then one (console_key b) else broken_by events.Unknown b
+
+-- in an answer to another program's question, which ends with BEL or ST
+unfoldable pub in_answer : ℕ → Step
+in_answer b = if b == 7 then waits Nothing else if b == 27 then waits AnswerEscape else waits Answer
+
+unfoldable pub ends_answer : ℕ → Step
+ends_answer b = if b == 92 then waits Nothing else after_escape b
+
+-- a character, behind ESC or not
+abbrev pub told : Bool → ℕ → Event
+told true c = events.Alt c
+told false c = events.Char c
+
+-- the character of a code, unless it is written longer than it need be, or is no character's
+unfoldable pub character_of : Bool → ℕ → ℕ → Event
+character_of alt least code =
+    if nat_lt code least then events.Unknown
+    else if nat_lt code 55296 then told alt code
+    else if nat_lt code 57344 then events.Unknown
+    else if nat_lt code 1114112 then told alt code
+    else events.Unknown
+
+-- in a character
+unfoldable pub in_character : Begun → ℕ → Step
+in_character p b =
+    if nat_lt b 128 then broken_by events.Unknown b
+    else if nat_lt b 192 then (
+    let code = p.code % 32768 * 64 + (b - 128) in
+    if nat_lt p.left 2 then one (character_of p.alt p.least code)
+    else waits (Character (record { alt = p.alt; left = p.left - 1; least = p.least; code = code })))
+    else broken_by events.Unknown b
+
+-- outside a paste
+abbrev pub typed : Pending → ℕ → Step
+typed Nothing b = begin b
+typed Escape b = after_escape b
+typed Bracket b = after_bracket b
+typed Ss3 b = after_ss3 b
+typed Console b = in_console b
+typed (Sequence n) b = in_sequence n b
+typed (Opened opener) b = in_answer b
+typed Answer b = in_answer b
+typed AnswerEscape b = ends_answer b
+typed (Character p) b = in_character p b
+
+-- Within a paste ESC begins a sequence, or is with one more byte unknown; a sequence may be the end.
+unfoldable pub after_pasted_escape : ℕ → Step
+after_pasted_escape b =
+    if b == 91 then waits Bracket
+    else if nat_lt b 32 then broken_by events.Unknown b
+    else if nat_lt b 127 then one events.Unknown
+    else broken_by events.Unknown b
+
+abbrev pub ends_paste : Numbers → ℕ → Bool
+ends_paste n b = n.is_plain && (n.place == 0) && (n.first == 201) && (b == 126)
+
+unfoldable pub pasted_sequence : Numbers → ℕ → Step
+pasted_sequence n b = if ends_paste n b then one events.PasteEnd else in_sequence n b
+
+abbrev pub in_paste : Pending → ℕ → Step
+in_paste Escape b = after_pasted_escape b
+in_paste (Sequence n) b = pasted_sequence n b
+in_paste pending b = typed pending b
+
+-- what an event is within a paste: a character, the end, or unknown
+abbrev pub pasted_event : Event → Event
+pasted_event (events.Char c) = events.Char c
+pasted_event events.Enter = events.Char 10
+pasted_event events.Tab = events.Char 9
+pasted_event events.PasteEnd = events.PasteEnd
+pasted_event event = events.Unknown
+
+abbrev pub is_end : Option Event → Bool
+is_end (Some events.PasteEnd) = true
+is_end event = false
+
+abbrev pub pasted : Step → Step
+pasted s = record {
+  keys = record { pasting = not (is_end s.second); pending = s.keys.pending };
+  first = option_map pasted_event s.first;
+  second = option_map pasted_event s.second;
+}
+
+-- no event, and what is known stays
+abbrev pub stays : Keys → Step
+stays keys = record { keys = keys; first = None; second = None }
+
+-- NUL breaks nothing that has begun
+abbrev pub nul : Keys → Step
+nul keys = record { keys = keys; first = None; second = Some (if keys.pasting then events.Unknown else events.Tick) }
+
+-- what a byte makes of what is known
+unfoldable pub stepped : Keys → ℕ → Step
+stepped keys b = if b == 0 then nul keys else if keys.pasting then pasted (in_paste keys.pending b) else typed keys.pending b
+
+-- the end of a read: an ESC that nothing follows is the key, and so is Alt with what could begin an answer
+abbrev pub paused_typed : Pending → Step
+paused_typed Escape = one events.Esc
+paused_typed (Opened opener) = one (events.Alt opener)
+paused_typed pending = waits pending
+
+abbrev pub paused : Keys → Step
+paused keys = if keys.pasting then stays keys else paused_typed keys.pending
