@@ -18,8 +18,7 @@ use tui_program::{Job, Leftovers, Reader, Stop, are_none, put_refused_field};
 pub struct PagerCommand;
 
 impl Reader for PagerCommand {
-    ghost use Rattle.tui_pager_run.proofs.Commands.{few_words};
-    ghost use Rattle.tui_pager_run.specs.Rules.{Names};
+    ghost use Rattle.tui_pager_run.specs.Rules.{Names, few_words};
 
     ghost named = { Names };
 

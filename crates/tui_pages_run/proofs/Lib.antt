@@ -1,5 +1,4 @@
 pub mod Bounds
-pub mod Commands
 pub mod PageRows
 pub mod Pages
 pub mod TooTall

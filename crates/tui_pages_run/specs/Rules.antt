@@ -1,10 +1,11 @@
 -- The rules of the program: its words, and what it reads and writes.
-use Rattle.std.specs.Prelude.{◌≡◌, ℕ, List, [], ◌∷◌, codes, String}
+use Rattle.std.specs.Prelude.{◌≡◌, ◌≤◌, ℕ, List, [], ◌∷◌, length, codes, String}
 use Rattle.std.specs.declared.alloc.Global.{Global}
 use Rattle.tui_pages_lib.specs.Report.{ReportData}
 use Rattle.tui_program.specs.Endings.{nothing}
 use Rattle.tui_program.specs.Rules.{JobRules, Rules, reading_rules}
-use Rattle.tui_program.specs.Words.{AreTexts}
+use Rattle.tui_program.specs.Words.{AreTexts, most_words}
+use Rattle.tui_program.proofs.Word.{few_none, few_one}
 use Rattle.tui_pages_run.specs.Input.{report_in}
 use Rattle.tui_pages_run.specs.Printed.{AreAllPages, AreFewerPages, count_line}
 use Rattle.tui_pages_run.specs.Refusals.{refusal_line}
@@ -16,6 +17,11 @@ use Rattle.tui_pages_run.specs.declared.refusal.PagesRefusal.{PagesRefusal}
 abbrev pub Names : PagesCommand → List (String Global) → Type 0
 Names command.Print words = AreTexts [] words
 Names command.Count words = AreTexts (codes "count" ∷ []) words
+
+-- it is one at most
+pub few_words : (c : PagesCommand) (words : List (String Global)) → Names c words → length words ≤ most_words
+few_words command.Print words are = few_none words are
+few_words command.Count words are = few_one (codes "count") words are
 
 -- what a command writes
 abbrev pub IsWritten : PagesCommand → ReportData → List ℕ → Type 0

@@ -23,8 +23,7 @@ pub enum PagesCommand {
 }
 
 impl Reader for PagesCommand {
-    ghost use Rattle.tui_pages_run.proofs.Commands.{few_words};
-    ghost use Rattle.tui_pages_run.specs.Rules.{Names};
+    ghost use Rattle.tui_pages_run.specs.Rules.{Names, few_words};
 
     ghost named = { Names };
 

@@ -1,10 +1,11 @@
 -- The rules of the program: its words, and what it reads and writes.
-use Rattle.std.specs.Prelude.{ℕ, List, [], ◌∷◌, codes, String}
+use Rattle.std.specs.Prelude.{ℕ, ◌≤◌, List, [], ◌∷◌, length, codes, String}
 use Rattle.std.specs.declared.alloc.Global.{Global}
 use Rattle.tui_cells.specs.Rect.{farthest_edge}
 use Rattle.tui_program.specs.Endings.{nothing}
 use Rattle.tui_program.specs.Rules.{JobRules, Rules, reading_rules}
-use Rattle.tui_program.specs.Words.{AreTexts, HaveNumbers}
+use Rattle.tui_program.specs.Words.{AreTexts, HaveNumbers, most_words}
+use Rattle.tui_program.proofs.Word.{few_none, few_one, few_three}
 use Rattle.tui_program.specs.declared.numerals.Numerals.{Numerals}
 use Rattle.tui_panes_run.specs.Found.{IsFound}
 use Rattle.tui_panes_run.specs.Input.{InputData, input_of}
@@ -24,6 +25,12 @@ abbrev pub Names : PanesCommand → List (String Global) → Type 0
 Names (command.Draw order.FirstToLast) words = AreTexts [] words
 Names (command.Draw order.LastToFirst) words = AreTexts (codes "reverse" ∷ []) words
 Names (command.At x y) words = HaveNumbers (codes "at") places x y words
+
+-- they are three at most
+pub few_words : (c : PanesCommand) (words : List (String Global)) → Names c words → length words ≤ most_words
+few_words (command.Draw order.FirstToLast) words are = few_none words are
+few_words (command.Draw order.LastToFirst) words are = few_one (codes "reverse") words are
+few_words (command.At x y) words are = few_three (codes "at") places x y words are
 
 -- what a command writes
 abbrev pub IsWritten : PanesCommand → InputData → List ℕ → Type 0

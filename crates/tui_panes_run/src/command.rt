@@ -31,8 +31,7 @@ pub enum PanesCommand {
 }
 
 impl Reader for PanesCommand {
-    ghost use Rattle.tui_panes_run.proofs.Commands.{few_words};
-    ghost use Rattle.tui_panes_run.specs.Rules.{Names};
+    ghost use Rattle.tui_panes_run.specs.Rules.{Names, few_words};
 
     ghost named = { Names };
 

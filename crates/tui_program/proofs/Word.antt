@@ -1,12 +1,12 @@
 -- Lists of one word, of two and of three.
-use Rattle.std.proofs.Common.{◌≡◌, ◌<◌, ℕ, List, [], ◌∷◌, length, get_or, map, Bool, true, Option, Some, None, IfSome}
+use Rattle.std.proofs.Common.{◌≡◌, ◌<◌, ◌≤◌, ℕ, List, [], ◌∷◌, length, get_or, map, Bool, true, Option, Some, None, IfSome}
 use Rattle.std.proofs.Common.{String, Global, string_bytes, bytes_eq, refl, sym, ap, ap₂, subst, ◌∙◌, arith}
 use Rattle.std.specs.Prelude.{IsNone}
 use Rattle.std.proofs.lemmas.List.{length-map}
 use Rattle.std.proofs.lemmas.Slice.Eq.{bytes_eq-Decides}
 use Rattle.std.specs.Option.{option_zip}
 use Rattle.std.specs.Str.Parse.{digits_value}
-use Rattle.tui_program.specs.Words.{AreTexts, Begin, HaveNumber, HaveNumbers, IsOnly, Write}
+use Rattle.tui_program.specs.Words.{AreTexts, Begin, HaveNumber, HaveNumbers, IsOnly, Write, most_words}
 use Rattle.tui_program.specs.declared.numerals.Numerals.{Numerals}
 
 first_of : (x y : List ℕ) (xs ys : List (List ℕ)) → x ∷ xs ≡ y ∷ ys → x ≡ y
@@ -27,7 +27,7 @@ begin (v ∷ vs) w word count b len some e is =
     )
 
 -- texts of words are as many as these
-pub count_of : (texts : List (List ℕ)) (ws : List (String Global)) → AreTexts texts ws → length ws ≡ length texts
+count_of : (texts : List (List ℕ)) (ws : List (String Global)) → AreTexts texts ws → length ws ≡ length texts
 count_of texts ws are = sym (length-map ws string_bytes) ∙ ap length are
 
 pub one_alone : (ws : List (String Global)) (word : List ℕ) → (Begin word 1 ws → AreTexts (word ∷ []) ws) × (AreTexts (word ∷ []) ws → Begin word 1 ws)
@@ -60,6 +60,19 @@ begin_two ws word allowed n have = (have.0 ∷ [], have.1, count_of (word ∷ ha
 
 pub begin_three : (ws : List (String Global)) (word : List ℕ) (allowed : Numerals) (n m : ℕ) → HaveNumbers word allowed n m ws → Begin word 3 ws
 begin_three ws word allowed n m have = (have.0 ∷ have.1 ∷ [], have.2, count_of (word ∷ have.0 ∷ have.1 ∷ []) ws have.2)
+
+-- words of commands are few
+pub few_none : (ws : List (String Global)) → AreTexts [] ws → length ws ≤ most_words
+few_none ws are = omega (arith, count_of [] ws are)
+
+pub few_one : (word : List ℕ) (ws : List (String Global)) → AreTexts (word ∷ []) ws → length ws ≤ most_words
+few_one word ws are = omega (arith, count_of (word ∷ []) ws are)
+
+pub few_two : (word : List ℕ) (allowed : Numerals) (n : ℕ) (ws : List (String Global)) → HaveNumber word allowed n ws → length ws ≤ most_words
+few_two word allowed n ws have = omega (arith, (begin_two ws word allowed n have).2)
+
+pub few_three : (word : List ℕ) (allowed : Numerals) (n m : ℕ) (ws : List (String Global)) → HaveNumbers word allowed n m ws → length ws ≤ most_words
+few_three word allowed n m ws have = omega (arith, (begin_three ws word allowed n m have).2)
 
 -- digits write one number
 one_number : (allowed : Numerals) (digits same : List ℕ) (n m : ℕ) → digits ≡ same → Write allowed digits n → Write allowed same m → n ≡ m

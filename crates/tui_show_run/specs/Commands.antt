@@ -1,7 +1,8 @@
 -- The words of the commands.
-use Rattle.std.specs.Prelude.{ℕ, List, [], ◌∷◌, codes, String}
+use Rattle.std.specs.Prelude.{ℕ, ◌≤◌, List, [], ◌∷◌, length, codes, String}
 use Rattle.std.specs.declared.alloc.Global.{Global}
-use Rattle.tui_program.specs.Words.{AreTexts, HaveNumber}
+use Rattle.tui_program.specs.Words.{AreTexts, HaveNumber, most_words}
+use Rattle.tui_program.proofs.Word.{few_one, few_two}
 use Rattle.tui_program.specs.declared.numerals.Numerals.{Numerals}
 use Rattle.tui_show_run.specs.declared.command.ShowCommand.{ShowCommand}
 use Rattle.tui_show_run.specs.declared.command.ShowCommand.TheVariants as command
@@ -26,3 +27,8 @@ AreWrong words = (AreScene words → ⊥) × ((n : ℕ) → AreDemo n words → 
 abbrev pub Names : ShowCommand → List (String Global) → Type 0
 Names command.Scene words = AreScene words
 Names (command.Demo n) words = AreDemo n words
+
+-- they are two at most
+pub few_words : (c : ShowCommand) (words : List (String Global)) → Names c words → length words ≤ most_words
+few_words command.Scene words are = few_one (codes "scene") words are
+few_words (command.Demo n) words are = few_two (codes "demo") counts n words are

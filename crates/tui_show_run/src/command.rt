@@ -26,7 +26,7 @@ pub enum ShowCommand {
 }
 
 impl Command for ShowCommand {
-    ghost use Rattle.tui_show_run.proofs.Commands.{few_words};
+    ghost use Rattle.tui_show_run.specs.Commands.{few_words};
     ghost use Rattle.tui_show_run.specs.Endings.{show_rules};
 
     type Refusal = BadField;
