@@ -3,10 +3,8 @@
 ghost use Rattle.std.proofs.Common.{rules};
 
 use crate::command::PanesCommand;
-use crate::ended::PanesEnded;
 use crate::field::PaneField;
 use crate::order::Order;
-use crate::refusal::PanesRefusal;
 use tui_program::Plain;
 
 impl Plain for Order {
@@ -22,18 +20,6 @@ impl Plain for PanesCommand {
 }
 
 impl Plain for PaneField {
-    ghost same = { Prim.search rules };
-
-    ghost cloned = { Prim.search rules };
-}
-
-impl Plain for PanesRefusal {
-    ghost same = { Prim.search rules };
-
-    ghost cloned = { Prim.search rules };
-}
-
-impl Plain for PanesEnded {
     ghost same = { Prim.search rules };
 
     ghost cloned = { Prim.search rules };
