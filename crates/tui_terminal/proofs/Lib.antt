@@ -1,6 +1,7 @@
 mod Looks
 pub mod Nearest
 mod RowWalks
+mod Styling
 mod SymbolLemmas
 mod Texts
 mod Walking
