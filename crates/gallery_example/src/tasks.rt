@@ -2,7 +2,7 @@
 #![tactic(auto)]
 
 use std::alloc::Global;
-use tui::buffer::{Attributes, Buffer, Mem, visible_cells};
+use tui::buffer::{Buffer, Mem, visible_cells};
 use tui::layout::{Alignment, Constraint, Direction, Flex, Fraction, Rect, Segment, split};
 use tui::pager::{Entry, Key, Pager, PagerError};
 use tui::panes::{Pane, Panes, Part};
@@ -10,6 +10,9 @@ use tui::report::{Column, Record, Report};
 use tui::scene::Item;
 use tui::style::{Color, Modifier, Style};
 use tui::symbols::MergeStrategy;
+use tui::terminal::{
+    Cursor, Depth, Output, Sink, Trust, WriteFault, write_changes, write_full, write_styled_rows,
+};
 use tui::text::{Line, Text};
 use tui::widgets::{
     Block, CalendarEventStore, Cell, Clear, Date, Fill, LineGauge, List, ListItem, ListState,
@@ -227,67 +230,22 @@ fn draw_with_bar(
     bar.render(alloc, area, buffer, &mut seen)
 }
 
-fn colour_code(base: u8, color: Color) -> u8 {
-    let code = match color {
-        Color::Black => 0,
-        Color::Red => 1,
-        Color::Green => 2,
-        Color::Yellow => 3,
-        Color::Blue => 4,
-        Color::Magenta => 5,
-        Color::Cyan => 6,
-        Color::Gray => 7,
-        Color::Rgb(_, _, _) | Color::Indexed(_) => 8,
-        Color::Reset => 9,
-        Color::DarkGray => 60,
-        Color::LightRed => 61,
-        Color::LightGreen => 62,
-        Color::LightYellow => 63,
-        Color::LightBlue => 64,
-        Color::LightMagenta => 65,
-        Color::LightCyan => 66,
-        Color::White => 67,
+fn put_colours<K: Sink>(buffer: &Buffer, sink: &mut K) -> Result<(), WriteFault> {
+    write_styled_rows(buffer, Depth::True, sink)
+}
+
+fn put_frame<K: Sink>(shown: &Buffer, next: &Buffer, sink: &mut K) -> Result<(), WriteFault> {
+    let output = Output {
+        depth: Depth::Palette,
+        trust: Trust::Common,
+        cursor: Cursor::Hidden,
+        hold: true,
     };
-    base.saturating_add(code)
-}
-
-fn push_colour(alloc: Global, out: &mut String, base: u8, color: Color) -> anyhow::Result<()> {
-    let code = colour_code(base, color);
-    let codes = match color {
-        Color::Rgb(red, green, blue) => format!(in alloc; ";{code};2;{red};{green};{blue}")?,
-        Color::Indexed(place) => format!(in alloc; ";{code};5;{place}")?,
-        _ => format!(in alloc; ";{code}")?,
-    };
-    Ok(out.push_str(codes.as_str())?)
-}
-
-fn push_style(alloc: Global, out: &mut String, look: Attributes) -> anyhow::Result<()> {
-    out.push_str("\x1b[0")?;
-    for bit in 0..9u8 {
-        if look.modifier.bits() >> bit & 1 == 1 {
-            let code = format!(in alloc; ";{}", bit + 1)?;
-            out.push_str(code.as_str())?;
-        }
+    if shown.area() == next.area() {
+        write_changes(shown, next, output, sink)
+    } else {
+        write_full(next, output, sink)
     }
-    push_colour(alloc, out, 30, look.fg)?;
-    push_colour(alloc, out, 40, look.bg)?;
-    Ok(out.push('m')?)
-}
-
-fn in_colours(alloc: Global, buffer: &Buffer) -> anyhow::Result<String> {
-    let mut out = String::new(alloc);
-    for row in 0..buffer.height() {
-        let mut last = None;
-        for (_, cell) in visible_cells(buffer.row_at(row)) {
-            if last != Some(cell.attributes()) {
-                push_style(alloc, &mut out, cell.attributes())?;
-                last = Some(cell.attributes());
-            }
-            out.push_str(cell.symbol())?;
-        }
-        out.push_str("\x1b[0m\r\n")?;
-    }
-    Ok(out)
 }
 
 fn rows_of(screen: Rect, part: Option<&Segment>) -> Rect {

@@ -25,8 +25,8 @@ fn small_pagers_are_refused(rt: HostRuntime) -> Result<(), Fail> {
     assert!(rt; refusal_of(alloc, 11, 5) == Some(PagerError::TooSmall));
     assert!(rt; refusal_of(alloc, 12, 4) == Some(PagerError::TooSmall));
     assert!(rt; refusal_of(alloc, 12, 5).is_none());
-    let text = format!(in alloc; "{}", PagerError::TooSmall)?;
-    assert!(rt; text.as_str() == "TooSmall");
+    let texts = format!(in alloc; "{} {}", PagerError::TooSmall, PagerError::NoMemory)?;
+    assert!(rt; texts.as_str() == "TooSmall NoMemory");
     pager_laws();
     Ok(())
 }

@@ -1,5 +1,6 @@
 pub mod Order
 pub mod Same
+pub mod Texts
 pub use Rattle.tui_bars.specs as bars
 pub use Rattle.tui_calendar.specs as calendar
 pub use Rattle.tui_cells.specs as cells

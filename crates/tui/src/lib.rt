@@ -10,5 +10,6 @@ pub mod report;
 pub mod scene;
 pub mod style;
 pub mod symbols;
+pub mod terminal;
 pub mod text;
 pub mod widgets;

@@ -1,4 +1,5 @@
 pub mod Bounds
+pub mod Commands
 pub mod KeyLines
 pub mod Output
 pub mod Stepping

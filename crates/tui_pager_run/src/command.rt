@@ -18,9 +18,12 @@ use tui_program::{Job, Leftovers, Reader, Stop, are_none, put_refused_field};
 pub struct PagerCommand;
 
 impl Reader for PagerCommand {
+    ghost use Rattle.tui_pager_run.proofs.Commands.{few_words};
     ghost use Rattle.tui_pager_run.specs.Rules.{Names};
 
     ghost named = { Names };
+
+    ghost few = { few_words };
 
     fn reader_of(words: &[String]) -> Option<PagerCommand> {
         if are_none(words) {

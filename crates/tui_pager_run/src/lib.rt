@@ -7,6 +7,7 @@ mod ended;
 mod field;
 mod input;
 mod laws;
+mod plain;
 mod printing;
 mod program;
 mod run;

@@ -1,4 +1,5 @@
 pub mod Bounds
+pub mod Commands
 pub mod PageRows
 pub mod Pages
 pub mod TooTall

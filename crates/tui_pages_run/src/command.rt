@@ -23,9 +23,12 @@ pub enum PagesCommand {
 }
 
 impl Reader for PagesCommand {
+    ghost use Rattle.tui_pages_run.proofs.Commands.{few_words};
     ghost use Rattle.tui_pages_run.specs.Rules.{Names};
 
     ghost named = { Names };
+
+    ghost few = { few_words };
 
     fn reader_of(words: &[String]) -> Option<PagesCommand> {
         if are_none(words) {

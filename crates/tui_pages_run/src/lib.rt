@@ -6,6 +6,7 @@ mod ended;
 mod field;
 mod input;
 mod paged_report;
+mod plain;
 mod printing;
 mod program;
 mod refusal;

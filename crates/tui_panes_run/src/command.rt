@@ -31,9 +31,12 @@ pub enum PanesCommand {
 }
 
 impl Reader for PanesCommand {
+    ghost use Rattle.tui_panes_run.proofs.Commands.{few_words};
     ghost use Rattle.tui_panes_run.specs.Rules.{Names};
 
     ghost named = { Names };
+
+    ghost few = { few_words };
 
     fn reader_of(words: &[String]) -> Option<PanesCommand> {
         if are_none(words) {

@@ -12,6 +12,7 @@ mod finding;
 mod input;
 mod item;
 mod order;
+mod plain;
 mod program;
 mod refusal;
 mod screen;

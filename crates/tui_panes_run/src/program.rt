@@ -33,8 +33,9 @@ pub fn run_panes<S: Source, K: Sink>(
     run::<PanesCommand, S, K>(alloc, words, source, sink, Leftovers::Dropped).into()
 }
 
-/// Runs as `run_panes` does, with the words that the system gives; where there is no memory for them, nothing is read and nothing
-/// written. It is the last that a process does: the memory of what it read and drew is left to the system.
+/// Runs as `run_panes` does, with the words that the system gives; where it refuses a word, with one empty word, so that it ends with
+/// `Usage`; where it says that memory was wanting for them, nothing is read and nothing written. It is the last that a process does:
+/// the memory of what it read and drew is left to the system.
 pub fn run_program<S: Source, K: Sink>(
     alloc: Global,
     args: io::Result<Args>,

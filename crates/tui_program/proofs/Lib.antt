@@ -1,3 +1,4 @@
 pub mod Completeness
 pub mod Endings
+pub mod FirstWords
 pub mod Word

@@ -27,7 +27,7 @@ begin (v ∷ vs) w word count b len some e is =
     )
 
 -- texts of words are as many as these
-count_of : (texts : List (List ℕ)) (ws : List (String Global)) → AreTexts texts ws → length ws ≡ length texts
+pub count_of : (texts : List (List ℕ)) (ws : List (String Global)) → AreTexts texts ws → length ws ≡ length texts
 count_of texts ws are = sym (length-map ws string_bytes) ∙ ap length are
 
 pub one_alone : (ws : List (String Global)) (word : List ℕ) → (Begin word 1 ws → AreTexts (word ∷ []) ws) × (AreTexts (word ∷ []) ws → Begin word 1 ws)

@@ -1,8 +1,10 @@
 -- The run of a program.
-use Rattle.std.specs.Prelude.{◌≡◌, ◌⊎◌, List, Result, String}
+use Rattle.std.specs.Prelude.{◌≡◌, ◌⊎◌, List, Result, Ok, Err, String}
 use Rattle.std.specs.declared.alloc.Global.{Global}
 use Rattle.std.specs.declared.io.Error.{Error}
+use Rattle.std.specs.declared.io.ErrorKind.TheVariants.{OutOfMemory}
 use Rattle.std.specs.declared.vec.IntoIter.{IntoIter}
+use Rattle.std.specs.IoError.{error_kind}
 use Rattle.tui_program.specs.Transcript.{Transcript, Unput, Unread}
 use Rattle.tui_program.specs.Complete.{IsComplete, IsUsage}
 use Rattle.tui_program.specs.Endings.{Ends}
@@ -18,7 +20,12 @@ pub record IsRun {C R : Type 0} (rules : Rules C R) (words : List (String Global
   pub complete : IsComplete rules words t e
   pub usage : IsUsage rules words e
 
--- by the words that the system gives; or there was no memory for them, and nothing is read or written
+-- the system says that memory was wanting for a word
+abbrev pub LackMemory : Result (IntoIter (String Global) Global) Error → Type 0
+LackMemory (Ok all) = ⊥
+LackMemory (Err e) = error_kind e ≡ OutOfMemory
+
+-- by the words that the system gives; or it had no memory for one, and nothing is read or written
 pub record IsRunFrom {C R : Type 0} (rules : Rules C R) (args : Result (IntoIter (String Global) Global) Error) (t : Transcript) (e : Ending R) : Type 0 where
   pub run : ((words : List (String Global)) × AreWords args words × IsRun rules words t e)
-      ⊎ ((e ≡ ending.Broken broken.NoMemory) × Unread t × Unput t.sink t.sink_then)
+      ⊎ (LackMemory args × (e ≡ ending.Broken broken.NoMemory) × Unread t × Unput t.sink t.sink_then)

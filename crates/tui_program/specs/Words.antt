@@ -14,6 +14,10 @@ abbrev pub AreWords : Result (IntoIter (String Global) Global) Error → List (S
 AreWords (Ok all) words = words ≡ drop 1 (into_iter_items all)
 AreWords (Err e) words = (error_kind e ≢ OutOfMemory) × (map string_bytes words ≡ [] ∷ [])
 
+-- no command of any program has more words
+abbrev pub most_words : ℕ
+most_words = 3
+
 -- the one value of which something holds, or none where it holds of none
 abbrev pub IsOnly : {A : Type 0} → (A → Type 0) → Option A → Type 0
 IsOnly {A} P (Some x) = P x × ((other : A) → P other → other ≡ x)

@@ -1,11 +1,11 @@
 //! What the words of a program name.
 
-ghost use Rattle.std.specs.Prelude.{List, String};
+ghost use Rattle.std.specs.Prelude.{◌≤◌, List, String, length};
 ghost use Rattle.std.specs.declared.alloc.Global.{Global};
 ghost use Rattle.tui_program.specs.Transcript.{transcript_of};
 ghost use Rattle.tui_program.specs.Endings.{EndsBy};
 ghost use Rattle.tui_program.specs.Rules.{Rules};
-ghost use Rattle.tui_program.specs.Words.{IsOnly};
+ghost use Rattle.tui_program.specs.Words.{IsOnly, most_words};
 
 use crate::ending::Ending;
 use crate::leftovers::Leftovers;
@@ -19,6 +19,9 @@ pub trait Command: Sized {
 
     // The words that name each command, and what it has to do.
     ghost rules: { Rules Self Self.Refusal };
+
+    // No command has more words than these, so that some first words tell which command they name.
+    ghost few: { (command : Self) (words : List (String Global)) → rules.named command words → length words ≤ most_words };
 
     /// The one command that the words name, if they name any.
     fn of_words(words: &[String]) -> Option<Self>

@@ -1,39 +1,31 @@
 //! The words of a run.
 
-ghost use Rattle.std.specs.Prelude.{◌≡◌, ◌↔◌, ◌<◌, IfOk, IsTrue, [], ◌∷◌, drop, map, string_bytes};
+ghost use Rattle.std.specs.Prelude.{◌≡◌, ◌↔◌, ◌<◌, IsTrue, [], ◌∷◌, drop, take};
 ghost use Rattle.std.specs.Vec.Iter.{into_iter_items};
-ghost use Rattle.tui_program.specs.Words.{AreTexts, AreWords, Begin};
+ghost use Rattle.tui_program.specs.Words.{AreTexts, Begin};
 
+use arrayvec::ArrayVec;
 use std::alloc::Global;
 use std::env::Args;
-use std::io;
-use std::io::ErrorKind;
-use tui_cells::{Mem, NoMemory};
 
-/// The words of a run, from what the system gives: all but the first, which is the program's name. Where the system refuses
-/// a word for another cause than memory, one empty word stands for them, so that no command has them.
-pub fn words_of(alloc: Global, args: io::Result<Args>) -> Mem<Vec<String>>
-    ensures { IfOk result (λ words. AreWords args words.items) }
+/// One word more than any command has.
+const FIRST_WORDS: usize = 4;
+
+/// The first words behind the program's name, of which there may be one more than any command has: these tell which command all of them
+/// name, or that they name none. Takes no memory.
+pub(crate) fn first_words(alloc: Global, all: Args) -> ArrayVec<String, 4, Global>
+    ensures { result.items ≡ take 4 (drop 1 (into_iter_items all)) }
 {
-    match args {
-        Ok(all) => words_after_name(alloc, all),
-        Err(error) if error.kind() == ErrorKind::OutOfMemory => Err(NoMemory),
-        Err(_) => one_empty_word(alloc),
+    let mut rest = all;
+    drop(rest.next());
+    let mut words = ArrayVec::new_in(alloc);
+    for place in 0..FIRST_WORDS {
+        match rest.next() {
+            Some(word) => words.push(word),
+            None => break,
+        }
     }
-}
-
-fn words_after_name(alloc: Global, all: Args) -> Mem<Vec<String>>
-    ensures { IfOk result (λ words. words.items ≡ drop 1 (into_iter_items all)) }
-{
-    Ok(all.skip(1).collect(alloc)?)
-}
-
-fn one_empty_word(alloc: Global) -> Mem<Vec<String>>
-    ensures { IfOk result (λ words. map string_bytes words.items ≡ [] ∷ []) }
-{
-    let mut words = Vec::new(alloc);
-    words.push(String::new(alloc))?;
-    Ok(words)
+    words
 }
 
 /// Whether there are no words.

@@ -1,8 +1,9 @@
 pub mod ByEnding
 pub mod Commands
-pub mod Drawn
-pub mod Showing
-pub mod Joined
-pub mod ItemLists
-pub mod Fewer
 pub mod Counted
+pub mod Drawn
+pub mod Fewer
+pub mod ItemLists
+pub mod Joined
+pub mod Showing
+pub mod Spaced

@@ -26,11 +26,14 @@ pub enum ShowCommand {
 }
 
 impl Command for ShowCommand {
+    ghost use Rattle.tui_show_run.proofs.Commands.{few_words};
     ghost use Rattle.tui_show_run.specs.Endings.{show_rules};
 
     type Refusal = BadField;
 
     ghost rules = { show_rules };
+
+    ghost few = { few_words };
 
     fn of_words(words: &[String]) -> Option<ShowCommand> {
         if is_word(words, "scene") {

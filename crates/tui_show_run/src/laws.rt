@@ -2,16 +2,18 @@
 
 ghost use Rattle.tui_scene.specs.Laws.{DrawingIsUnique};
 ghost use Rattle.tui_show_run.specs.ByEnding.{SaysTheSame};
-ghost use Rattle.tui_show_run.specs.Laws.{DemoIsUnique, OutputIsUnique};
+ghost use Rattle.tui_show_run.specs.Laws.{DemoIsFewest, DemoIsUnique, OutputIsUnique};
 
 use tui_para::text_wraps_exactly_once;
 use tui_print::print_laws;
 
-/// The widgets of a scene leave one screen and one list of states, a scene has one output, and so has a demonstration.
+/// The widgets of a scene leave one screen and one list of states, a scene has one output, and so has a demonstration, whose words have
+/// the fewest lines.
 pub fn scene_laws()
     ensures drawing { DrawingIsUnique }
     ensures output { OutputIsUnique }
     ensures demo { DemoIsUnique }
+    ensures fewest { DemoIsFewest }
 {
     text_wraps_exactly_once();
     print_laws();

@@ -5,6 +5,7 @@ mod command;
 mod demo;
 mod ended;
 mod laws;
+mod plain;
 mod program;
 
 pub use command::ShowCommand;

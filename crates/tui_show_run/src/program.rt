@@ -37,9 +37,10 @@ pub fn show<S: Source, K: Sink>(
     run::<ShowCommand, S, K>(alloc, words, source, sink, Leftovers::Dropped).into()
 }
 
-/// Runs the command that the words name, as `show` does. The words are those that the system gives; where there is no memory
-/// for them, nothing is read and nothing written. It is the last that a process does: the memory of what it read and drew is left to
-/// the system. A caller that goes on has `show`, which gives it back.
+/// Runs the command that the words name, as `show` does. The words are those that the system gives; where it refuses a word, it is one
+/// empty word, so that the run ends with `Usage`; where it says that memory was wanting for them, nothing is read and nothing written. It
+/// is the last that a process does: the memory of what it read and drew is left to the system. A caller that goes on has `show`, which
+/// gives it back.
 pub fn run_program<S: Source, K: Sink>(
     alloc: Global,
     args: io::Result<Args>,

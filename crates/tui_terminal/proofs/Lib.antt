@@ -4,6 +4,7 @@ pub mod Nearest
 mod PlainRows
 mod RowWalks
 mod SameRows
+mod Styling
 mod SymbolLemmas
 mod Texts
 mod Walking

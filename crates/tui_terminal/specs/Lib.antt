@@ -4,3 +4,4 @@ pub mod Risks
 pub mod Seeing
 pub mod Sent
 pub mod Shades
+pub mod StyledCells

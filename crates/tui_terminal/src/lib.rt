@@ -11,10 +11,12 @@ mod sending;
 mod session;
 mod shade;
 mod spelling;
+mod styled;
 mod symbols;
 mod write;
 
 pub use depth::depth_of;
 pub use session::{enter, leave};
+pub use styled::write_styled_rows;
 pub use tui_tty::{Cursor, Depth, Output, Trust};
 pub use write::{write_changes, write_full};

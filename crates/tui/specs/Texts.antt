@@ -1,0 +1,7 @@
+-- Texts that `==` calls equal.
+use Rattle.std.specs.Cmp.Lexicographic.{pointwise}
+use Rattle.std.specs.Prelude.{ℕ, List, Bool, nat_eq}
+
+-- texts are equal where their bytes are
+abbrev pub same_text : List ℕ → List ℕ → Bool
+same_text = pointwise nat_eq

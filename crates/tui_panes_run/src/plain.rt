@@ -1,0 +1,40 @@
+//! Plain values of the program, which `==` tells apart and a clone leaves as they are.
+
+ghost use Rattle.std.proofs.Common.{rules};
+
+use crate::command::PanesCommand;
+use crate::ended::PanesEnded;
+use crate::field::PaneField;
+use crate::order::Order;
+use crate::refusal::PanesRefusal;
+use tui_program::Plain;
+
+impl Plain for Order {
+    ghost same = { Prim.search rules };
+
+    ghost cloned = { Prim.search rules };
+}
+
+impl Plain for PanesCommand {
+    ghost same = { Prim.search rules };
+
+    ghost cloned = { Prim.search rules };
+}
+
+impl Plain for PaneField {
+    ghost same = { Prim.search rules };
+
+    ghost cloned = { Prim.search rules };
+}
+
+impl Plain for PanesRefusal {
+    ghost same = { Prim.search rules };
+
+    ghost cloned = { Prim.search rules };
+}
+
+impl Plain for PanesEnded {
+    ghost same = { Prim.search rules };
+
+    ghost cloned = { Prim.search rules };
+}

@@ -1,0 +1,35 @@
+-- The first words of a run, and the run by all of them.
+use Rattle.std.proofs.Common.{◌≡◌, ℕ, ◌+◌, ◌-◌, ◌<◌, ◌≤◌, suc, List, [], ◌∷◌, ◌++◌, length, take, String, Global, sym, ap, subst, ◌∙◌, arith, inl, inr}
+use Rattle.std.proofs.lemmas.List.{append_assoc, length-take-le, take_all}
+use Rattle.std.proofs.lemmas.Bool.{cases_lt}
+use Rattle.tui_program.specs.Transcript.{Transcript}
+use Rattle.tui_program.specs.Endings.{NameNone}
+use Rattle.tui_program.specs.Rules.{Rules}
+use Rattle.tui_program.specs.Runs.{IsRun}
+use Rattle.tui_program.specs.Words.{most_words}
+use Rattle.tui_program.specs.declared.ending.Ending.{Ending}
+
+-- the item that comes next is taken behind those that were taken
+pub one_more : {X : Type 0} (taken now rest left all : List X) (x : X) (i : ℕ) → i < 4 → rest ≡ x ∷ left → now ≡ taken ++ x ∷ [] →
+    taken ++ take (4 - i) rest ≡ all → now ++ take (4 - (i + 1)) left ≡ all
+one_more {X} taken now rest left all x i below front put before =
+    let room : 4 - i ≡ suc (4 - (i + 1)) = omega arith in
+    rw (put, append_assoc taken (x ∷ []) (take (4 - (i + 1)) left)) (ap (λ (k : ℕ). taken ++ take k (x ∷ left)) (sym room)
+    ∙ ap (λ (xs : List X). taken ++ take (4 - i) xs) (sym front) ∙ before)
+
+-- where no command has more than three words, the first four tell how the run by all of them ends
+pub run_by_all : {C R : Type 0} (rules : Rules C R) (first words : List (String Global)) {t : Transcript} {e : Ending R} →
+    ((command : C) (ws : List (String Global)) → rules.named command ws → length ws ≤ most_words) → first ≡ take 4 words → IsRun rules first t e →
+    IsRun rules words t e
+run_by_all {C} rules first words {t} {e} few is run = elim (cases_lt (length words) 4) [
+  | inl below ↦ subst (λ (ws : List (String Global)). IsRun rules ws t e) (is ∙ take_all 4 words (omega arith)) run
+  | inr above ↦
+      let four : length first ≡ 4 = ap length is ∙ length-take-le 4 words above in
+      let none : NameNone rules words = λ command named. omega (arith, few command words named) in
+      let none_first : NameNone rules first = λ command named. omega (arith, few command first named) in
+      record {
+        ends = elim run.ends [ inl named ↦ absurd (none_first named.0 named.1) | inr unnamed ↦ inr (none, unnamed.1) ];
+        complete = λ command named. absurd (none command named);
+        usage = λ wrong. run.usage none_first;
+      }
+]

@@ -1,0 +1,26 @@
+-- The cells of a row, one behind another.
+use Rattle.std.specs.Prelude.{◌≡◌, ℕ, ◌<◌, List, [], ◌∷◌, ◌++◌, length, slice_index_or, flat_map, Option, None, Some}
+use Rattle.tui_cells.specs.Buffer.{Screen}
+use Rattle.tui_cells.specs.Cell.{Look}
+use Rattle.tui_tty.specs.declared.depth.Depth.{Depth}
+use Rattle.tui_tty.specs.declared.trust.Trust.TheVariants.{Common}
+use Rattle.tui_tty.specs.Pens.{attributes_of, pen_of}
+use Rattle.tui_tty.specs.Pieces.{row_pieces}
+use Rattle.tui_tty.specs.Spelling.{spelling}
+use Rattle.tui_tty.specs.Styled.{Becomes, StyledRow}
+use Rattle.tui_tty.specs.Terminal.{Command, Pen, print, rest}
+
+-- commands that print what shows in a column, if anything begins there, by its pen
+abbrev pub StyledCell : Depth → Pen → Option Look → Pen → List Command → Type 0
+StyledCell depth pen None next cs = (next ≡ pen) × (cs ≡ [])
+StyledCell depth pen (Some c) next cs =
+    (next ≡ pen_of depth (attributes_of c)) × ((paints : List Command) × Becomes pen next paints × (cs ≡ paints ++ print c.symbol ∷ []))
+
+-- the first rows of a screen, each by its commands
+pub record AreFirst (depth : Depth) (b : Screen) (count : ℕ) (rows : List (List Command)) : Type 0 where
+  pub counted : length rows ≡ count
+  pub each : (y : ℕ) → y < count → StyledRow depth rest (row_pieces Common b y) (slice_index_or rows y [])
+
+-- a row, and a newline behind it
+abbrev pub styled_line : List Command → List ℕ
+styled_line cs = flat_map spelling cs ++ 10 ∷ []
