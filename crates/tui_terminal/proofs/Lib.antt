@@ -1,6 +1,7 @@
 mod Bytes
 mod Looks
 pub mod Nearest
+mod PlainRows
 mod RowWalks
 mod SameRows
 mod Styling

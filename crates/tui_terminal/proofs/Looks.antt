@@ -8,7 +8,7 @@ use Rattle.tui_cells.specs.Cell.{Look, space}
 use Rattle.tui_cells.specs.declared.attributes.Attributes.{Attributes}
 use Rattle.tui_text.specs.Visible.{step_of}
 use Rattle.tui_tty.specs.declared.trust.Trust.{Trust}
-use Rattle.tui_tty.specs.Pieces.{Cover, blanked, covered, next_cover, seen, shown}
+use Rattle.tui_tty.specs.Pieces.{Cover, blanked, covered, next_cover, seen, shown, uncovered}
 use Rattle.tui_tty.specs.declared.trust.Trust.TheVariants.{Common, Ascii}
 use Rattle.tui_tty.specs.Symbols.{is_ascii, is_common, is_ended, is_led, is_quiet, is_sendable, is_trusted}
 use Rattle.tui_tty.specs.Terminal.{reach}
@@ -131,3 +131,13 @@ byte_covers trust room c s some es e =
     let step = byte_steps s e in
     let none : 0 ≡ min (step_of s) room - 1 = omega (arith, step) in
     cover_as_it_is trust room c s 0 true es none (sym (byte_sendable trust room s some e)) refl
+
+-- a cell with it, where the cells lie under none
+pub byte_trusted : (trust : Trust) (s : List ℕ) → is_ascii s ≡ true → is_trusted trust s ≡ true
+byte_trusted trust s e = let b = byte_of s e in ascii_trusted trust s b.0 b.1.is e
+
+pub byte_seen : (trust : Trust) (room : ℕ) (c : Look) → 0 < room → is_ascii c.symbol ≡ true → shown trust uncovered room c ≡ Some c
+byte_seen trust room c some e = sym (shown_open trust uncovered room c refl) ∙ ap Some (seen_true trust room c (byte_sendable trust room c.symbol some e))
+
+pub byte_next : (trust : Trust) (room : ℕ) (c : Look) → 0 < room → is_ascii c.symbol ≡ true → next_cover trust uncovered room c ≡ uncovered
+byte_next trust room c some e = sym (next_open trust uncovered room c refl) ∙ sym (byte_covers trust room c c.symbol some refl e)

@@ -187,10 +187,10 @@ walk_begin trust w left u v x olds news eu ev =
 
 -- ---- whether a row is calm
 
-abbrev trusts : Trust → Placed → Bool
+abbrev pub trusts : Trust → Placed → Bool
 trusts trust p = is_trusted trust p.cell.symbol
 
-all_append : (trust : Trust) (xs ys : List Placed) → list_all (trusts trust) (xs ++ ys) ≡ (list_all (trusts trust) xs && list_all (trusts trust) ys)
+pub all_append : (trust : Trust) (xs ys : List Placed) → list_all (trusts trust) (xs ++ ys) ≡ (list_all (trusts trust) xs && list_all (trusts trust) ys)
 all_append trust [] ys = refl
 all_append trust (x ∷ xs) ys =
     elim (trusts trust x) as (λ b. (b && list_all (trusts trust) (xs ++ ys)) ≡ ((b && list_all (trusts trust) xs) && list_all (trusts trust) ys)) [ true ↦ all_append trust xs ys | false ↦ refl ]

@@ -2,18 +2,20 @@
 
 ghost use Rattle.std.specs.Prelude.{◌≡◌, ◌+◌, ◌<◌, ◌≤◌, ◌&&◌, ◌||◌, ℕ, IsTrue, flat_map, length, nat_eq, not};
 ghost use Rattle.std.specs.Cmp.Lexicographic.{pointwise};
+ghost use Rattle.std.specs.List.{list_all};
 ghost use Rattle.tui_outside.specs.Gathers.{Gathers};
 ghost use Rattle.tui_terminal.specs.Seeing.{look_in, shown_in};
 ghost use Rattle.tui_terminal.specs.Sent.{is_calm_both, is_of_pass, pass_of, shows_same};
 ghost use Rattle.tui_terminal.specs.Risks.{is_new_risk};
 ghost use Rattle.tui_tty.specs.Spelling.{spelling};
-ghost use Rattle.tui_tty.specs.Symbols.{is_trusted};
+ghost use Rattle.tui_tty.specs.Symbols.{is_ascii, is_trusted};
+ghost use Rattle.tui_tty_laws.specs.declared.wanted.Wanted.TheVariants.{Risky};
 ghost use Rattle.tui_tty_laws.specs.Sending.{at_after, nowhere, row_anew, row_changes, send};
 ghost use Rattle.tui_tty_laws.specs.Sent.{changes, is_same, row_shown, sent};
 
 use crate::seeing::{Seen, Under, see};
 use crate::sending::put_if;
-use crate::symbols::is_trusted;
+use crate::symbols::{is_ascii, is_trusted};
 use tui_cells::Cell;
 use tui_outside::{Print, Sink};
 use tui_tty::{Output, Trust};
@@ -33,7 +35,7 @@ pub(crate) fn put_anew<K: Sink>(
         (flat_map spelling (send output y nowhere (row_anew output.trust left row.now))) }
 {
     // A terminal may make anything of the rest of the row at a risky symbol, so these come first.
-    let at = put_pass(print, output, true, y, left, At::nowhere(), row, sink);
+    let at = put_risky(print, output, y, left, row, sink);
     put_pass(print, output, false, y, left, at, row, sink);
 }
 
@@ -97,6 +99,40 @@ fn is_same_text(one: &str, other: &str) -> bool
     }
 }
 
+// Adds the cells of a row with risky symbols, and answers what is known then. Most rows have printable bytes alone.
+fn put_risky<K: Sink>(
+    print: &mut Print,
+    output: Output,
+    y: usize,
+    left: usize,
+    row: &[Cell],
+    sink: &mut K,
+) -> At
+    requires { (left + length row.now ≤ 65535) × (y < 65536) }
+    ensures next { result ≡ at_after output.trust nowhere (sent output.trust Risky left (row_shown output.trust row.now) (row_shown output.trust row.now)) }
+    ensures put { Gathers (K.told sink.old) (K.told sink.new) print.old print.new (flat_map spelling (send output y nowhere
+        (sent output.trust Risky left (row_shown output.trust row.now) (row_shown output.trust row.now)))) }
+{
+    if is_plain_row(row) {
+        At::nowhere()
+    } else {
+        put_pass(print, output, true, y, left, At::nowhere(), row, sink)
+    }
+}
+
+// Whether each symbol of a row is a printable byte.
+fn is_plain_row(row: &[Cell]) -> bool
+    ensures { result ≡ list_all (λ c. is_ascii c.symbol) row.now }
+{
+    'columns: for column in 0..row.len() {
+        let cell = &row[column];
+        if !is_ascii(cell.symbol()) {
+            return false;
+        }
+    }
+    true
+}
+
 // Adds the cells of a row with risky symbols, or the ones with trusted symbols, and answers what is known then.
 fn put_pass<K: Sink>(
     print: &mut Print,
@@ -157,6 +193,23 @@ fn put_new<K: Sink>(
 
 // Whether no risky symbol comes or goes.
 fn is_calm(trust: Trust, old: &[Cell], new: &[Cell]) -> bool
+    requires { (length old.now ≡ length new.now) × (length new.now < 65536) }
+    ensures { (left : ℕ) → result ≡ is_calm_both trust left old.now new.now }
+{
+    if are_plain(old, new) {
+        true
+    } else {
+        is_calm_at_each(trust, old, new)
+    }
+}
+
+fn are_plain(old: &[Cell], new: &[Cell]) -> bool
+    ensures { result ≡ (list_all (λ c. is_ascii c.symbol) old.now && list_all (λ c. is_ascii c.symbol) new.now) }
+{
+    is_plain_row(old) && is_plain_row(new)
+}
+
+fn is_calm_at_each(trust: Trust, old: &[Cell], new: &[Cell]) -> bool
     requires { (length old.now ≡ length new.now) × (length new.now < 65536) }
     ensures { (left : ℕ) → result ≡ is_calm_both trust left old.now new.now }
 {

@@ -11,6 +11,5 @@ returns g c =
     let a = c.args in
     let trust = a.output.trust in
     let row = row_shown trust a.row.now in
-    let first = rw c.nowhere.ensures at c.put_pass-at.ensures.put in
-    let next = rw c.nowhere.ensures at c.put_pass-at.ensures.next in
-    Gathers-text (send_more a.output a.y nowhere c.put_pass-at.result (sent trust Risky a.left row row) (sent trust Trusted a.left row row) next) (Gathers-then first c.put_pass.ensures.put)
+    Gathers-text (send_more a.output a.y nowhere c.put_risky-at.result (sent trust Risky a.left row row) (sent trust Trusted a.left row row) c.put_risky-at.ensures.next)
+    (Gathers-then c.put_risky-at.ensures.put c.put_pass.ensures.put)
