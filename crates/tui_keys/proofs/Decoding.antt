@@ -1,13 +1,15 @@
 -- Bytes in pieces, few events, and NUL.
-use Rattle.std.proofs.Common.{◌≡◌, ℕ, ◌≤◌, List, [], ◌∷◌, ◌++◌, length, Option, None, Some, refl, sym, ap, ◌∙◌, append_assoc, if◌then◌else◌, arith}
-use Rattle.std.proofs.lemmas.List.{length-append}
+use Rattle.std.proofs.Common.{Bool, true, false, ◌≡◌, ℕ, ◌≤◌, List, [], ◌∷◌, ◌++◌, length, Option, None, Some, refl, sym, ap, ◌∙◌, append_assoc, if◌then◌else◌, arith}
+use Rattle.std.proofs.lemmas.List.{append-nil, length-append}
 use Rattle.tui_keys.specs.declared.event.Event.{Event}
 use Rattle.tui_keys.specs.declared.event.Event.TheVariants as events
 use Rattle.tui_keys.specs.declared.keys.Keys.{Keys}
 use Rattle.tui_keys.specs.declared.keys.Step.{Step}
-use Rattle.tui_keys.specs.Events.{events_of, keys_after, made, some_of}
-use Rattle.tui_keys.specs.Laws.{AreRead, EventsAreFew, NulIsATick, PiecesAreOne}
-use Rattle.tui_keys.specs.Steps.{stepped}
+use Rattle.tui_keys.specs.declared.keys.Pending.{Pending}
+use Rattle.tui_keys.specs.declared.keys.Pending.TheVariants.{Nothing, Escape, Bracket, Ss3, Console, Sequence, Opened, Answer, AnswerEscape, Character}
+use Rattle.tui_keys.specs.Events.{events_read, keys_read, events_of, keys_after, made, some_of}
+use Rattle.tui_keys.specs.Laws.{AreRead, EventsAreFew, NulIsATick, PiecesAreOne, ReadsAreOne}
+use Rattle.tui_keys.specs.Steps.{paused, stepped}
 
 pub one_piece : PiecesAreOne
 unfolding events_of keys_after
@@ -74,3 +76,30 @@ nul_is_a_tick keys a b =
       events = p.events ∙ ap (λ (l : List Event). events_of keys a ++ l) (tick_first (keys_after keys a) b);
       pending = p.pending ∙ tick_stays (keys_after keys a) b ∙ sym q.pending;
     }
+
+-- where the end of a read makes no event it changes nothing
+quiet : (q : Bool) (p : Pending) → made (paused (record { pasting = q; pending = p })) ≡ [] → (paused (record { pasting = q; pending = p })).keys ≡ record { pasting = q; pending = p }
+quiet true p e = refl
+quiet false Nothing e = refl
+quiet false Escape e = grind (arith)
+quiet false Bracket e = refl
+quiet false Ss3 e = refl
+quiet false Console e = refl
+quiet false (Sequence n) e = refl
+quiet false (Opened o) e = grind (arith)
+quiet false Answer e = refl
+quiet false AnswerEscape e = refl
+quiet false (Character p) e = refl
+
+pub reads_are_one : ReadsAreOne
+unfolding events_read keys_read
+reads_are_one keys a b none =
+    let middle = keys_after keys a in
+    let p = one_piece keys a b in
+    let same : (paused middle).keys ≡ middle = quiet middle.pasting middle.pending none in
+    let first : events_of keys a ++ made (paused middle) ≡ events_of keys a = ap (λ (l : List Event). events_of keys a ++ l) none ∙ append-nil (events_of keys a) in (
+      ap (λ (l : List Event). l ++ events_read (paused middle).keys b) first ∙ ap (λ (k : Keys). events_of keys a ++ events_read k b) same
+          ∙ sym (append_assoc (events_of keys a) (events_of middle b) _) ∙ ap (λ (l : List Event). l ++ made (paused (keys_after middle b))) (sym p.events)
+          ∙ ap (λ (k : Keys). events_of keys (a ++ b) ++ made (paused k)) (sym p.pending),
+      ap (λ (k : Keys). keys_read k b) same ∙ ap (λ (k : Keys). (paused k).keys) (sym p.pending),
+    )

@@ -1,5 +1,5 @@
 pub mod Decoding
-pub mod Sizes
+pub mod Bounds
 pub mod Texts
 pub mod Pastes
 pub mod Others

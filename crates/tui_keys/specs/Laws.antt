@@ -4,8 +4,8 @@ use Rattle.tui_keys.specs.declared.event.Event.{Event}
 use Rattle.tui_keys.specs.declared.event.Event.TheVariants as events
 use Rattle.tui_keys.specs.declared.keys.Keys.{Keys}
 use Rattle.tui_keys.specs.Events.{events_of, events_read, keys_after, keys_read, made}
-use Rattle.tui_keys.specs.Sent.{HasSize, IsPlain, IsTold, IsToldAlone, csi, escape, sent_for}
-use Rattle.tui_keys.specs.Steps.{at_rest, start, stepped}
+use Rattle.tui_keys.specs.Sent.{IsBounded, IsPlain, IsTold, IsToldAlone, csi, escape, sent_for}
+use Rattle.tui_keys.specs.Steps.{at_rest, paused, start, stepped}
 
 -- From what is known in `keys` bytes are these events, and `next` is known then.
 pub record AreRead (keys : Keys) (bytes : List ℕ) (es : List Event) (next : Keys) : Type 0 where
@@ -30,9 +30,14 @@ NulIsATick = (keys : Keys) (a b : List ℕ) →
     (events_of keys a ++ (if (keys_after keys a).pasting then events.Unknown else events.Tick) ∷ events_of (keys_after keys a) b)
     (keys_after keys (a ++ b))
 
--- each size is from 1 to 1000 either way
-abbrev pub SizesAreBounded : Type 0
-SizesAreBounded = (keys : Keys) (bs : List ℕ) → All HasSize (events_of keys bs)
+-- the events of two reads are those of their bytes in one, unless the end of the first makes one
+abbrev pub ReadsAreOne : Type 0
+ReadsAreOne = (keys : Keys) (a b : List ℕ) → made (paused (keys_after keys a)) ≡ [] →
+    (events_read keys a ++ events_read (keys_read keys a) b ≡ events_read keys (a ++ b)) × (keys_read (keys_read keys a) b ≡ keys_read keys (a ++ b))
+
+-- each event has numbers and letters as they are said to be
+abbrev pub EventsAreBounded : Type 0
+EventsAreBounded = (keys : Keys) (bs : List ℕ) → All IsBounded (events_of keys bs)
 
 -- ---- pastes
 
@@ -46,7 +51,18 @@ IsPasted event = ⊥
 abbrev pub PastedIsPasted : Type 0
 PastedIsPasted = (keys : Keys) (b : ℕ) → keys.pasting ≡ true → All IsPasted (made (stepped keys b))
 
--- nothing but its end ends a paste
+abbrev pub IsOutside : Event → Type 0
+IsOutside events.PasteEnd = ⊥
+IsOutside event = ⊤
+
+-- outside a paste none is its end
+abbrev pub OutsideIsOutside : Type 0
+OutsideIsOutside = (keys : Keys) (b : ℕ) → keys.pasting ≡ false → All IsOutside (made (stepped keys b))
+
+-- nothing but its beginning begins a paste, and nothing but its end ends it
+abbrev pub OnlyBeginBegins : Type 0
+OnlyBeginBegins = (keys : Keys) (b : ℕ) → keys.pasting ≡ false → (stepped keys b).keys.pasting ≡ true → (stepped keys b).second ≡ Some events.PasteBegin
+
 abbrev pub OnlyEndEnds : Type 0
 OnlyEndEnds = (keys : Keys) (b : ℕ) → keys.pasting ≡ true → (stepped keys b).keys.pasting ≡ false → (stepped keys b).second ≡ Some events.PasteEnd
 

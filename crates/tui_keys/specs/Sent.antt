@@ -71,23 +71,23 @@ IsNoneOf text c = All (λ (k : ℕ). c ≢ k) text
 abbrev pub IsSize : ℕ → Type 0
 IsSize n = (1 ≤ n) × (n ≤ 1000)
 
-abbrev pub HasSize : Event → Type 0
-HasSize (events.Resize columns rows) = IsSize columns × IsSize rows
-HasSize event = ⊤
+-- F has a number from 1 to 12, Ctrl a small letter that is not h, i, j or m, With something held down, and a size is from 1 to 1000 either way.
+abbrev pub IsBounded : Event → Type 0
+IsBounded (events.F n) = (1 ≤ n) × (n ≤ 12)
+IsBounded (events.Ctrl c) = (97 ≤ c) × (c ≤ 122) × IsNoneOf (codes "hijm") c
+IsBounded (events.With m motion) = (m.shift || m.alt || m.ctrl) ≡ true
+IsBounded (events.Resize columns rows) = IsSize columns × IsSize rows
+IsBounded event = ⊤
 
 -- What can be told whatever follows it: no ESC, no Alt with what begins a sequence or an answer, and pastes have a law of their own.
 abbrev pub IsTold : Event → Type 0
 IsTold (events.Char c) = IsPlain c
-IsTold (events.F n) = (1 ≤ n) × (n ≤ 12)
-IsTold (events.Ctrl c) = (97 ≤ c) × (c ≤ 122) × IsNoneOf (codes "hijm") c
 IsTold (events.Alt c) = IsPlain c × IsNoneOf (codes "[O]PX^_") c
-IsTold (events.With m motion) = (m.shift || m.alt || m.ctrl) ≡ true
-IsTold (events.Resize columns rows) = IsSize columns × IsSize rows
 IsTold events.Esc = ⊥
 IsTold events.PasteBegin = ⊥
 IsTold events.PasteEnd = ⊥
 IsTold events.Unknown = ⊥
-IsTold event = ⊤
+IsTold event = IsBounded event
 
 -- what can be told if it is all of a read
 abbrev pub IsToldAlone : Event → Type 0

@@ -2,30 +2,37 @@
 
 ghost use Rattle.tui_keys.specs.Laws.{
   AloneIsRead,
+  EventsAreBounded,
   EventsAreFew,
   NulIsATick,
+  OnlyBeginBegins,
   OnlyEndEnds,
   OthersAreRead,
+  OutsideIsOutside,
   PasteIsItself,
   PastedIsPasted,
   PiecesAreOne,
+  ReadsAreOne,
   SentIsRead,
-  SizesAreBounded,
   TextIsItself,
 };
 
-/// The events of two reads are those of their bytes in one; there are at most two a byte; the byte 0 breaks nothing; each size is from 1
-/// to 1000 either way.
+/// Bytes in pieces have the events that they have in one, and so have those of two reads, unless the end of the first makes an event; there are
+/// at most two a byte; the byte 0 breaks nothing; numbers and letters are within their bounds.
 pub fn event_laws()
     ensures pieces { PiecesAreOne }
+    ensures reads { ReadsAreOne }
     ensures few { EventsAreFew }
     ensures nul { NulIsATick }
-    ensures sizes { SizesAreBounded }
+    ensures bounded { EventsAreBounded }
 {}
 
-/// Within a paste there are characters and what is unknown, up to its end, which alone ends it; a text that is pasted is its characters.
+/// Within a paste there are characters and what is unknown, up to its end. Nothing else begins and ends a paste; a text that is pasted is its
+/// characters.
 pub fn paste_laws()
     ensures pasted { PastedIsPasted }
+    ensures outside { OutsideIsOutside }
+    ensures begins { OnlyBeginBegins }
     ensures ends { OnlyEndEnds }
     ensures itself { PasteIsItself }
 {}

@@ -1,3 +1,4 @@
+use Rattle.tui_keys.proofs.Bounds.{only_begin_begins, outside_is_outside}
 use Rattle.tui_keys.proofs.Pastes.{only_end_ends, paste_is_itself, pasted_is_pasted}
 use Rattle.tui_keys.proofs.laws.paste_laws.Goals as goal
 
@@ -9,3 +10,9 @@ returns-clause-ends c = only_end_ends
 
 pub returns-clause-itself : goal.returns-clause-itself
 returns-clause-itself c = paste_is_itself
+
+pub returns-clause-outside : goal.returns-clause-outside
+returns-clause-outside c = outside_is_outside
+
+pub returns-clause-begins : goal.returns-clause-begins
+returns-clause-begins c = only_begin_begins
