@@ -7,6 +7,7 @@ pub use Rattle.tui_calendar.specs as calendar
 pub use Rattle.tui_cells.specs as cells
 pub use Rattle.tui_clusters.specs as clusters
 pub use Rattle.tui_frames.specs as frames
+pub use Rattle.tui_keys.specs as keys
 pub use Rattle.tui_layout.specs as layout
 pub use Rattle.tui_lists.specs as lists
 pub use Rattle.tui_outside.specs as outside
