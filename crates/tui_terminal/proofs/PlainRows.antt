@@ -1,6 +1,6 @@
 -- Rows of printable bytes.
 use Rattle.std.proofs.Common.{◌≡◌, ℕ, ◌+◌, ◌<◌, ◌≤◌, Bool, true, false, not, ◌&&◌, List, [], ◌∷◌, ◌++◌, length, get_or, drop, cond, flat_map, refl, sym, ap, ◌∙◌, add-one, arith}
-use Rattle.std.specs.Prelude.{Option, None, Some}
+use Rattle.std.specs.Prelude.{Option, Some}
 use Rattle.std.specs.List.{list_all}
 use Rattle.std.proofs.lemmas.Bool.{and_from, and_parts, cond-false}
 use Rattle.std.proofs.lemmas.List.{drop_all}
@@ -15,7 +15,6 @@ use Rattle.tui_tty.specs.Symbols.{is_ascii, is_trusted}
 use Rattle.tui_tty_laws.specs.declared.wanted.Wanted.TheVariants.{Changed, Risky}
 use Rattle.tui_tty_laws.specs.Sending.{at_after, nowhere, send}
 use Rattle.tui_tty_laws.specs.Sent.{is_calm, is_shown, row_shown, sent, sent_here}
-use Rattle.tui_tty_laws.specs.declared.at.At.{At}
 use Rattle.tui_terminal.specs.Sent.{is_calm_both}
 use Rattle.tui_terminal.proofs.Looks.{byte_next, byte_seen, byte_trusted}
 use Rattle.tui_terminal.proofs.Walking.{all_append, at_none, send_none}

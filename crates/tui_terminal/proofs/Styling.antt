@@ -17,7 +17,7 @@ use Rattle.tui_tty.specs.Colours.{color_at, palette_color, sixteen_color}
 use Rattle.tui_tty.specs.Pens.{attributes_of, marks_of, pen_of}
 use Rattle.tui_tty.specs.Pieces.{Cover, next_cover, pieces, row_pieces, shown, shown_row, uncovered}
 use Rattle.tui_tty.specs.Spelling.{spelling}
-use Rattle.tui_tty.specs.Styled.{AreStyledRows, Becomes, StyledFirst, StyledRow}
+use Rattle.tui_tty.specs.Styled.{AreStyledRows, Becomes, StyledRow}
 use Rattle.tui_tty.specs.Terminal.{Command, Pen, print, rest}
 use Rattle.tui_terminal.specs.StyledCells.{AreFirst, StyledCell, styled_line}
 use Rattle.tui_terminal.proofs.Texts.{more_text, one_text}

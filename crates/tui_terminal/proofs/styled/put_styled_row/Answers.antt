@@ -1,11 +1,11 @@
-use Rattle.std.proofs.Common.{[], List, ◌++◌, sym, subst, append_assoc, arith}
+use Rattle.std.proofs.Common.{[], ◌++◌, sym, subst, append_assoc, arith}
 use Rattle.std.proofs.lemmas.Grind.{flat_map-append}
 use Rattle.tui_outside.proofs.Gathering.{Gathers-none, Gathers-then}
 use Rattle.tui_tty.specs.Pens.{pen_of}
 use Rattle.tui_tty.specs.Pieces.{Cover, pieces, uncovered}
 use Rattle.tui_tty.specs.Spelling.{spelling}
 use Rattle.tui_tty.specs.Styled.{Becomes, StyledRow}
-use Rattle.tui_tty.specs.Terminal.{Command, Pen, rest}
+use Rattle.tui_tty.specs.Terminal.{Pen, rest}
 use Rattle.tui_terminal.specs.Seeing.{cover_of}
 use Rattle.tui_terminal.proofs.Styling.{line_text, next_cell, rest_pen, row_ended, row_from}
 use Rattle.tui_terminal.proofs.Texts.{Gathers-text}

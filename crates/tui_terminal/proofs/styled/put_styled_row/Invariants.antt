@@ -1,4 +1,4 @@
-use Rattle.std.proofs.Common.{◌≡◌, List, ◌++◌, flat_map}
+use Rattle.std.proofs.Common.{List, ◌++◌, flat_map}
 use Rattle.tui_outside.specs.Gathers.{Gathers}
 use Rattle.tui_tty.specs.Pens.{pen_of}
 use Rattle.tui_tty.specs.Pieces.{pieces, uncovered}
