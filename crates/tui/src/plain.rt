@@ -24,10 +24,10 @@ use crate::symbols::MergeStrategy;
 use crate::terminal::{Cursor, Depth, Output, Trust};
 use crate::text::{Span, StyledGrapheme};
 use crate::widgets::{
-    BorderType, Borders, Clear, Dimmed, Fill, GaugeError, HighlightSpacing, ListDirection, ListState,
-    Padding, RatatuiLogo, RenderDirection, ScrollDirection, Scrollbar, ScrollbarOrientation,
-    ScrollbarState, Shadow, Size, SparklineBar, TableState, TitlePosition, WidthsError, Wrap,
-    WrappedLine,
+    BorderType, Borders, Clear, Dimmed, Fill, GaugeError, HighlightSpacing, ListDirection,
+    ListState, Padding, RatatuiLogo, RenderDirection, ScrollDirection, Scrollbar,
+    ScrollbarOrientation, ScrollbarState, Shadow, Size, SparklineBar, TableState, TitlePosition,
+    WidthsError, Wrap, WrappedLine,
 };
 
 /// A value without texts and lists, which is copied. `==` answers true for equal values alone, and a clone is the value.
