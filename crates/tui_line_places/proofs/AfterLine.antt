@@ -1,41 +1,26 @@
--- What the walks leave is what stands behind the first line.
-use Rattle.std.proofs.Common.{◌≡◌, ℕ, ◌+◌, ◌-◌, ◌<◌, Bor, Bool, true, false, cond, not, ◌&&◌, List, [], ◌∷◌, ◌++◌, map, filter, drop, length, subst, length-append, Option, None, Some, unwrap_or, nat_le, refl, sym, ap, ◌∙◌, ⊎_elim, arith}
+-- What is left behind the first line has the other lines.
+use Rattle.std.proofs.Common.{◌≡◌, ℕ, ◌+◌, ◌<◌, Bor, Bool, List, [], ◌∷◌, ◌++◌, map, drop, length, subst, length-append, Option, None, Some, refl, sym, ap, ◌∙◌, ⊎_elim, arith}
 use Rattle.std.specs.Prelude.{◌↔◌, IfSome, MatchOption}
 use Rattle.std.specs.Str.{IsUtf8}
 use Rattle.std.specs.Str.Lines.{lines}
 use Rattle.tui_cells.specs.Style.{no_style}
 use Rattle.tui_cells.specs.declared.style.Style.{Style}
-use Rattle.tui_clusters.specs.Blank.{is_blank_text}
-use Rattle.tui_clusters.specs.Width.{width_of}
 use Rattle.tui_text.specs.declared.alignment.Alignment.{Alignment}
 use Rattle.tui_text.specs.declared.alignment.Alignment.TheVariants.{Left}
 use Rattle.tui_para.specs.Lines.{GlyphLine, glyph_line}
 use Rattle.tui_para.specs.Places.{wrap_kept}
 use Rattle.tui_para.specs.Rule.{Rule}
-use Rattle.tui_para.specs.Wrapped.{WrapsKept, after_break, line_start}
-use Rattle.tui_para.proofs.Greedy.{AllFit, all_fit-kept, wrap_kept_is}
+use Rattle.tui_para.specs.Wrapped.{WrapsKept}
+use Rattle.tui_para.proofs.Greedy.{AllFit, wrap_kept_is}
 use Rattle.std.proofs.lemmas.List.{append_assoc, length-drop, length-map}
 use Rattle.tui_text.specs.Text.{text_lines}
-use Rattle.tui_clusters.specs.Shown.{is_shown}
 use Rattle.tui_text.specs.Graphemes.{glyph_in}
-use Rattle.unicode_segmentation.specs.Grapheme.{graphemes}
 use Rattle.tui_line_places.specs.AfterLine.{HasLineCount, IsFromLine, wrapped_lines}
 use Rattle.tui_line_places.specs.Next.{IsOver}
-use Rattle.tui_line_places.specs.Places.{GoesOnInLine, behind_line, line_clusters, shown_in}
-use Rattle.tui_line_places.specs.Rests.{cluster_rule, first_rest, line_rest}
-use Rattle.tui_line_places.proofs.Rests.{FirstThen, first_then, lines_behind}
+use Rattle.tui_line_places.specs.Places.{GoesOnInLine, behind_line, shown_in}
+use Rattle.tui_line_places.specs.Rests.{FirstThen, cluster_rule, lines_behind}
+use Rattle.tui_line_places.proofs.InLine.{fit}
 use Rattle.tui_line_places.proofs.WrappedLines.{all_lines, by_first, shown_style, styled}
-
--- the rules with `trim` and without it are one but where a line begins
-same_line : (w : ℕ) (in_word : Bool) (ended : Option (List (List ℕ) × ℕ)) (room : ℕ) (xs : List (List ℕ)) → line_rest (cluster_rule w true) in_word ended room xs ≡ line_rest (cluster_rule w false) in_word ended room xs
-same_line w in_word ended room [] = refl
-same_line w in_word ended room (x ∷ xs) =
-    let last = cond (in_word && is_blank_text x) (Some (x ∷ xs, room)) ended in
-    ap (λ t. cond (nat_le (width_of x) room) t (unwrap_or last (x ∷ xs, room))) (same_line w (not (is_blank_text x)) last (room - width_of x) xs)
-
-same_break : (w room : ℕ) (xs : List (List ℕ)) → after_break (cluster_rule w true) room xs ≡ after_break (cluster_rule w false) room xs
-same_break w room [] = refl
-same_break w room (x ∷ xs) = ap (λ t. cond (is_blank_text x) (cond (nat_le (width_of x) room) t xs) (x ∷ xs)) (same_break w (room - width_of x) xs)
 
 wrap_some : {A : Type 0} (rule : Rule A) (xs : List A) → AllFit rule.size rule.width xs → 0 < length (wrap_kept rule xs)
 wrap_some {A = A} rule xs fit = by_case (wrap_kept rule xs) (wrap_kept_is rule xs fit)
@@ -44,32 +29,14 @@ wrap_some {A = A} rule xs fit = by_case (wrap_kept rule xs) (wrap_kept_is rule x
     by_case [] h = ⊎_elim (λ e. absurd (let l = ap length e.1 in omega arith)) (λ h. absurd (h.0 h.1)) h
     by_case (line ∷ lines) h = omega arith
 
--- by the three walks
-pub walked : (w : ℕ) (trim : Bool) (xs start end rest : List (List ℕ)) (room : ℕ) → start ≡ line_start is_blank_text trim xs → (end, room) ≡ line_rest (cluster_rule w false) false None w start
-    → rest ≡ after_break (cluster_rule w false) room end → rest ≡ first_rest (cluster_rule w trim) xs
-walked w trim xs start end rest room e f g = g ∙ ap (λ r. after_break (cluster_rule w false) r.1 r.0) (f ∙ ap (line_rest (cluster_rule w false) false None w) e) ∙ sym (either trim)
-  where
-    either : (b : Bool) → first_rest (cluster_rule w b) xs
-        ≡ (let r = line_rest (cluster_rule w false) false None w (line_start is_blank_text b xs) in after_break (cluster_rule w false) r.1 r.0)
-    either true =
-        let r = line_rest (cluster_rule w true) false None w (line_start is_blank_text true xs) in
-        same_break w r.1 r.0 ∙ ap (λ t. after_break (cluster_rule w false) t.1 t.0) (same_line w false None w (line_start is_blank_text true xs))
-    either false = refl
-
-module _ (w : ℕ) (trim : Bool) (text : List ℕ) (u : IsUtf8 text) (rest : List ℕ) (shown : shown_in w rest ≡ first_rest (cluster_rule w trim) (shown_in w text)) where
-  abbrev fits : (bytes : List ℕ) → AllFit width_of w (shown_in w bytes)
-  fits bytes = all_fit-kept width_of w (filter is_shown (line_clusters (graphemes true bytes)))
-
-  the_first : FirstThen (cluster_rule w trim) (shown_in w text)
-  the_first = first_then (cluster_rule w trim) (shown_in w text) (fits text) (subst (AllFit width_of w) shown (fits rest))
-
+module _ (w : ℕ) (trim : Bool) (text : List ℕ) (u : IsUtf8 text) (rest : List ℕ) (h : FirstThen (cluster_rule w trim) (shown_in w text) (shown_in w rest)) where
   module _ (style : Style) (alignment : Alignment) where
     abbrev others : List GlyphLine
     others = all_lines style w trim alignment (lines (behind_line text))
 
     first_is : wrapped_lines style alignment w trim text
-        ≡ glyph_line alignment (map (glyph_in (shown_style style w trim)) the_first.first) ∷ (map (glyph_line alignment) (styled style w trim (lines_behind (cluster_rule w trim) (shown_in w rest))) ++ others)
-    first_is = by_first style w trim alignment text u ∙ ap (λ t. map (glyph_line alignment) (styled style w trim t) ++ others) (the_first.lines_are ∙ ap (λ t. the_first.first ∷ lines_behind (cluster_rule w trim) t) (sym shown))
+        ≡ glyph_line alignment (map (glyph_in (shown_style style w trim)) h.first) ∷ (map (glyph_line alignment) (styled style w trim (lines_behind (cluster_rule w trim) (shown_in w rest))) ++ others)
+    first_is = by_first style w trim alignment text u ∙ ap (λ t. map (glyph_line alignment) (styled style w trim t) ++ others) h.lines_are
 
   others_after : (clusters : List (List ℕ)) (c : List ℕ) (cs : List (List ℕ)) → clusters ≡ c ∷ cs → lines_behind (cluster_rule w trim) clusters ≡ wrap_kept (cluster_rule w trim) clusters
   others_after clusters c cs e = ap (lines_behind (cluster_rule w trim)) e ∙ sym (ap (wrap_kept (cluster_rule w trim)) e)
@@ -88,15 +55,15 @@ module _ (w : ℕ) (trim : Bool) (text : List ℕ) (u : IsUtf8 text) (rest : Lis
 
   module _ (g : GoesOnInLine text rest) (o : List ℕ) (over : IsOver w rest o) where
     last_is : (style : Style) (alignment : Alignment) → wrapped_lines style alignment w trim text
-        ≡ glyph_line alignment (map (glyph_in (shown_style style w trim)) the_first.first) ∷ all_lines style w trim alignment (lines o)
+        ≡ glyph_line alignment (map (glyph_in (shown_style style w trim)) h.first) ∷ all_lines style w trim alignment (lines o)
     last_is style alignment =
-        let first = glyph_line alignment (map (glyph_in (shown_style style w trim)) the_first.first) in
+        let first = glyph_line alignment (map (glyph_in (shown_style style w trim)) h.first) in
         first_is style alignment
         ∙ ap (λ t. first ∷ (map (glyph_line alignment) (styled style w trim (lines_behind (cluster_rule w trim) t)) ++ others style alignment)) over.shown
         ∙ ap (λ b. first ∷ all_lines style w trim alignment (lines b)) (sym g.same ∙ over.behind)
 
     pub one_line : o ≡ [] → HasLineCount w trim text 1
-    one_line none = λ style alignment. ap length (last_is style alignment ∙ ap (λ b. glyph_line alignment (map (glyph_in (shown_style style w trim)) the_first.first) ∷ all_lines style w trim alignment (lines b)) none)
+    one_line none = λ style alignment. ap length (last_is style alignment ∙ ap (λ b. glyph_line alignment (map (glyph_in (shown_style style w trim)) h.first) ∷ all_lines style w trim alignment (lines b)) none)
 
     pub behind : 0 < length o → IsFromLine w trim 1 text o
     behind some = record {
@@ -113,7 +80,7 @@ module _ (w : ℕ) (trim : Bool) (text : List ℕ) (u : IsUtf8 text) (rest : Lis
 pub has_line : (style : Style) (alignment : Alignment) (w : ℕ) (trim : Bool) (text : List ℕ) → IsUtf8 text → 0 < length (wrapped_lines style alignment w trim text)
 has_line style alignment w trim text u =
     let R = cluster_rule w trim in
-    let some = wrap_some R (shown_in w text) (all_fit-kept width_of w (filter is_shown (line_clusters (graphemes true text)))) in
+    let some = wrap_some R (shown_in w text) (fit w text) in
     let first = by_first style w trim alignment text u in
     let size = length-append (map (glyph_line alignment) (styled style w trim (wrap_kept R (shown_in w text)))) (all_lines style w trim alignment (lines (behind_line text))) in
     let a = length-map (styled style w trim (wrap_kept R (shown_in w text))) (glyph_line alignment) in
@@ -157,7 +124,7 @@ module _ (w : ℕ) (trim : Bool) (text : List ℕ) (u : IsUtf8 text) where
   says_shorter (Some rest) h = shorter w trim text u rest.now h.0 h.1
 
   -- where the line is over, by whether a text stands behind it
-  pub answered : (rest : List ℕ) → shown_in w rest ≡ first_rest (cluster_rule w trim) (shown_in w text) → GoesOnInLine text rest → (o : List ℕ) → IsOver w rest o → (found : Option (Bor (List ℕ)))
+  pub answered : (rest : List ℕ) → FirstThen (cluster_rule w trim) (shown_in w text) (shown_in w rest) → GoesOnInLine text rest → (o : List ℕ) → IsOver w rest o → (found : Option (Bor (List ℕ)))
       → MatchOption found (o ≡ []) (λ some. (some.now ≡ o) × (0 < length o)) → Answers w trim text found
-  answered rest shown g o over None none = one_line w trim text u rest shown g o over none
-  answered rest shown g o over (Some some) (same, more) = (subst IsUtf8 (sym same) over.utf8, subst (IsFromLine w trim 1 text) (sym same) (behind w trim text u rest shown g o over more))
+  answered rest h g o over None none = one_line w trim text u rest h g o over none
+  answered rest h g o over (Some some) (same, more) = (subst IsUtf8 (sym same) over.utf8, subst (IsFromLine w trim 1 text) (sym same) (behind w trim text u rest h g o over more))

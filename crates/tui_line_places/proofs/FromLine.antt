@@ -9,8 +9,8 @@ use Rattle.std.proofs.Math.Seq.{drop-append_seam}
 use Rattle.tui_cells.specs.Style.{no_style}
 use Rattle.tui_text.specs.declared.alignment.Alignment.TheVariants.{Left}
 use Rattle.tui_line_places.specs.AfterLine.{HasAtMost, HasLineCount, IsFromLine, BeginsLine, wrapped_lines}
-use Rattle.tui_line_places.specs.Reading.{HasPassed, Passes}
-use Rattle.tui_line_places.proofs.AfterLine.{has_line, shorter}
+use Rattle.tui_line_places.specs.Reading.{HasPassed}
+use Rattle.tui_line_places.proofs.AfterLine.{has_line}
 
 module _ (w : ℕ) (trim : Bool) (text : List ℕ) where
   pub from_first : IsFromLine w trim 0 text text
@@ -66,21 +66,18 @@ module _ (w : ℕ) (trim : Bool) (text : List ℕ) (k : ℕ) where
   pub too_few : (i : ℕ) (rest : List ℕ) → i < k → IsFromLine w trim i text rest → HasLineCount w trim rest 1 → HasAtMost w trim text k
   too_few i rest less from one = λ style alignment. let a = count_from w trim text i rest from 1 (omega arith) one style alignment in omega arith
 
-module _ (w : ℕ) (trim : Bool) (text rest next : List ℕ) (u : IsUtf8 rest) (v : IsUtf8 next) (on : IsFromLine w trim 1 rest next) where
-  pub pass_next : (k : ℕ) → Passes w trim text k rest → Passes w trim text (k + 1) next
-  pass_next k p = record { from = from_next w trim text k rest p.from 1 next on; few = let less = shorter w trim rest u next v on in omega (arith, p.few) }
-
+module _ (w : ℕ) (trim : Bool) (text rest next : List ℕ) (v : IsUtf8 next) (on : IsFromLine w trim 1 rest next) where
   pub place_next : (places : List ℕ) → HasPassed w trim text places rest → HasPassed w trim text (places ++ (length text - length next) ∷ []) next
   place_next places h =
-      let passes = pass_next h.passed h.passes in
+      let from = from_next w trim text h.passed rest h.from 1 next on in
       let place = length text - length next in
       let size = length-append places (place ∷ []) in
       let last : slice_index (places ++ place ∷ []) (length places) ≡ place = ap (λ n. slice_index (places ++ place ∷ []) n) (omega arith) ∙ get_or-append-add places (place ∷ []) 0 0 in
-      let here : BeginsLine w trim text (h.passed + 1) place = place_from w trim text (h.passed + 1) next passes.from v in
+      let here : BeginsLine w trim text (h.passed + 1) place = place_from w trim text (h.passed + 1) next from v in
       record {
         passed = h.passed + 1;
         many = omega (arith, h.many);
-        passes = passes;
+        from = from;
         each = λ k less.
             ⊎_elim
             (λ before. subst (BeginsLine w trim text k) (sym (get_or_append_left places (place ∷ []) 0 k before)) (h.each k before))
@@ -96,7 +93,7 @@ pub first_place : (w : ℕ) (trim : Bool) (text : List ℕ) → IsUtf8 text → 
 first_place w trim text u = record {
   passed = 0;
   many = refl;
-  passes = record { from = from_first w trim text; few = omega arith };
+  from = from_first w trim text;
   each = λ k less.
       let first : 0 ≡ k = omega arith in
       subst (λ n. BeginsLine w trim text n (slice_index (0 ∷ []) n)) first (record { boundary = IsCharBoundary-start text u; from = from_first w trim text });

@@ -3,7 +3,7 @@ mod LineClusters
 mod Rests
 mod ShownClusters
 mod Printable
-mod Walked
+mod InLine
 mod WrappedLines
 mod AfterLine
 mod FromLine

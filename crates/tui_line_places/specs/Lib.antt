@@ -1,7 +1,6 @@
 pub mod Places
 pub mod Rests
 pub mod Next
-pub mod Walks
 pub mod AfterLine
 pub mod Reading
 pub mod Parts

@@ -1,7 +1,7 @@
 -- What is left of a list behind the line at its front.
-use Rattle.std.specs.Prelude.{ℕ, ◌-◌, Bool, false, not, ◌&&◌, if◌then◌else◌, nat_le, List, [], ◌∷◌, Option, None, Some, unwrap_or}
-use Rattle.tui_para.specs.Rule.{Rule, ends_piece}
-use Rattle.tui_para.specs.Wrapped.{after_break, line_start}
+use Rattle.std.specs.Prelude.{◌≡◌, ℕ, Bool, false, List, [], ◌∷◌}
+use Rattle.tui_para.specs.Places.{wrap_kept}
+use Rattle.tui_para.specs.Rule.{Rule}
 use Rattle.tui_clusters.specs.Blank.{is_blank_text}
 use Rattle.tui_clusters.specs.Width.{width_of}
 
@@ -9,16 +9,12 @@ use Rattle.tui_clusters.specs.Width.{width_of}
 abbrev pub cluster_rule : ℕ → Bool → Rule (List ℕ)
 cluster_rule w trim = record { blank = is_blank_text; split = λ _. false; size = width_of; width = w; trim = trim }
 
--- what is left behind a line that goes on, and the room that the line leaves: from where a grapheme doesn't fit, or else from
--- where the last piece ended, if one has
-abbrev pub line_rest : {A : Type 0} → Rule A → Bool → Option (List A × ℕ) → ℕ → List A → List A × ℕ
-line_rest rule in_word ended room [] = ([], room)
-line_rest rule in_word ended room (x ∷ xs) =
-    let last = (if in_word && ends_piece rule x then Some (x ∷ xs, room) else ended) in
-    if nat_le (rule.size x) room then line_rest rule (not (rule.blank x)) last (room - rule.size x) xs else unwrap_or last (x ∷ xs, room)
+-- the lines of what is left behind a line: none where nothing is
+abbrev pub lines_behind : {A : Type 0} → Rule A → List A → List (List A)
+lines_behind rule [] = []
+lines_behind rule (x ∷ xs) = wrap_kept rule (x ∷ xs)
 
--- what is left behind the first line and the blanks after it
-abbrev pub first_rest : {A : Type 0} → Rule A → List A → List A
-first_rest rule xs =
-    let behind = line_rest rule false None rule.width (line_start rule.blank rule.trim xs) in
-    after_break rule behind.1 behind.0
+-- the lines are one, and then those of what is left behind it
+pub record FirstThen {A : Type 0} (rule : Rule A) (xs rest : List A) : Type 0 where
+  pub first : List A
+  pub lines_are : wrap_kept rule xs ≡ first ∷ lines_behind rule rest

@@ -1,8 +1,8 @@
 //! Where the lines of a text begin.
 
-ghost use Rattle.std.specs.Prelude.{◌≡◌, ◌↔◌, ◌<◌, ◌≤◌, ◌+◌, length, IfOk, IfSome, MatchOption, None, Some};
+ghost use Rattle.std.specs.Prelude.{◌≡◌, ◌↔◌, IfOk, IfSome, MatchOption, None, Some};
 ghost use Rattle.std.specs.Str.{IsUtf8};
-ghost use Rattle.tui_line_places.specs.AfterLine.{ArePlaces, HasAtMost, HasLineCount, IsFromLine};
+ghost use Rattle.tui_line_places.specs.AfterLine.{ArePlaces, HasAtMost, IsFromLine};
 
 use crate::lines::Lines;
 use crate::rest::second_line;
@@ -28,27 +28,13 @@ pub(crate) fn rest_from(text: &str, lines: Lines, line: usize) -> Option<&str>
     Some(rest)
 }
 
-/// How many lines the text has.
-fn count_lines(text: &str, lines: Lines) -> usize
-    ensures count { HasLineCount lines.width lines.trim text.now result }
-    ensures some { 0 < result }
-    ensures few { result ≤ length text.now + 1 }
-{
-    let mut rest = text;
-    let mut count = 1usize;
-    'lines: while let Some(next) = second_line(rest, lines) {
-        rest = next;
-        count += 1;
-    }
-    count
-}
-
 /// Where the lines of a text begin, in bytes, where it is wrapped: from each of these places on, the text has the lines from that one
-/// on. It takes 8 bytes a line, and reads the text twice. `NoMemory` where there is none for the places.
+/// on. It reads the text once, and takes 8 bytes a line and at most as much again in reserve. `NoMemory` where
+/// there is none for the places.
 pub fn line_places(alloc: Global, text: &str, lines: Lines) -> Mem<Vec<usize>>
     ensures { IfOk result (λ places. ArePlaces lines.width lines.trim text.now places.items) }
 {
-    let mut places = Vec::with_capacity(alloc, count_lines(text, lines))?;
+    let mut places = Vec::new(alloc);
     places.push(0)?;
     let mut rest = text;
     'lines: while let Some(next) = second_line(rest, lines) {

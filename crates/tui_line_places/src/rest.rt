@@ -5,7 +5,7 @@ ghost use Rattle.std.specs.Str.{IsUtf8};
 ghost use Rattle.tui_line_places.specs.AfterLine.{IsAfterLine, IsOneLine};
 
 use crate::graphemes::{Next, next_grapheme};
-use crate::line::{line_end, line_start, past_blanks};
+use crate::line::line_rest;
 use crate::lines::Lines;
 
 /// The text from where its second line begins, where it is wrapped; None where it has only one line. The work is that of the line and
@@ -21,9 +21,7 @@ pub fn after_line(text: &str, lines: Lines) -> Option<&str>
 pub(crate) fn second_line(text: &str, lines: Lines) -> Option<&str>
     ensures { MatchOption result (IsOneLine lines.width lines.trim text.now) (λ rest. IsUtf8 rest.now × IsAfterLine lines.width lines.trim text.now rest.now) }
 {
-    let start = line_start(text, lines);
-    let end = line_end(start, lines.width);
-    let rest = past_blanks(end, lines.width);
+    let rest = line_rest(text, lines);
     match next_grapheme(rest, lines.width) {
         Next::Grapheme(_) => Some(rest),
         Next::Over(behind) => if_some(behind),

@@ -14,6 +14,7 @@ mod Lending
 mod Answering
 mod TruncatedOnce
 mod Reading
+pub mod InLine
 mod LineCounts
 mod SaturatedCounts
 mod TextLengths

@@ -31,15 +31,14 @@ pub record Reads {A : Type 0} (rule : Rule A) (c : Counter) (here zs : List A) :
   pub gap : List A
   pub part : List A
   pub start : line_start rule.blank rule.trim here ≡ front ++ (gap ++ (part ++ to_come rule.blank rule.trim c zs))
-  pub front_is : sum_by rule.size front ≡ c.line
-  pub gap_is : sum_by rule.size gap ≡ c.blanks
+  pub used_is : sum_by rule.size front + sum_by rule.size gap + sum_by rule.size part ≡ c.used
   pub part_is : sum_by rule.size part ≡ c.word
   pub blanks : AllBlank rule.blank gap
   pub letters : IsPiece rule part
   pub begun : ((c.begun ≡ true) × (ends_in (no_blank rule.blank) false front ≡ true) × (begins (ends_piece rule) (gap ++ (part ++ zs)) ≡ true)) ⊎ ((c.begun ≡ false) × (front ≡ []))
   pub in_word : ((c.in_word ≡ true) × (part ≢ [])) ⊎ ((c.in_word ≡ false) × (part ≡ []))
   pub some : ((c.some ≡ true) × (here ≢ [])) ⊎ ((c.some ≡ false) × (here ≡ zs))
-  pub fits : c.line + c.blanks + c.word ≤ rule.width
+  pub fits : c.used ≤ rule.width
 
 -- the lines that have ended and those of what stands behind them are n
 pub record Counts {A : Type 0} (rule : Rule A) (c : Counter) (zs : List A) (n : ℕ) : Type 0 where
@@ -48,14 +47,13 @@ pub record Counts {A : Type 0} (rule : Rule A) (c : Counter) (zs : List A) (n : 
   pub lines : (lines : List (List A)) → HasLines rule here lines → c.lines + length lines ≡ n
 
 -- where a line has just ended
-pub fresh : {A : Type 0} (rule : Rule A) (n : ℕ) (zs : List A) → Reads rule (record { lines = n; some = false; begun = false; in_word = false; line = 0; blanks = 0; word = 0 }) zs zs
+abbrev pub fresh : {A : Type 0} (rule : Rule A) (n : ℕ) (zs : List A) → Reads rule (record { lines = n; some = false; begun = false; in_word = false; used = 0; word = 0 }) zs zs
 fresh rule n zs = record {
   front = [];
   gap = [];
   part = [];
   start = refl;
-  front_is = refl;
-  gap_is = refl;
+  used_is = refl;
   part_is = refl;
   blanks = tt;
   letters = tt;
@@ -94,24 +92,20 @@ word_ended rule c here x zs b i r =
     let t : to_come rule.blank rule.trim c (x ∷ zs) ≡ x ∷ zs = going rule.blank rule.trim c (x ∷ zs) (inr i) in
     let s1 = sum_by-append rule.size r.front (r.gap ++ r.part) in
     let s2 = sum_by-append rule.size r.gap r.part in
-    let a = r.front_is in
-    let b' = r.gap_is in
-    let c' = r.part_is in
-    let fits = r.fits in
+    let u = r.used_is in
     record {
       front = r.front ++ (r.gap ++ r.part);
       gap = [];
       part = [];
       start = r.start ∙ rw t (simp append_assoc);
-      front_is = omega arith;
-      gap_is = refl;
+      used_is = omega arith;
       part_is = refl;
       blanks = tt;
       letters = tt;
       begun = inl (refl, e ∙ (f ∙ g), b);
       in_word = inr (refl, refl);
       some = r.some;
-      fits = omega arith;
+      fits = r.fits;
     }
 
 -- the blanks that fit the room go, and one more
@@ -184,11 +178,9 @@ one_piece_is rule (y ∷ gap) part h l =
     rw b (ap (λ t. y ∷ t) (one_piece_is rule gap part h.1 l))
 
 -- the line that ends where a word has ended
-pub soft_line : {A : Type 0} (rule : Rule A) (c : Counter) (here : List A) (x : A) (zs : List A) (r : Reads rule c here (x ∷ zs)) → c.begun ≡ true → rule.width < c.line + c.blanks + c.word + rule.size x → sum_by rule.size r.part + rule.size x ≤ sum_by rule.size (next_piece rule (r.part ++ x ∷ zs)) → IsNextLine rule here r.front (after_break rule (rule.width - sum_by rule.size r.front - sum_by rule.size r.gap) (r.part ++ x ∷ zs))
+pub soft_line : {A : Type 0} (rule : Rule A) (c : Counter) (here : List A) (x : A) (zs : List A) (r : Reads rule c here (x ∷ zs)) → c.begun ≡ true → rule.width < c.used + rule.size x → sum_by rule.size r.part + rule.size x ≤ sum_by rule.size (next_piece rule (r.part ++ x ∷ zs)) → IsNextLine rule here r.front (after_break rule (rule.width - sum_by rule.size r.front - sum_by rule.size r.gap) (r.part ++ x ∷ zs))
 soft_line rule c here x zs r b o h =
-    let f = r.front_is in
-    let g = r.gap_is in
-    let p = r.part_is in
+    let u = r.used_is in
     let fits = r.fits in
     let t : to_come rule.blank rule.trim c (x ∷ zs) ≡ x ∷ zs = going rule.blank rule.trim c (x ∷ zs) (inl b) in
     let n = next_piece_has rule r.gap (r.part ++ x ∷ zs) r.blanks in
@@ -201,11 +193,9 @@ soft_line rule c here x zs r b o h =
     }
 
 -- the line that ends within its first word, or before it
-pub hard_line : {A : Type 0} (rule : Rule A) (c : Counter) (here : List A) (x : A) (zs : List A) (r : Reads rule c here (x ∷ zs)) → c.begun ≡ false → rule.width < c.line + c.blanks + c.word + rule.size x → to_come rule.blank rule.trim c (x ∷ zs) ≡ x ∷ zs → IsNextLine rule here (r.gap ++ r.part) (after_break rule (rule.width - sum_by rule.size (r.gap ++ r.part)) (x ∷ zs))
+pub hard_line : {A : Type 0} (rule : Rule A) (c : Counter) (here : List A) (x : A) (zs : List A) (r : Reads rule c here (x ∷ zs)) → c.begun ≡ false → rule.width < c.used + rule.size x → to_come rule.blank rule.trim c (x ∷ zs) ≡ x ∷ zs → IsNextLine rule here (r.gap ++ r.part) (after_break rule (rule.width - sum_by rule.size (r.gap ++ r.part)) (x ∷ zs))
 hard_line rule c here x zs r b o t =
-    let f = r.front_is in
-    let g = r.gap_is in
-    let p = r.part_is in
+    let u = r.used_is in
     let fits = r.fits in
     let nil : r.front ≡ [] = ⊎_elim (λ q. absurd (cc)) (λ q. q.1) r.begun in
     let zero_front = ap (sum_by rule.size) nil in
@@ -216,10 +206,6 @@ hard_line rule c here x zs r b o t =
       line_is = record { fits = omega arith; breaks = inr (inr (inr (record { one_piece = one_piece_is rule r.gap r.part r.blanks r.letters; too_wide = omega arith }))) };
       rest_is = refl;
     }
-
--- a line that ends is counted
-pub line_ends : {A : Type 0} (rule : Rule A) (m n : ℕ) (here line rest : List A) → here ≢ [] → IsNextLine rule here line rest → ((lines : List (List A)) → HasLines rule here lines → m + length lines ≡ n) → (lines : List (List A)) → HasLines rule rest lines → m + 1 + length lines ≡ n
-line_ends rule m n here line rest some l h = λ lines g. let e = h (line ∷ lines) (some, rest, l, g) in omega arith
 
 -- something stands there where something is to be read
 pub here_some : {A : Type 0} (rule : Rule A) (c : Counter) (here : List A) (x : A) (zs : List A) → Reads rule c here (x ∷ zs) → here ≢ []
@@ -237,21 +223,21 @@ pub blank_push : {A : Type 0} (blank : A → Bool) (gap : List A) (x : A) → Al
 blank_push blank [] x h b = (b, tt)
 blank_push blank (y ∷ gap) x h b = (h.0, blank_push blank gap x h.1 b)
 
-pub letter_added : {A : Type 0} (rule : Rule A) (c : Counter) (here : List A) (x : A) (zs : List A) → rule.blank x ≡ false → c.line + c.blanks + c.word + rule.size x ≤ rule.width → (r : Reads rule c here (x ∷ zs)) → GoesOn rule r.part x → Reads rule (add_letter c (rule.size x)) here zs
+abbrev pub letter_added : {A : Type 0} (rule : Rule A) (c : Counter) (here : List A) (x : A) (zs : List A) → rule.blank x ≡ false → c.used + rule.size x ≤ rule.width → (r : Reads rule c here (x ∷ zs)) → GoesOn rule r.part x → Reads rule (add_letter c (rule.size x)) here zs
 letter_added rule c here x zs b o r goes =
+    let u = r.used_is in
     let p = r.part_is in
     let s = sum_by_push rule.size r.part x in
     let e : r.part ++ x ∷ zs ≡ (r.part ++ x ∷ []) ++ zs = sym (append_assoc r.part (x ∷ []) zs) in
     let t = to_letter rule.blank rule.trim c x zs b in
-    let u : to_come rule.blank rule.trim (add_letter c (rule.size x)) zs ≡ zs = going rule.blank rule.trim (add_letter c (rule.size x)) zs (inr refl) in
-    let same : r.part ++ to_come rule.blank rule.trim c (x ∷ zs) ≡ (r.part ++ x ∷ []) ++ to_come rule.blank rule.trim (add_letter c (rule.size x)) zs = ap (λ q. r.part ++ q) t ∙ (e ∙ ap (λ q. (r.part ++ x ∷ []) ++ q) (sym u)) in
+    let v : to_come rule.blank rule.trim (add_letter c (rule.size x)) zs ≡ zs = going rule.blank rule.trim (add_letter c (rule.size x)) zs (inr refl) in
+    let same : r.part ++ to_come rule.blank rule.trim c (x ∷ zs) ≡ (r.part ++ x ∷ []) ++ to_come rule.blank rule.trim (add_letter c (rule.size x)) zs = ap (λ q. r.part ++ q) t ∙ (e ∙ ap (λ q. (r.part ++ x ∷ []) ++ q) (sym v)) in
     record {
       front = r.front;
       gap = r.gap;
       part = r.part ++ x ∷ [];
       start = r.start ∙ ap (λ q. r.front ++ (r.gap ++ q)) same;
-      front_is = r.front_is;
-      gap_is = r.gap_is;
+      used_is = omega arith;
       part_is = omega arith;
       blanks = r.blanks;
       letters = piece_push rule r.part x r.letters b goes;
@@ -261,10 +247,11 @@ letter_added rule c here x zs b o r goes =
       fits = omega arith;
     }
 
-pub blank_added : {A : Type 0} (rule : Rule A) (c : Counter) (here : List A) (x : A) (zs : List A) → rule.blank x ≡ true → c.in_word ≡ false → c.line + c.blanks + c.word + rule.size x ≤ rule.width → to_come rule.blank rule.trim c (x ∷ zs) ≡ x ∷ zs → to_come rule.blank rule.trim (add_blank c (rule.size x)) zs ≡ zs → Reads rule c here (x ∷ zs) → Reads rule (add_blank c (rule.size x)) here zs
+pub blank_added : {A : Type 0} (rule : Rule A) (c : Counter) (here : List A) (x : A) (zs : List A) → rule.blank x ≡ true → c.in_word ≡ false → c.used + rule.size x ≤ rule.width → to_come rule.blank rule.trim c (x ∷ zs) ≡ x ∷ zs → to_come rule.blank rule.trim (add_blank c (rule.size x)) zs ≡ zs → Reads rule c here (x ∷ zs) → Reads rule (add_blank c (rule.size x)) here zs
 blank_added rule c here x zs b i o t u r =
-    let g = r.gap_is in
+    let n = r.used_is in
     let nil : r.part ≡ [] = ⊎_elim (λ q. absurd (cc)) (λ q. q.1) r.in_word in
+    let zero_part = ap (sum_by rule.size) nil in
     let s = sum_by_push rule.size r.gap x in
     let e : r.gap ++ x ∷ zs ≡ (r.gap ++ x ∷ []) ++ zs = sym (append_assoc r.gap (x ∷ []) zs) in
     let same : r.gap ++ (r.part ++ to_come rule.blank rule.trim c (x ∷ zs)) ≡ (r.gap ++ x ∷ []) ++ to_come rule.blank rule.trim (add_blank c (rule.size x)) zs = rw (nil, t, u) e in
@@ -273,8 +260,7 @@ blank_added rule c here x zs b i o t u r =
       gap = r.gap ++ x ∷ [];
       part = [];
       start = r.start ∙ ap (λ q. r.front ++ q) same;
-      front_is = r.front_is;
-      gap_is = omega arith;
+      used_is = omega arith;
       part_is = ap (sum_by rule.size) (sym nil) ∙ r.part_is;
       blanks = blank_push rule.blank r.gap x r.blanks b;
       letters = tt;
@@ -298,8 +284,7 @@ blank_skipped rule c here x zs tr b i f r =
       gap = r.gap;
       part = r.part;
       start = r.start ∙ ap (λ q. r.front ++ (r.gap ++ (r.part ++ q))) t;
-      front_is = r.front_is;
-      gap_is = r.gap_is;
+      used_is = r.used_is;
       part_is = r.part_is;
       blanks = r.blanks;
       letters = r.letters;

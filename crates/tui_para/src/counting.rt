@@ -1,12 +1,13 @@
 //! Counting the lines of texts that are wrapped.
 
-ghost use Rattle.std.specs.Prelude.{◌≡◌, ◌<◌, ◌^◌};
+ghost use Rattle.std.specs.Prelude.{◌≡◌};
 ghost use Rattle.tui_para.specs.Counting.{wrapped_len, wrapped_text_len};
 ghost use Rattle.tui_text.specs.Line.{line_data};
 ghost use Rattle.tui_text.specs.Text.{text_data};
 ghost use Rattle.tui_clusters.specs.Width.{saturated};
 
-mod counter;
+pub mod counter;
+pub mod line_end;
 
 use crate::counting::counter::Counter;
 use crate::wrap::Wrap;
@@ -15,16 +16,15 @@ use tui_cells::Style;
 use tui_text::{Line, Text};
 
 /// How many lines a text line is wrapped into, saturated at the greatest number of 64 bits.
-fn line_count(line: &Line<'_>, base: Style, width: usize, wrap: Wrap) -> usize
-    requires { width < 2 ^ 16 }
+fn line_count(line: &Line<'_>, base: Style, width: u16, wrap: Wrap) -> usize
     ensures { result ≡ saturated (wrapped_len width wrap base (line_data line.now)) }
 {
     let mut counter = Counter::new();
     let mut hyphenation = Hyphenation::new(wrap.hyphens);
     for grapheme in line.styled_graphemes(base) {
         let (mark, behind) = hyphenation.mark(&grapheme);
-        if usize::from(mark.width) <= width {
-            counter.read(mark, width, wrap.trim);
+        if mark.width <= width {
+            counter.read(mark, width, wrap);
             hyphenation = behind;
         }
     }
@@ -32,8 +32,7 @@ fn line_count(line: &Line<'_>, base: Style, width: usize, wrap: Wrap) -> usize
 }
 
 /// How many lines the text lines are wrapped into together, saturated at the greatest number of 64 bits.
-pub(crate) fn wrapped_count(text: &Text<'_>, width: usize, wrap: Wrap) -> usize
-    requires { width < 2 ^ 16 }
+pub(crate) fn wrapped_count(text: &Text<'_>, width: u16, wrap: Wrap) -> usize
     ensures { result ≡ saturated (wrapped_text_len width wrap (text_data text.now)) }
 {
     let base = text.text_style();

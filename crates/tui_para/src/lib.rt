@@ -17,6 +17,8 @@ pub mod wrapper;
 mod wrapping;
 
 pub use composer::{LineComposer, WrappedLine};
+pub use counting::counter::Counter;
+pub use counting::line_end::LineEnd;
 pub use laws::{
     text_truncates_exactly_once, text_truncator_lends_one, text_wrapper_lends_one,
     text_wraps_exactly_once, truncates_exactly_once, truncator_lends_some,
@@ -30,3 +32,4 @@ pub use text_lines::TextLines;
 pub use truncator::LineTruncator;
 pub use wrap::Wrap;
 pub use wrapper::WordWrapper;
+pub use wrapping::mark::Mark;

@@ -184,7 +184,7 @@ impl<'a> Paragraph<'a> {
     {
         match self.wrap {
             None => self.text.height(),
-            Some(wrap) => wrapped_count(&self.text, usize::from(width), wrap),
+            Some(wrap) => wrapped_count(&self.text, width, wrap),
         }
     }
 

@@ -2,7 +2,7 @@
 
 mod breaking;
 pub(crate) mod hyphenation;
-pub(crate) mod mark;
+pub mod mark;
 mod marked;
 pub(crate) mod part;
 mod prefix;

@@ -1,27 +1,35 @@
-//! Counting the lines of one text line from numbers alone.
+//! Where the lines of one text line end, and how many they are, from numbers alone.
 
-ghost use Rattle.std.specs.Prelude.{◌≡◌, if◌then◌else◌, ◌+◌, ◌≤◌, ◌<◌, ◌^◌};
+ghost use Rattle.std.specs.Prelude.{◌≡◌, ◌+◌, ◌<◌, ◌≤◌, ◌^◌, if◌then◌else◌, false, true, MatchOption};
 ghost use Rattle.tui_clusters.specs.Width.{saturated};
 ghost use Rattle.tui_para.specs.Mark.{ends_before};
 ghost use Rattle.tui_para.specs.Counting.{
+  Fits,
+  add_blank,
   add_letter,
-  after_word,
+  after_piece,
   counted,
-  saturated_count,
+  end_at,
   end_line,
-  hard,
+  ended_with,
+  leaves_out,
+  line_end,
   no_lines,
-  on_blank,
-  soft,
+  overflows,
+  read_at,
+  read_in,
+  saturated_count,
   step,
   take_word_along,
 };
 
+use crate::counting::line_end::LineEnd;
+use crate::wrap::Wrap;
 use crate::wrapping::mark::Mark;
 
 /// The lines of the graphemes that were read, and how the last of them goes on.
 #[derive(Clone, Copy, Debug)]
-pub(crate) struct Counter {
+pub struct Counter {
     /// The lines that have ended, saturated at the greatest number of 64 bits.
     lines: usize,
     /// A grapheme stands behind the last line that has ended.
@@ -30,16 +38,15 @@ pub(crate) struct Counter {
     begun: bool,
     /// A piece of a word is under way.
     in_word: bool,
-    /// The width of the line up to the end of its last piece.
-    line: usize,
-    /// The width of the blanks since.
-    blanks: usize,
-    /// The width of the piece since.
-    word: usize,
+    /// The width of the line under way.
+    used: u32,
+    /// The width of the piece of a word with which it ends.
+    word: u32,
 }
 
 impl Counter {
-    pub(crate) fn new() -> Counter
+    /// Before any grapheme.
+    pub fn new() -> Counter
         ensures { result ≡ no_lines }
     {
         Counter {
@@ -47,26 +54,87 @@ impl Counter {
             some: false,
             begun: false,
             in_word: false,
-            line: 0,
-            blanks: 0,
+            used: 0,
             word: 0,
         }
     }
 
+    /// Whether a piece of a word is under way, which a letter goes on with.
+    pub fn is_in_word(&self) -> bool
+        ensures { result ≡ self.now.in_word }
+    {
+        self.in_word
+    }
+
+    /// Reads one grapheme more of a text line that is wrapped to `width` columns, unless the line under way has no room for it: then it
+    /// says where that line ends.
+    #[inline(always)]
+    pub fn read_in_line(&mut self, mark: Mark, width: u16, wrap: Wrap) -> Option<LineEnd>
+        ensures end { Fits width self.old
+            → result ≡ line_end width wrap.trim (after_piece self.old (ends_before mark)) mark.width mark.blank }
+        ensures new { Fits width self.old → MatchOption result
+            (self.new ≡ read_in wrap.trim (after_piece self.old (ends_before mark)) mark.width mark.blank)
+            (λ _. self.new ≡ after_piece self.old (ends_before mark)) }
+    {
+        self.end_piece(mark.ends_piece());
+        if self.leaves_out(mark.blank, wrap.trim) {
+            self.some = true;
+            return None;
+        }
+        if self.overflows(mark.width, width) {
+            return Some(self.line_end(mark.blank));
+        }
+        self.add(mark.width, mark.blank);
+        None
+    }
+
     /// Reads one grapheme more, which is not wider than a line.
-    pub(crate) fn read(&mut self, mark: Mark, width: usize, trim: bool)
-        requires width { width < 2 ^ 16 }
+    #[inline(always)]
+    pub(crate) fn read(&mut self, mark: Mark, width: u16, wrap: Wrap)
         requires small { mark.width ≤ width }
-        requires fits { self.old.line + self.old.blanks + self.old.word ≤ width }
-        ensures step { saturated_count self.new ≡ saturated_count (step width trim self.old mark.width (ends_before mark) mark.blank) }
-        ensures fits { self.new.line + self.new.blanks + self.new.word ≤ width }
+        requires fits { Fits width self.old }
+        ensures step { saturated_count self.new ≡ saturated_count (step width wrap.trim self.old mark.width (ends_before mark) mark.blank) }
+        ensures fits { Fits width self.new }
     {
         self.end_piece(mark.ends_piece());
         if mark.blank {
-            self.read_blank(usize::from(mark.width), width, trim);
+            self.read_blank(mark.width, width, wrap.trim);
         } else {
-            self.read_letter(usize::from(mark.width), width);
+            self.read_letter(mark.width, width, wrap.trim);
         }
+    }
+
+    #[inline(always)]
+    fn read_blank(&mut self, size: u16, width: u16, trim: bool)
+        requires small { size ≤ width }
+        requires fits { Fits width self.old }
+        ensures read { saturated_count self.new ≡ saturated_count (read_at width self.old size (read_in trim self.old size true) (line_end width trim self.old size true)) }
+        ensures fits { Fits width self.new }
+    {
+        if trim && !self.begun {
+            self.some = true;
+        } else if self.overflows(size, width) {
+            self.end_line();
+        } else {
+            self.used += u32::from(size);
+            self.some = true;
+        }
+    }
+
+    #[inline(always)]
+    fn read_letter(&mut self, size: u16, width: u16, trim: bool)
+        requires small { size ≤ width }
+        requires fits { Fits width self.old }
+        ensures read { saturated_count self.new ≡ saturated_count (read_at width self.old size (read_in trim self.old size false) (line_end width trim self.old size false)) }
+        ensures fits { Fits width self.new }
+    {
+        if self.overflows(size, width) {
+            self.end_before(size, width);
+        }
+        self.used += u32::from(size);
+        self.word += u32::from(size);
+        self.in_word = true;
+        self.some = true;
     }
 
     /// The lines, with the one that is under way.
@@ -81,16 +149,80 @@ impl Counter {
     }
 
     /// Ends the piece of a word that is under way, where one ends here.
+    #[inline(always)]
     fn end_piece(&mut self, ends: bool)
-        requires { self.old.line + self.old.blanks + self.old.word < 2 ^ 64 }
-        ensures { self.new ≡ (if ends then after_word self.old else self.old) }
+        ensures { self.new ≡ after_piece self.old ends }
     {
         if ends && self.in_word {
-            self.line = self.line + self.blanks + self.word;
-            self.blanks = 0;
             self.word = 0;
             self.in_word = false;
             self.begun = true;
+        }
+    }
+
+    /// Whether a line's beginning leaves out what comes.
+    #[inline(always)]
+    fn leaves_out(&self, blank: bool, trim: bool) -> bool
+        ensures { result ≡ leaves_out trim self.now blank }
+    {
+        blank && trim && !self.begun
+    }
+
+    #[inline(always)]
+    fn overflows(&self, size: u16, width: u16) -> bool
+        ensures { result ≡ overflows width self.now size }
+    {
+        u64::from(self.used) + u64::from(size) > u64::from(width)
+    }
+
+    /// Where the line under way ends if there is no room for what comes.
+    fn line_end(&self, blank: bool) -> LineEnd
+        ensures { result ≡ end_at self.now blank }
+    {
+        if blank {
+            LineEnd::BehindBlank
+        } else if self.begun {
+            LineEnd::BeforeWord
+        } else {
+            LineEnd::WithinWord
+        }
+    }
+
+    /// Takes what there is room for into the line under way.
+    #[inline(always)]
+    fn add(&mut self, size: u16, blank: bool)
+        requires room { self.old.used + size < 2 ^ 32 }
+        ensures { self.old.word ≤ self.old.used → self.new ≡ (if blank then add_blank self.old size else add_letter self.old size) }
+    {
+        self.used += u32::from(size);
+        self.some = true;
+        if !blank {
+            self.word = self.word.saturating_add(u32::from(size));
+            self.in_word = true;
+        }
+    }
+
+    /// Ends the line under way before a letter for which it has no room, and the one after it if that has none either.
+    fn end_before(&mut self, size: u16, width: u16)
+        requires small { size ≤ width }
+        requires fits { Fits width self.old }
+        requires full { overflows width self.old size ≡ true }
+        ensures lines { saturated_count (add_letter self.new size) ≡ saturated_count (ended_with width self.old size (end_at self.old false)) }
+        ensures room { (self.new.used + size ≤ width) × (self.new.word ≤ self.new.used) }
+    {
+        if self.begun {
+            self.take_word_along();
+            self.end_full_line(size, width);
+        } else {
+            self.end_line();
+        }
+    }
+
+    fn end_full_line(&mut self, size: u16, width: u16)
+        ensures { self.new ≡ (if overflows width self.old size then saturated_count (end_line self.old) else self.old) }
+    {
+        if self.overflows(size, width) {
+            self.end_line();
         }
     }
 
@@ -103,35 +235,6 @@ impl Counter {
         };
     }
 
-    fn read_blank(&mut self, size: usize, width: usize, trim: bool)
-        requires fits { self.old.line + self.old.blanks + self.old.word + size < 2 ^ 64 }
-        ensures { saturated_count self.new ≡ saturated_count (on_blank width trim self.old size) }
-    {
-        if trim && !self.begun {
-            self.some = true;
-        } else if self.line + self.blanks + self.word + size > width {
-            self.end_line();
-        } else {
-            self.blanks += size;
-            self.some = true;
-        }
-    }
-
-    fn read_letter(&mut self, size: usize, width: usize)
-        requires fits { self.old.line + self.old.blanks + self.old.word + size < 2 ^ 64 }
-        ensures { saturated_count self.new ≡ saturated_count (add_letter (hard width (soft width self.old size) size) size) }
-    {
-        if self.begun && self.line + self.blanks + self.word + size > width {
-            self.take_word_along();
-        }
-        if self.line + self.blanks + self.word + size > width {
-            self.end_line();
-        }
-        self.word += size;
-        self.in_word = true;
-        self.some = true;
-    }
-
     /// Ends the line before the piece that is under way.
     fn take_word_along(&mut self)
         ensures { self.new ≡ saturated_count (take_word_along self.old) }
@@ -139,7 +242,6 @@ impl Counter {
         self.lines = self.lines.saturating_add(1);
         self.some = true;
         self.begun = false;
-        self.line = 0;
-        self.blanks = 0;
+        self.used = self.word;
     }
 }

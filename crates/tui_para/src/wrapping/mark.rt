@@ -6,10 +6,12 @@ ghost use Rattle.tui_para.specs.Mark.{ends_before, mark_of};
 
 use tui_text::{StyledGrapheme, cell_width, printable_byte};
 
-/// The width of a grapheme, and whether it is a blank.
+/// What wrapping sees of a grapheme.
 #[derive(Clone, Copy, Debug, PartialEq, Eq)]
-pub(crate) struct Mark {
+pub struct Mark {
+    /// Its columns.
     pub width: u16,
+    /// It is a blank.
     pub blank: bool,
     /// Its word is split directly before it.
     pub split: bool,

@@ -1,4 +1,4 @@
-use Rattle.std.proofs.Common.{◌<◌, nat_eq, length, slice_index, refl, ap, arith, rules}
+use Rattle.std.proofs.Common.{◌<◌, nat_eq, length, slice_index, ap, arith, rules}
 use Rattle.std.specs.Str.{IsUtf8}
 use Rattle.tui_line_places.proofs.Printable.{printable_next}
 use Rattle.tui_line_places.proofs.graphemes.printable_grapheme.Goals as goal

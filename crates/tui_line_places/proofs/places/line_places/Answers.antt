@@ -6,7 +6,7 @@ use Rattle.tui_line_places.proofs.places.line_places.Goals as goal
 
 pub lines-init : goal.lines-init
 lines-init c =
-    let first = c.in_ok-push.ensures.items ∙ ap (λ xs. xs ++ 0 ∷ []) c.in_ok-places.ensures.items in
+    let first = c.in_ok-push.ensures.items ∙ ap (λ xs. xs ++ 0 ∷ []) c.new-places.ensures.items in
     (c.utf8.text, subst (λ xs. HasPassed c.args.lines.width c.args.lines.trim c.args.text.now xs c.args.text.now) (sym first) (first_place c.args.lines.width c.args.lines.trim c.args.text.now c.utf8.text))
 
 pub lines-smaller : goal.lines-smaller
@@ -19,5 +19,5 @@ lines-preserved c =
     let next = c.in-Some.ensures in (
       next.0,
       subst (λ xs. HasPassed c.args.lines.width c.args.lines.trim c.args.text.now xs c.in-Some.next.now) (sym c.in_ok-push-2.ensures.items)
-          (place_next c.args.lines.width c.args.lines.trim c.args.text.now c.lines.rest.now c.in-Some.next.now c.lines.invariant.0 next.0 next.1 c.lines.places.items c.lines.invariant.1),
+          (place_next c.args.lines.width c.args.lines.trim c.args.text.now c.lines.rest.now c.in-Some.next.now next.0 next.1 c.lines.places.items c.lines.invariant.1),
     )

@@ -1,13 +1,12 @@
-use Rattle.std.proofs.Common.{◌≡◌, ◌≤◌, ◌+◌, [], ap, sym, subst, ◌∙◌, arith}
+use Rattle.std.proofs.Common.{◌≡◌, [], ap, sym, subst, ◌∙◌, arith}
 use Rattle.std.specs.Prelude.{length}
 use Rattle.tui_text.specs.Grapheme.{glyph_of, glyph_width}
 use Rattle.tui_text.specs.Graphemes.{glyphs_left, line_graphemes}
 use Rattle.tui_text.specs.Line.{line_data}
-use Rattle.tui_para.specs.Counting.{saturated_count, no_lines, steps}
+use Rattle.tui_para.specs.Counting.{Fits, saturated_count, no_lines, steps}
 use Rattle.tui_para.specs.Hyphenation.{marked_from}
 use Rattle.tui_para.specs.Hyphens.{glyph_rule, with_splits, wrap}
 use Rattle.tui_para.specs.Wrapped.{not_wider}
-use Rattle.tui_para.specs.declared.counting.counter.Counter.{Counter}
 use Rattle.tui_para.proofs.SaturatedCounts.{begun_counts, saturated_counts, one_read}
 use Rattle.tui_para.proofs.WithSplits.{counted_lines}
 use Rattle.tui_para.proofs.counting.line_count.Goals as goal
@@ -17,17 +16,15 @@ loop-grapheme-init c =
     record {
       numbers = begun_counts c.args.width c.args.wrap c.new-counter.result c.new-hyphenation.result (glyphs_left c.into_iter-grapheme-iterator.result) (line_graphemes c.args.base (line_data c.args.line.now))
           c.new-counter.ensures c.new-hyphenation.ensures (ap glyphs_left c.into_iter-grapheme-iterator.ensures.into_iter_gives ∙ c.styled_graphemes-grapheme-items.ensures);
-      fits = subst (λ (k : Counter). k.line + k.blanks + k.word ≤ c.args.width) (sym c.new-counter.ensures) (omega arith);
+      fits = subst (Fits c.args.width) (sym c.new-counter.ensures) (omega arith, omega arith);
     }
 
-pub loop-grapheme-preserved-then-from-width : goal.loop-grapheme-preserved-then-from-width
-loop-grapheme-preserved-then-from-width c =
+pub loop-grapheme-preserved-then-mark-width : goal.loop-grapheme-preserved-then-mark-width
+loop-grapheme-preserved-then-mark-width c =
     let mark = c.mark-behind.ensures in
-    let size = c.from.ensures in
-    let small = c.if-from-width.true in
     record {
       numbers = one_read c.args.width c.args.wrap c.loop-grapheme.hyphenation c.mark-behind.result.1 c.mark-behind.result.0 (glyph_of c.in-Some.grapheme) (glyphs_left c.next.new.self) (glyphs_left c.loop-grapheme.grapheme-iterator)
-          c.in-Some.ensures.steps mark.mark c.loop-grapheme.counter c.read.new.self mark.behind (omega arith) c.read.ensures.step ∙ c.loop-grapheme.invariant.numbers;
+          c.in-Some.ensures.steps mark.mark c.loop-grapheme.counter c.read.new.self mark.behind c.if-mark-width.true c.read.ensures.step ∙ c.loop-grapheme.invariant.numbers;
       fits = c.read.ensures.fits;
     }
 

@@ -1,5 +1,5 @@
-use Rattle.std.proofs.Common.{◌≡◌, ◌≤◌, ◌+◌, []}
-use Rattle.tui_para.specs.Counting.{saturated_count, no_lines, steps}
+use Rattle.std.proofs.Common.{◌≡◌, []}
+use Rattle.tui_para.specs.Counting.{Fits, saturated_count, no_lines, steps}
 use Rattle.tui_para.specs.Hyphenation.{marked_from}
 use Rattle.tui_para.specs.Hyphens.{glyph_rule, with_splits}
 use Rattle.tui_para.specs.Wrapped.{not_wider}
@@ -14,5 +14,5 @@ invariant-loop-grapheme l =
     record {
       numbers : saturated_count (steps rule l.counter (marked_from l.hyphenation (not_wider glyph_width l.width (glyphs_left l.grapheme-iterator))))
           ≡ saturated_count (steps rule no_lines (with_splits l.wrap.hyphens [] (not_wider glyph_width l.width (line_graphemes l.fn.base (line_data l.line)))));
-      fits : l.counter.line + l.counter.blanks + l.counter.word ≤ l.width;
+      fits : Fits l.width l.counter;
     }

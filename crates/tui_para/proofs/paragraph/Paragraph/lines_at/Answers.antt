@@ -9,12 +9,12 @@ pub returns-in-Some-clause-wrapped : goal.returns-in-Some-clause-wrapped
 returns-in-Some-clause-wrapped c =
     let text = text_data c.args.self.now.text in
     let way = c.in-Some.wrap in
-    let count : c.wrapped_count.result ≡ saturated (wrapped_text_len c.args.width way text) = c.wrapped_count.ensures ∙ ap (λ w. saturated (wrapped_text_len w way text)) c.from.ensures in
+    let count : c.wrapped_count.result ≡ saturated (wrapped_text_len c.args.width way text) = c.wrapped_count.ensures in
     rw c.in-Some.is (λ lines h. count ∙ ap saturated (sym (length-shown c.args.width way c.args.self.now.alignment text.style text.lines lines h)))
 
 pub returns-in-Some-clause-fewest : goal.returns-in-Some-clause-fewest
 returns-in-Some-clause-fewest c = λ wraps off words spaced.
     let text = text_data c.args.self.now.text in
     let way = c.in-Some.wrap in
-    let count : c.wrapped_count.result ≡ saturated (wrapped_text_len c.args.width way text) = c.wrapped_count.ensures ∙ ap (λ w. saturated (wrapped_text_len w way text)) c.from.ensures in
+    let count : c.wrapped_count.result ≡ saturated (wrapped_text_len c.args.width way text) = c.wrapped_count.ensures in
     (wrapped_len c.args.width way text.style, fewest_of_text c.args.width way text words (rw c.in-Some.is at off) c.requires spaced, count)
