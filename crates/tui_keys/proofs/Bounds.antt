@@ -1,5 +1,5 @@
 -- Numbers and letters of events are within their bounds, and a paste begins only at its beginning.
-use Rattle.std.proofs.Common.{◌≡◌, ◌≢◌, ◌<◌, ◌≤◌, ℕ, List, ◌++◌, sym, subst, ◌∙◌, ◌+◌, ◌-◌, ◌*◌, ◌%◌, Bool, true, false, ◌&&◌, ◌||◌, not, ◌==◌, nat_lt, [], ◌∷◌, All, Option, None, Some, refl, if◌then◌else◌, arith}
+use Rattle.std.proofs.Common.{◌≡◌, ◌≢◌, ◌<◌, ◌≤◌, ℕ, sym, subst, ◌∙◌, ◌+◌, ◌-◌, ◌*◌, ◌%◌, Bool, true, false, ◌&&◌, ◌||◌, not, ◌==◌, nat_lt, [], ◌∷◌, All, Option, None, Some, refl, if◌then◌else◌, arith}
 use Rattle.std.specs.Option.{option_map}
 use Rattle.std.proofs.lemmas.Bool.Decides.{nat_tests}
 use Rattle.std.proofs.lemmas.List.Elements.{All-append, All-cons, All-nil, All-weaker}
@@ -15,7 +15,7 @@ use Rattle.tui_keys.specs.declared.keys.Pending.TheVariants.{Nothing, Escape, Br
 use Rattle.tui_keys.specs.declared.keys.Step.{Step}
 use Rattle.tui_keys.specs.Events.{events_of, made, some_of}
 use Rattle.tui_keys.specs.Laws.{EventsAreBounded, IsOutside, OnlyBeginBegins, OutsideIsOutside}
-use Rattle.tui_keys.specs.Sent.{IsBounded, IsNoneOf, IsSize}
+use Rattle.tui_keys.specs.Sent.{IsBounded, IsSize}
 use Rattle.tui_keys.specs.Steps.{after_bracket, after_escape, after_ss3, begin, begins_paste, broken_by, character_of, console_key, ends_answer, in_answer, in_character, in_console, in_paste, in_sequence, is_size, lead, letter, modifiers_of, moved, no_numbers, nul, one, opens_answer, pasted, pasted_event, plain, sequence_of, size_of, stepped, tilde, told, typed, waits}
 
 -- outside a paste
@@ -61,7 +61,8 @@ of_waits p = record { first = All-nil IsTyped; second = All-nil IsTyped; opens =
 of_lead : (alt : Bool) (b : ℕ) → Fits (lead alt b)
 unfolding lead
 of_lead alt b =
-    choose (nat_lt b 194) _ _ (of_one events.Unknown (tt, tt)) (choose (nat_lt b 224) _ _ (of_waits _) (choose (nat_lt b 240) _ _ (of_waits _) (choose (nat_lt b 245) _ _ (of_waits _) (of_one events.Unknown (tt, tt)))))
+    choose (nat_lt b 194) _ _ (of_one events.Unknown (tt, tt)) (choose (nat_lt b 224) _ _ (of_waits _) (choose (nat_lt b 240) _ _ (of_waits _)
+    (choose (nat_lt b 245) _ _ (of_waits _) (of_one events.Unknown (tt, tt)))))
 
 -- a letter with Ctrl
 control_fits : (b : ℕ) → 0 < b → (b == 8) ≡ false → (b == 9) ≡ false → (b == 10) ≡ false → (b == 13) ≡ false → nat_lt b 27 ≡ true →
@@ -72,8 +73,15 @@ control_fits b low eight nine ten thirteen high =
     let i : b + 96 ≢ 105 = grind (arith, nat_tests) in
     let j : b + 96 ≢ 106 = grind (arith, nat_tests) in
     let m : b + 96 ≢ 109 = grind (arith, nat_tests) in
-    let differs = λ (k : ℕ). b + 96 ≢ k in
-    ((omega arith, omega arith, All-cons differs 104 (105 ∷ 106 ∷ 109 ∷ []) h (All-cons differs 105 (106 ∷ 109 ∷ []) i (All-cons differs 106 (109 ∷ []) j (All-cons differs 109 [] m (All-nil differs))))), tt)
+    let differs = λ (k : ℕ). b + 96 ≢ k in (
+      (
+        omega arith,
+        omega arith,
+        All-cons differs 104 (105 ∷ 106 ∷ 109 ∷ []) h (All-cons differs 105 (106 ∷ 109 ∷ []) i (All-cons differs 106
+            (109 ∷ []) j (All-cons differs 109 [] m (All-nil differs)))),
+      ),
+      tt,
+    )
 
 of_begin : (b : ℕ) → 0 < b → Fits (begin b)
 unfolding begin
@@ -104,17 +112,26 @@ of_moved n m =
 of_letter : (n b : ℕ) → IsTyped (letter n b)
 unfolding letter
 of_letter n b =
-    either (b == 65) _ _ (of_moved n motions.Up) (either (b == 66) _ _ (of_moved n motions.Down) (either (b == 67) _ _ (of_moved n motions.Right) (either (b == 68) _ _ (of_moved n motions.Left) (either (b == 70) _ _ (of_moved n motions.End)
-    (either (b == 72) _ _ (of_moved n motions.Home) (either (b == 80) (events.F 1) _ ((omega arith, omega arith), tt) (either (b == 81) (events.F 2) _ ((omega arith, omega arith), tt) (either (b == 82) (events.F 3) _ ((omega arith, omega arith), tt) (either (b == 83) (events.F 4) _ ((omega arith, omega arith), tt)
+    either (b == 65) _ _ (of_moved n motions.Up) (either (b == 66) _ _ (of_moved n motions.Down) (either (b == 67) _ _ (of_moved n motions.Right)
+    (either (b == 68) _ _ (of_moved n motions.Left) (either (b == 70) _ _ (of_moved n motions.End)
+    (either (b == 72) _ _ (of_moved n motions.Home) (either (b == 80) (events.F 1) _ ((omega arith, omega arith), tt) (either (b == 81)
+    (events.F 2) _ ((omega arith, omega arith), tt) (either (b == 82) (events.F 3) _ ((omega arith, omega arith), tt) (either (b == 83)
+    (events.F 4) _ ((omega arith, omega arith), tt)
     (either (b == 90) events.BackTab events.Unknown (tt, tt) (tt, tt)))))))))))
 
 of_tilde : (n key : ℕ) → IsTyped (tilde n key)
 unfolding tilde
 of_tilde n key =
-    either (key == 1) _ _ (of_moved n motions.Home) (either (key == 2) events.Insert _ (tt, tt) (either (key == 3) events.Delete _ (tt, tt) (either (key == 4) _ _ (of_moved n motions.End) (either (key == 5) events.PageUp _ (tt, tt)
-    (either (key == 6) events.PageDown _ (tt, tt) (either (key == 7) _ _ (of_moved n motions.Home) (either (key == 8) _ _ (of_moved n motions.End) (either (key == 11) (events.F 1) _ ((omega arith, omega arith), tt) (either (key == 12) (events.F 2) _ ((omega arith, omega arith), tt)
-    (either (key == 13) (events.F 3) _ ((omega arith, omega arith), tt) (either (key == 14) (events.F 4) _ ((omega arith, omega arith), tt) (either (key == 15) (events.F 5) _ ((omega arith, omega arith), tt) (either (key == 17) (events.F 6) _ ((omega arith, omega arith), tt) (either (key == 18) (events.F 7) _ ((omega arith, omega arith), tt)
-    (either (key == 19) (events.F 8) _ ((omega arith, omega arith), tt) (either (key == 20) (events.F 9) _ ((omega arith, omega arith), tt) (either (key == 21) (events.F 10) _ ((omega arith, omega arith), tt) (either (key == 23) (events.F 11) _ ((omega arith, omega arith), tt) (either (key == 24) (events.F 12) _ ((omega arith, omega arith), tt)
+    either (key == 1) _ _ (of_moved n motions.Home) (either (key == 2) events.Insert _ (tt, tt) (either (key == 3) events.Delete _ (tt, tt)
+    (either (key == 4) _ _ (of_moved n motions.End) (either (key == 5) events.PageUp _ (tt, tt)
+    (either (key == 6) events.PageDown _ (tt, tt) (either (key == 7) _ _ (of_moved n motions.Home) (either (key == 8) _ _ (of_moved n motions.End)
+    (either (key == 11) (events.F 1) _ ((omega arith, omega arith), tt) (either (key == 12) (events.F 2) _ ((omega arith, omega arith), tt)
+    (either (key == 13) (events.F 3) _ ((omega arith, omega arith), tt) (either (key == 14) (events.F 4) _ ((omega arith, omega arith), tt)
+    (either (key == 15) (events.F 5) _ ((omega arith, omega arith), tt) (either (key == 17) (events.F 6) _ ((omega arith, omega arith), tt)
+    (either (key == 18) (events.F 7) _ ((omega arith, omega arith), tt)
+    (either (key == 19) (events.F 8) _ ((omega arith, omega arith), tt) (either (key == 20) (events.F 9) _ ((omega arith, omega arith), tt)
+    (either (key == 21) (events.F 10) _ ((omega arith, omega arith), tt) (either (key == 23) (events.F 11) _ ((omega arith, omega arith), tt)
+    (either (key == 24) (events.F 12) _ ((omega arith, omega arith), tt)
     (either (key == 200) events.PasteBegin events.Unknown (tt, tt) (tt, tt)))))))))))))))))))))
 
 is_size_says : (n : ℕ) → is_size n ≡ true → IsSize n
@@ -135,24 +152,28 @@ of_size n = of_sizes (n.first == 8) (n.place == 2) (is_size n.second) (is_size n
 of_sequence : (n : Numbers) (last : ℕ) → IsTyped (sequence_of n last)
 unfolding sequence_of
 of_sequence n last =
-    either (not n.is_plain) events.Unknown _ (tt, tt) (either (last == 116) _ _ (of_size n) (either (nat_lt 1 n.place) events.Unknown _ (tt, tt) (either (last == 126) _ _ (of_tilde n.second n.first)
+    either (not n.is_plain) events.Unknown _ (tt, tt) (either (last == 116) _ _ (of_size n) (either (nat_lt 1 n.place) events.Unknown _ (tt, tt)
+    (either (last == 126) _ _ (of_tilde n.second n.first)
     (either (nat_lt 1 n.first) events.Unknown _ (tt, tt) (of_letter n.second last)))))
 
 of_in_sequence : (n : Numbers) (b : ℕ) → 0 < b → Fits (in_sequence n b)
 unfolding in_sequence
 of_in_sequence n b low =
-    choose (nat_lt b 32) _ _ (of_broken events.Unknown b low (tt, tt)) (choose (nat_lt b 48) _ _ (of_waits _) (choose (nat_lt b 58) _ _ (of_waits _) (choose (b == 59) _ _ (of_waits _) (choose (nat_lt b 64) _ _ (of_waits _)
+    choose (nat_lt b 32) _ _ (of_broken events.Unknown b low (tt, tt)) (choose (nat_lt b 48) _ _ (of_waits _) (choose (nat_lt b 58) _ _
+    (of_waits _) (choose (b == 59) _ _ (of_waits _) (choose (nat_lt b 64) _ _ (of_waits _)
     (choose (nat_lt b 127) _ _ (of_one (sequence_of n b) (of_sequence n b)) (of_broken events.Unknown b low (tt, tt)))))))
 
 of_escape : (b : ℕ) → 0 < b → Fits (after_escape b)
 unfolding after_escape
 of_escape b low =
-    choose (b == 91) _ _ (of_waits _) (choose (b == 79) _ _ (of_waits _) (choose (opens_answer b) _ _ (of_waits _) (choose (nat_lt b 32) _ _ (of_broken events.Esc b low (tt, tt))
+    choose (b == 91) _ _ (of_waits _) (choose (b == 79) _ _ (of_waits _) (choose (opens_answer b) _ _ (of_waits _) (choose (nat_lt b 32) _ _
+    (of_broken events.Esc b low (tt, tt))
     (choose (nat_lt b 127) _ _ (of_one (events.Alt b) (tt, tt)) (choose (b == 127) _ _ (of_broken events.Esc b low (tt, tt)) (of_lead true b))))))
 
 of_ss3 : (b : ℕ) → 0 < b → Fits (after_ss3 b)
 unfolding after_ss3
-of_ss3 b low = choose (nat_lt b 32) _ _ (of_broken events.Unknown b low (tt, tt)) (choose (nat_lt b 127) _ _ (of_one (letter 0 b) (of_letter 0 b)) (of_broken events.Unknown b low (tt, tt)))
+of_ss3 b low = choose (nat_lt b 32) _ _ (of_broken events.Unknown b low (tt, tt)) (choose (nat_lt b 127) _ _ (of_one (letter 0 b) (of_letter 0 b))
+    (of_broken events.Unknown b low (tt, tt)))
 
 console_fits : (b : ℕ) → nat_lt b 65 ≡ false → nat_lt b 70 ≡ true → IsTyped (events.F (b - 64))
 console_fits b low high =
@@ -163,11 +184,13 @@ console_fits b low high =
 of_console_key : (b : ℕ) → IsTyped (console_key b)
 unfolding console_key
 of_console_key b =
-    either_by (nat_lt b 65) events.Unknown _ (λ e. (tt, tt)) (λ low. either_by (nat_lt b 70) (events.F (b - 64)) events.Unknown (console_fits b low) (λ e. (tt, tt)))
+    either_by (nat_lt b 65) events.Unknown _ (λ e. (tt, tt)) (λ low. either_by (nat_lt b 70) (events.F (b - 64)) events.Unknown
+    (console_fits b low) (λ e. (tt, tt)))
 
 of_console : (b : ℕ) → 0 < b → Fits (in_console b)
 unfolding in_console
-of_console b low = choose (nat_lt b 32) _ _ (of_broken events.Unknown b low (tt, tt)) (choose (nat_lt b 127) _ _ (of_one (console_key b) (of_console_key b)) (of_broken events.Unknown b low (tt, tt)))
+of_console b low = choose (nat_lt b 32) _ _ (of_broken events.Unknown b low (tt, tt)) (choose (nat_lt b 127) _ _ (of_one (console_key b)
+    (of_console_key b)) (of_broken events.Unknown b low (tt, tt)))
 
 of_answer : (b : ℕ) → Fits (in_answer b)
 unfolding in_answer
@@ -180,12 +203,14 @@ of_told false c = (tt, tt)
 of_character_of : (alt : Bool) (least code : ℕ) → IsTyped (character_of alt least code)
 unfolding character_of
 of_character_of alt least code =
-    either (nat_lt code least) events.Unknown _ (tt, tt) (either (nat_lt code 55296) _ _ (of_told alt code) (either (nat_lt code 57344) events.Unknown _ (tt, tt) (either (nat_lt code 1114112) _ events.Unknown (of_told alt code) (tt, tt))))
+    either (nat_lt code least) events.Unknown _ (tt, tt) (either (nat_lt code 55296) _ _ (of_told alt code) (either
+    (nat_lt code 57344) events.Unknown _ (tt, tt) (either (nat_lt code 1114112) _ events.Unknown (of_told alt code) (tt, tt))))
 
 of_character : (p : Begun) (b : ℕ) → 0 < b → Fits (in_character p b)
 unfolding in_character
 of_character p b low =
-    choose (nat_lt b 128) _ _ (of_broken events.Unknown b low (tt, tt)) (choose (nat_lt b 192) _ _ (choose (nat_lt p.left 2) _ _ (of_one (character_of p.alt p.least (p.code % 32768 * 64 + (b - 128)))
+    choose (nat_lt b 128) _ _ (of_broken events.Unknown b low (tt, tt)) (choose (nat_lt b 192) _ _ (choose (nat_lt p.left 2) _ _ (of_one
+    (character_of p.alt p.least (p.code % 32768 * 64 + (b - 128)))
     (of_character_of p.alt p.least (p.code % 32768 * 64 + (b - 128)))) (of_waits _)) (of_broken events.Unknown b low (tt, tt)))
 
 of_bracket : (b : ℕ) → 0 < b → Fits (after_bracket b)

@@ -78,7 +78,8 @@ nul_is_a_tick keys a b =
     }
 
 -- where the end of a read makes no event it changes nothing
-quiet : (q : Bool) (p : Pending) → made (paused (record { pasting = q; pending = p })) ≡ [] → (paused (record { pasting = q; pending = p })).keys ≡ record { pasting = q; pending = p }
+quiet : (q : Bool) (p : Pending) → made (paused (record { pasting = q; pending = p })) ≡ [] →
+    (paused (record { pasting = q; pending = p })).keys ≡ record { pasting = q; pending = p }
 quiet true p e = refl
 quiet false Nothing e = refl
 quiet false Escape e = grind (arith)
@@ -97,7 +98,8 @@ reads_are_one keys a b none =
     let middle = keys_after keys a in
     let p = one_piece keys a b in
     let same : (paused middle).keys ≡ middle = quiet middle.pasting middle.pending none in
-    let first : events_of keys a ++ made (paused middle) ≡ events_of keys a = ap (λ (l : List Event). events_of keys a ++ l) none ∙ append-nil (events_of keys a) in (
+    let first : events_of keys a ++ made (paused middle) ≡ events_of keys a = ap (λ (l : List Event). events_of keys a ++ l) none ∙ append-nil
+    (events_of keys a) in (
       ap (λ (l : List Event). l ++ events_read (paused middle).keys b) first ∙ ap (λ (k : Keys). events_of keys a ++ events_read k b) same
           ∙ sym (append_assoc (events_of keys a) (events_of middle b) _) ∙ ap (λ (l : List Event). l ++ made (paused (keys_after middle b))) (sym p.events)
           ∙ ap (λ (k : Keys). events_of keys (a ++ b) ++ made (paused k)) (sym p.pending),

@@ -69,12 +69,14 @@ Takes put = (m d : ℕ) → with_digit (put m) d ≡ put (more m d)
 more_is : (m d : ℕ) → m < 1000 → d < 10 → more m d ≡ m * 10 + d
 more_is m d small low = grind (arith)
 
-put_digit : (put : ℕ → Numbers) → Takes put → (m d n : ℕ) → m < 1000 → d < 10 → m * 10 + d ≡ n → AreRead (in_numbers (put m)) ((48 + d) ∷ []) [] (in_numbers (put n))
+put_digit : (put : ℕ → Numbers) → Takes put → (m d n : ℕ) → m < 1000 → d < 10 → m * 10 + d ≡ n →
+    AreRead (in_numbers (put m)) ((48 + d) ∷ []) [] (in_numbers (put n))
 put_digit put takes m d n small low is =
     subst (λ (k : Numbers). AreRead (in_numbers (put m)) ((48 + d) ∷ []) [] (in_numbers k))
     (takes m d ∙ ap put (more_is m d small low ∙ is)) (digit_step (put m) d low)
 
-put_two : (put : ℕ → Numbers) → Takes put → (a b n : ℕ) → a < 10 → b < 10 → a * 10 + b ≡ n → AreRead (in_numbers (put 0)) ((48 + a) ∷ (48 + b) ∷ []) [] (in_numbers (put n))
+put_two : (put : ℕ → Numbers) → Takes put → (a b n : ℕ) → a < 10 → b < 10 → a * 10 + b ≡ n →
+    AreRead (in_numbers (put 0)) ((48 + a) ∷ (48 + b) ∷ []) [] (in_numbers (put n))
 put_two put takes a b n a_low b_low is =
     joined _ (in_numbers (put a)) _ ((48 + a) ∷ []) ((48 + b) ∷ []) [] [] (put_digit put takes 0 a a (omega arith) a_low (omega arith))
     (put_digit put takes a b n (omega arith) b_low is)
@@ -101,7 +103,8 @@ number_read put takes n high =
         | inr hundred ↦ elim (cases_lt n 1000) [
           | inl three ↦ subst reads (sym (three_digits n hundred three))
               (put_three put takes (n / 10 / 10) ((n / 10) % 10) (n % 10) n (omega arith) (omega arith) (omega arith) (omega arith))
-          | inr thousand ↦ subst (λ (m : ℕ). AreRead (in_numbers (put 0)) (decimal m) [] (in_numbers (put m))) {x = 1000} {y = n} (omega arith) (put_thousand put takes)
+          | inr thousand ↦ subst (λ (m : ℕ). AreRead (in_numbers (put 0)) (decimal m) [] (in_numbers (put m))) {x = 1000} {y = n} (omega arith)
+              (put_thousand put takes)
         ]
       ]
     ]

@@ -95,7 +95,8 @@ newline_read : AreRead (at_rest true) (10 ∷ []) (events.Char 10 ∷ []) (at_re
 unfolding events_of keys_after stepped begin
 newline_read = record { events = refl; pending = refl }
 
-read_as : (a b : ℕ) → b ≡ a → AreRead (at_rest true) (encode a) (events.Char a ∷ []) (at_rest true) → AreRead (at_rest true) (encode b) (events.Char b ∷ []) (at_rest true)
+read_as : (a b : ℕ) → b ≡ a → AreRead (at_rest true) (encode a) (events.Char a ∷ []) (at_rest true) →
+    AreRead (at_rest true) (encode b) (events.Char b ∷ []) (at_rest true)
 read_as a b is h = subst (λ (c : ℕ). AreRead (at_rest true) (encode c) (events.Char c ∷ []) (at_rest true)) (sym is) h
 
 tab_encoded : AreRead (at_rest true) (encode 9) (events.Char 9 ∷ []) (at_rest true)

@@ -247,4 +247,5 @@ event_read events.Unknown is = absurd is
 pub sent_is_read : SentIsRead
 sent_is_read [] all = nothing_read start
 sent_is_read (e ∷ es) all =
-    joined start start start (sent_for e) (flat_map sent_for es) (e ∷ []) es (event_read e (All-head IsTold e es all)) (sent_is_read es (All-tail IsTold e es all))
+    joined start start start (sent_for e) (flat_map sent_for es) (e ∷ []) es (event_read e (All-head IsTold e es all)) (sent_is_read es
+    (All-tail IsTold e es all))
