@@ -1,3 +1,4 @@
+pub mod Events
 pub mod Order
 pub mod Outputs
 pub mod Same

@@ -2,6 +2,7 @@
 
 ghost use Rattle.std.proofs.Common.{rules};
 ghost use Rattle.std.specs.Prelude.{◌≡◌, ◌&&◌, true};
+ghost use Rattle.tui.specs.Events.{same_event, same_keys, same_step};
 ghost use Rattle.tui.specs.Order.{PaddingIsOrdered};
 ghost use Rattle.tui.specs.Outputs.{same_output};
 ghost use Rattle.tui.specs.Same.{same_bar};
@@ -21,7 +22,7 @@ use crate::report::{Column, Piece, ReportError};
 use crate::scene::DrawError;
 use crate::style::{Color, Modifier, ParseError, Style};
 use crate::symbols::MergeStrategy;
-use crate::terminal::{Cursor, Depth, Output, Trust};
+use crate::terminal::{Cursor, Depth, Event, Keys, Modifiers, Motion, Output, Step, Trust};
 use crate::text::{Span, StyledGrapheme};
 use crate::widgets::{
     BorderType, Borders, Clear, Dimmed, Fill, GaugeError, HighlightSpacing, ListDirection,
@@ -231,6 +232,36 @@ impl Plain for Output {
 
 impl Plain for Trust {
     ghost same = { Prim.search rules };
+
+    ghost cloned = { Prim.search rules };
+}
+
+impl Plain for Event {
+    ghost same = { same_event };
+
+    ghost cloned = { Prim.search rules };
+}
+
+impl Plain for Keys {
+    ghost same = { same_keys };
+
+    ghost cloned = { Prim.search rules };
+}
+
+impl Plain for Modifiers {
+    ghost same = { Prim.search rules };
+
+    ghost cloned = { Prim.search rules };
+}
+
+impl Plain for Motion {
+    ghost same = { Prim.search rules };
+
+    ghost cloned = { Prim.search rules };
+}
+
+impl Plain for Step {
+    ghost same = { same_step };
 
     ghost cloned = { Prim.search rules };
 }
