@@ -26,13 +26,13 @@ ends e k es h is pending = record {
 told_alone : (e : Event) → IsTold e → IsReadAlone e
 told_alone e is = ends e start (e ∷ []) (event_read e is) refl refl
 
-abbrev opened : ℕ → Keys
+abbrev pub opened : ℕ → Keys
 opened c = record { pasting = false; pending = Opened c }
 
 opener_small : (c : ℕ) → opens_answer c ≡ true → c < 127
 opener_small c is = grind (arith, nat_tests)
 
-opener_step : (c : ℕ) → c ≢ 91 → c ≢ 79 → opens_answer c ≡ true → after_escape c ≡ waits (Opened c)
+pub opener_step : (c : ℕ) → c ≢ 91 → c ≢ 79 → opens_answer c ≡ true → after_escape c ≡ waits (Opened c)
 unfolding after_escape
 opener_step c bracket ss3 is = rw is (grind (arith, nat_tests))
 

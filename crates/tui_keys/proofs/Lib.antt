@@ -6,3 +6,4 @@ pub mod Others
 pub mod Digits
 pub mod Sending
 pub mod Alone
+pub mod PassedOver

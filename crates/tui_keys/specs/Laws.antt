@@ -1,11 +1,11 @@
 -- Laws of the events.
-use Rattle.std.specs.Prelude.{ℕ, ◌≡◌, ◌⊎◌, ◌≤◌, ◌*◌, Bool, true, false, List, [], ◌∷◌, ◌++◌, All, length, map, flat_map, codes, encode_utf8_all, Some, if◌then◌else◌, ⊤}
+use Rattle.std.specs.Prelude.{ℕ, ◌≡◌, ◌≢◌, ◌⊎◌, ◌≤◌, ◌*◌, Bool, true, false, List, [], ◌∷◌, ◌++◌, All, length, map, flat_map, codes, encode_utf8_all, Some, if◌then◌else◌, ⊤}
 use Rattle.tui_keys.specs.declared.event.Event.{Event}
 use Rattle.tui_keys.specs.declared.event.Event.TheVariants as events
 use Rattle.tui_keys.specs.declared.keys.Keys.{Keys}
 use Rattle.tui_keys.specs.Events.{events_of, events_read, keys_after, keys_read, made}
 use Rattle.tui_keys.specs.Sent.{IsBounded, IsPlain, IsTold, IsToldAlone, csi, escape, sent_for}
-use Rattle.tui_keys.specs.Steps.{at_rest, paused, start, stepped}
+use Rattle.tui_keys.specs.Steps.{at_rest, opens_answer, paused, start, stepped}
 
 -- From what is known in `keys` bytes are these events, and `next` is known then.
 pub record AreRead (keys : Keys) (bytes : List ℕ) (es : List Event) (next : Keys) : Type 0 where
@@ -91,6 +91,19 @@ abbrev pub AloneIsRead : Type 0
 AloneIsRead = (event : Event) → IsToldAlone event → IsReadAlone event
 
 -- ---- what other terminals send for the same, and what is passed over
+
+-- a byte of an answer: no NUL, which is a tick there too, no BEL, no ESC
+abbrev pub IsAnswerByte : ℕ → Type 0
+IsAnswerByte b = (b ≢ 0) × (b ≢ 7) × (b ≢ 27)
+
+-- BEL or ST
+abbrev pub EndsAnswer : List ℕ → Type 0
+EndsAnswer bytes = (bytes ≡ 7 ∷ []) ⊎ (bytes ≡ 27 ∷ 92 ∷ [])
+
+-- an answer to another program's question makes no event
+abbrev pub AnswersPassOver : Type 0
+AnswersPassOver = (opener : ℕ) (text last : List ℕ) → opens_answer opener ≡ true → All IsAnswerByte text → EndsAnswer last →
+    AreRead start (27 ∷ opener ∷ (text ++ last)) [] start
 
 abbrev pub Means : List ℕ → List Event → Type 0
 Means bytes es = AreRead start bytes es start

@@ -2,6 +2,7 @@
 
 ghost use Rattle.tui_keys.specs.Laws.{
   AloneIsRead,
+  AnswersPassOver,
   EventsAreBounded,
   EventsAreFew,
   NulIsATick,
@@ -37,10 +38,11 @@ pub fn paste_laws()
     ensures itself { PasteIsItself }
 {}
 
-/// What a terminal sends for events is read as these events.
+/// What a terminal sends for events is read as these events, and answers to other programs' questions make none.
 pub fn sending_laws()
     ensures text { TextIsItself }
     ensures sent { SentIsRead }
     ensures alone { AloneIsRead }
+    ensures answers { AnswersPassOver }
     ensures others { OthersAreRead }
 {}
