@@ -78,6 +78,7 @@ fn is_same_row(old: &[Cell], new: &[Cell]) -> bool
     true
 }
 
+#[inline]
 fn is_same_cell(old: &Cell, new: &Cell) -> bool
     ensures { result ≡ is_same old.now new.now }
 {
@@ -230,12 +231,14 @@ fn is_calm_at_each(trust: Trust, old: &[Cell], new: &[Cell]) -> bool
 }
 
 // Whether a cell shows and has a risky symbol, or shows and has a trusted one.
+#[inline]
 fn is_in_pass(trust: Trust, risky: bool, seen: Seen<'_>) -> bool
     ensures { result ≡ (seen.entry.shows && is_of_pass risky (is_trusted trust seen.entry.symbol.now)) }
 {
     seen.shows && is_of_pass(risky, is_trusted(trust, seen.symbol))
 }
 
+#[inline]
 fn is_of_pass(risky: bool, trusted: bool) -> bool
     ensures { result ≡ is_of_pass risky trusted }
 {
@@ -257,18 +260,21 @@ fn is_new_risk(trust: Trust, old: Seen<'_>, new: Seen<'_>) -> bool
 }
 
 // Whether a cell shows that did not show so before.
+#[inline]
 fn is_new(old: Seen<'_>, new: Seen<'_>) -> bool
     ensures { result ≡ (new.entry.shows && not (shows_same (shown_in old.entry) (look_in new.entry))) }
 {
     new.shows && !is_same(old, new)
 }
 
+#[inline]
 fn is_same(old: Seen<'_>, new: Seen<'_>) -> bool
     ensures { result ≡ shows_same (shown_in old.entry) (look_in new.entry) }
 {
     old.shows && is_same_look(old, new)
 }
 
+#[inline]
 fn is_same_look(old: Seen<'_>, new: Seen<'_>) -> bool
     ensures { result ≡ is_same (look_in old.entry) (look_in new.entry) }
 {

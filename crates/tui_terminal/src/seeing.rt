@@ -44,6 +44,7 @@ impl Under {
 }
 
 /// What shows in the column of a cell, where this many columns are left in the row.
+#[inline(always)]
 pub(crate) fn see<'c>(trust: Trust, under: Under, room: usize, cell: &'c Cell) -> Seen<'c>
     requires { (0 < room) × (room < 65536) }
     ensures shown { shown_in result ≡ shown trust (cover_of under) room cell.now }
@@ -57,6 +58,7 @@ pub(crate) fn see<'c>(trust: Trust, under: Under, room: usize, cell: &'c Cell) -
     }
 }
 
+#[inline(always)]
 fn is_open(under: Under) -> bool
     ensures { result ≡ (under.left == 0) }
 {
@@ -64,6 +66,7 @@ fn is_open(under: Under) -> bool
 }
 
 // A symbol that may not be sent is blanks in its columns.
+#[inline(always)]
 fn see_open<'c>(trust: Trust, room: usize, cell: &'c Cell) -> Seen<'c>
     requires { (0 < room) × (room < 65536) }
     ensures shown { shown_in result ≡ Some (seen trust room cell.now) }
@@ -102,6 +105,7 @@ fn see_open<'c>(trust: Trust, room: usize, cell: &'c Cell) -> Seen<'c>
     }
 }
 
+#[inline(always)]
 fn see_under<'c>(under: Under) -> Seen<'c>
     requires { 0 < under.left }
     ensures shown { shown_in result ≡ blank_of under.blank }

@@ -20,6 +20,7 @@ use tui_tty::{Depth, Output};
 use tui_tty_laws::At;
 
 /// Adds what sends a cell in a column, if it is wanted, and answers what is known of the terminal then.
+#[inline]
 pub(crate) fn put_if<K: Sink>(
     print: &mut Print,
     output: Output,
@@ -52,6 +53,7 @@ pub(crate) fn put_if<K: Sink>(
 }
 
 // Adds what sends a symbol with attributes in a column, and answers what is known then.
+#[inline]
 fn put_piece<K: Sink>(
     print: &mut Print,
     output: Output,
@@ -90,6 +92,7 @@ fn put_symbol<K: Sink>(print: &mut Print, symbol: &str, sink: &mut K)
 }
 
 // Moves the cursor, unless it is known to stand there.
+#[inline]
 fn put_moves<K: Sink>(print: &mut Print, y: usize, at: At, column: usize, sink: &mut K)
     requires { (column < 65536) × (y < 65536) }
     ensures { Gathers (K.told sink.old) (K.told sink.new) print.old print.new
@@ -100,6 +103,7 @@ fn put_moves<K: Sink>(print: &mut Print, y: usize, at: At, column: usize, sink: 
     }
 }
 
+#[inline]
 fn is_there(at: At, column: usize) -> bool
     ensures { result ≡ is_there at column }
 {
@@ -107,6 +111,7 @@ fn is_there(at: At, column: usize) -> bool
 }
 
 // Sets the pen, unless it is known to be this one.
+#[inline]
 fn put_paints<K: Sink>(
     print: &mut Print,
     depth: Depth,
@@ -122,6 +127,7 @@ fn put_paints<K: Sink>(
     }
 }
 
+#[inline]
 fn is_pen(at: At, attributes: Attributes) -> bool
     ensures { result ≡ is_pen at attributes }
 {
