@@ -136,7 +136,7 @@ def scene(seed):
 
 
 class Program(typing.NamedTuple):
-    """The words that run tools/terminal/frames.rt, and where."""
+    """The words that run tools/terminal/frames.rt.txt, and where."""
     words: list
     folder: object
 
@@ -146,7 +146,7 @@ def color_words(color):
 
 
 def frame_lines(frame):
-    """The lines by which tools/terminal/frames.rt makes the buffer and writes it."""
+    """The lines by which tools/terminal/frames.rt.txt makes the buffer and writes it."""
     x, y, width, height = frame.area
     yield f"frame {x} {y} {width} {height}"
     for row, cells in enumerate(frame.rows):
