@@ -1,8 +1,31 @@
 -- A terminal, as far as it is known, and what commands make of it. Wherever terminals differ, the answer is not known; so what is
 -- shown to hold here holds for each terminal that does what this page says where it says something.
 use Rattle.std.specs.Prelude.{
-  ℕ, ◌+◌, ◌-◌, Bool, true, false, not, ◌&&◌, ◌||◌, ◌==◌, nat_le, nat_lt, List, [], ◌∷◌, chars, replicate, slice_set, sum, map, unwrap_or, Option,
-  None, Some, if◌then◌else◌,
+  ℕ,
+  ◌+◌,
+  ◌-◌,
+  Bool,
+  true,
+  false,
+  not,
+  ◌&&◌,
+  ◌||◌,
+  ◌==◌,
+  nat_le,
+  nat_lt,
+  List,
+  [],
+  ◌∷◌,
+  chars,
+  replicate,
+  slice_set,
+  sum,
+  map,
+  unwrap_or,
+  Option,
+  None,
+  Some,
+  if◌then◌else◌,
 }
 use Rattle.std.specs.Option.{option_map_or}
 use Rattle.unicode_width.specs.Width.{char_width}
