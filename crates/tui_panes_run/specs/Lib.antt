@@ -9,3 +9,4 @@ pub mod Shown
 pub mod Found
 pub mod Ended
 pub mod Rules
+pub mod Laws
