@@ -117,6 +117,7 @@ line_kept row a b k = KeptOutside-weaker (λ x y out. rw out refl) k
 -- where a line has columns, it may change its whole row
 pub part_kept : (row : Rect) (line : LineData) (a b : Screen) → nat_lt 0 (line_width false line) ≡ true → KeptOutside (row_part row) a b →
     KeptOutside (line_part row line) a b
+unfolding line_part
 part_kept row line a b some k = KeptOutside-weaker (λ x y out. rw some at out) k
 
 pub below_out : (area : Rect) (x y : ℕ) → covers area x y ≡ false → covers (below area) x y ≡ false

@@ -51,7 +51,7 @@ abbrev pub row_part : Rect → ℕ → ℕ → Bool
 row_part area x y = covers area x y && (y == area.y)
 
 -- the cells that a line painted in an area may change: those of the area's first row, and none where the line has no columns
-abbrev pub line_part : Rect → LineData → ℕ → ℕ → Bool
+unfoldable pub line_part : Rect → LineData → ℕ → ℕ → Bool
 line_part area line x y = nat_lt 0 (line_width false line) && row_part area x y
 
 -- a grapheme from a column on: its symbol, its style, and the cells behind a wide one made blank

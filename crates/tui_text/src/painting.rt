@@ -42,7 +42,7 @@ fn before_it(alignment: Alignment, room: usize, width: usize) -> usize
 /// Paints spans in the first row of an area, as `paint_row` paints a line of them in a style. No line is made for it.
 ///
 /// Spans that begin at the left are read once, and others once more for their width.
-#[tactic(auto, unfolding(crate::specs::Painting::row_layers))]
+#[tactic(auto, unfolding(crate::specs::Painting::line_part, crate::specs::Painting::row_layers))]
 pub fn paint_spans(
     buf: &mut Buffer,
     row: Rect,
@@ -83,7 +83,7 @@ fn beginning(spans: &[Span<'_>], alignment: Alignment, room: u16) -> (usize, usi
 }
 
 /// Paints a line in the first row of an area, as `paint_line` does where the area lies in its clip and in the buffer.
-#[tactic(auto, unfolding(crate::specs::Painting::row_layers))]
+#[tactic(auto, unfolding(crate::specs::Painting::line_part, crate::specs::Painting::row_layers))]
 pub fn paint_row(buf: &mut Buffer, row: Rect, line: &Line<'_>, alignment: Alignment) -> Mem<()>
     ensures ok { OnOk result (Painted (row_layers row alignment (line_data line.now)) buf.old buf.new) }
     ensures kept { KeptOutside (covers row) buf.old buf.new }
