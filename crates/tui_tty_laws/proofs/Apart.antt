@@ -12,7 +12,7 @@ use Rattle.tui_tty.specs.declared.cursor.Cursor.{Cursor}
 use Rattle.tui_tty.specs.declared.cursor.Cursor.TheVariants.{Keep, Hidden, At as AtPlace}
 use Rattle.tui_tty.specs.Pens.{add_all, added, adds_of, attributes_of, back_added, has_name, only_adds, paints_of, pen_of}
 use Rattle.tui_tty.specs.Symbols.{is_trusted}
-use Rattle.tui_tty.specs.Sends.{IsApart, Meet, closing, cursor_commands, opening}
+use Rattle.tui_tty.specs.Sends.{Begins, IsApart, Meet, closing, cursor_commands, opening}
 use Rattle.tui_tty.specs.Terminal.{Command, Setting, back, held, tame, place, across, paint, add, print, turn}
 use Rattle.tui_tty_laws.specs.declared.at.At.{At}
 use Rattle.tui_tty_laws.specs.declared.wanted.Wanted.TheVariants.{Risky, Trusted}
@@ -48,11 +48,6 @@ row_falling trust left old new = elim (cases_Bool (is_calm trust left old new &&
 ]
 
 -- ---- commands one behind the other
-
--- no symbol comes first
-abbrev pub Begins : List Command → Type 0
-Begins (print s ∷ cs) = ⊥
-Begins _ = Unit {0}
 
 meet_begins : (trust : Trust) (c : Command) (cs : List Command) → Begins cs → Meet trust c cs
 meet_begins trust (print s) [] b = tt

@@ -172,6 +172,7 @@ full_law o b is place_is =
               (frame_safe o b.area.y (left + b.area.width) pss (rows_fit o.trust left b.area.width (left + b.area.width) b.rows (omega arith) is.wide)),
         );
         apart = (tt, apart_append o.trust (mending o.trust b.area) cs mend.1 (frame_apart o b.area.y pss (full_falling o.trust left b.rows)) (frame_begins o b.area.y pss));
+        begins = tt;
       };
       shows = λ knows t trusts room.
           let v : Tty = begun knows o b t in
@@ -241,6 +242,7 @@ change_law o old new was is area place_is =
         safe = Each-all IsSafe (change o old new)
             (frame_safe o new.area.y (left + new.area.width) pss (sent_fit o.trust left new.area.width (left + new.area.width) old.rows new.rows (omega arith) is.wide));
         apart = frame_apart o new.area.y pss (change_falling o.trust left old.rows new.rows);
+        begins = frame_begins o new.area.y pss;
       };
       shows = λ knows t trusts shown.
           let all = runs knows t trusts shown in
