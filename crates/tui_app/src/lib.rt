@@ -4,6 +4,7 @@
 mod app;
 mod ending;
 mod feed;
+mod memory_terminal;
 mod port;
 mod runs;
 mod shown;
@@ -14,6 +15,7 @@ mod turn;
 pub use app::{App, Flow};
 pub use ending::{AppEnd, MOST_READS};
 pub use feed::Size;
+pub use memory_terminal::MemTerminal;
 pub use port::Port;
 pub use runs::run;
 pub use terminal::{READ_ROOM, Terminal};
