@@ -40,10 +40,16 @@ abbrev pub IsApart : Trust → List Command → Type 0
 IsApart trust [] = Unit {0}
 IsApart trust (c ∷ cs) = Meet trust c cs × IsApart trust cs
 
+-- no symbol comes first, so that none joins what came before
+abbrev pub Begins : List Command → Type 0
+Begins (print symbol ∷ cs) = ⊥
+Begins _ = Unit {0}
+
 pub record IsSpelled (trust : Trust) (commands : List Command) (text : List ℕ) : Type 0 where
   pub spelled : text ≡ flat_map spelling commands
   pub safe : All IsSafe commands
   pub apart : IsApart trust commands
+  pub begins : Begins commands
 
 -- ---- cells that are sent
 

@@ -11,7 +11,7 @@ use Rattle.tui_tty.specs.declared.cursor.Cursor.{Cursor}
 use Rattle.tui_tty.specs.declared.cursor.Cursor.TheVariants.{Keep, Hidden, At as AtPlace}
 use Rattle.tui_tty.specs.Pens.{attributes_of, first_pen, has_name, paints_of, pen_of, settings_of}
 use Rattle.tui_tty.specs.Symbols.{is_trusted}
-use Rattle.tui_tty.specs.Sends.{IsApart, Meet, closing, cursor_commands, opening}
+use Rattle.tui_tty.specs.Sends.{Begins, IsApart, Meet, closing, cursor_commands, opening}
 use Rattle.tui_tty.specs.Terminal.{Command, Pen, Setting, back, held, tame, place, paint, add, print, turn}
 use Rattle.tui_tty_laws.specs.declared.at.At.{At}
 use Rattle.tui_tty_laws.specs.declared.wanted.Wanted.TheVariants.{Risky, Trusted}
@@ -47,11 +47,6 @@ row_falling trust left old new = elim (cases_Bool (is_calm trust left old new &&
 ]
 
 -- ---- commands one behind the other
-
--- no symbol comes first
-abbrev pub Begins : List Command → Type 0
-Begins (print s ∷ cs) = ⊥
-Begins _ = Unit {0}
 
 meet_begins : (trust : Trust) (c : Command) (cs : List Command) → Begins cs → Meet trust c cs
 meet_begins trust (print s) [] b = tt
@@ -184,6 +179,15 @@ close_apart trust Hidden true = (tt, (tt, (tt, tt)))
 close_apart trust Hidden false = (tt, (tt, tt))
 close_apart trust (AtPlace p) true = (tt, (tt, (tt, (tt, tt))))
 close_apart trust (AtPlace p) false = (tt, (tt, (tt, tt)))
+
+open_begins : (on : Bool) → Begins (cond on (turn held true ∷ []) [])
+open_begins true = tt
+open_begins false = tt
+
+pub frame_begins : (o : Output) (y : ℕ) (pss : List (List Placed)) → Begins (frame o y pss)
+frame_begins o y pss =
+    begins_append (opening o) (send_rows o y pss ++ closing o) (open_begins o.hold)
+    (begins_append (send_rows o y pss) (closing o) (rows_begin o y pss) (close_apart o.trust o.cursor o.hold).0)
 
 pub frame_apart : (o : Output) (y : ℕ) (pss : List (List Placed)) → Each (Falling o.trust) pss → IsApart o.trust (frame o y pss)
 frame_apart o y pss falling =

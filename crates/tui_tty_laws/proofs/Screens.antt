@@ -17,7 +17,7 @@ use Rattle.tui_tty.specs.Spelling.{spelling}
 use Rattle.tui_tty.specs.Terminal.{Command, Shown, Tty, after, dark, mended, run, step, tame}
 use Rattle.tui_tty_laws.specs.Sent.{anew, row_sent, row_shown}
 use Rattle.tui_tty_laws.specs.Sending.{change, frame, full, nowhere, row_anew, row_changes, rows_sent, send}
-use Rattle.tui_tty_laws.proofs.Apart.{change_falling, frame_apart, full_falling}
+use Rattle.tui_tty_laws.proofs.Apart.{change_falling, frame_apart, frame_begins, full_falling}
 use Rattle.tui_tty_laws.proofs.Frames.{FrameRun, frame_keeps, frame_run, frame_safe, is_frame, on_terminal}
 use Rattle.tui_tty_laws.proofs.Lists.{Each, Each-all, In}
 use Rattle.tui_tty_laws.proofs.Pen.{steps}
@@ -132,6 +132,7 @@ full_law o b is place_is =
         spelled = refl;
         safe = Each-all IsSafe (full o b) (tt, frame_safe o b.area.y (left + b.area.width) pss (rows_fit o.trust left b.area.width (left + b.area.width) b.rows (omega arith) is.wide));
         apart = (tt, frame_apart o b.area.y pss (full_falling o.trust left b.rows));
+        begins = tt;
       };
       shows = λ knows t trusts room.
           let v : Tty = after knows tame t in
@@ -202,6 +203,7 @@ change_law o old new was is area place_is =
         safe = Each-all IsSafe (change o old new)
             (frame_safe o new.area.y (left + new.area.width) pss (sent_fit o.trust left new.area.width (left + new.area.width) old.rows new.rows (omega arith) is.wide));
         apart = frame_apart o new.area.y pss (change_falling o.trust left old.rows new.rows);
+        begins = frame_begins o new.area.y pss;
       };
       shows = λ knows t trusts shown.
           let all = runs knows t trusts shown in
