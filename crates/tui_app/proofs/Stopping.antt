@@ -1,11 +1,11 @@
 -- What was read and put, one after the other.
-use Rattle.std.proofs.Common.{◌≡◌, ◌⊎◌, inl, inr, ℕ, ◌+◌, ◌<◌, List, [], ◌∷◌, ◌++◌, length, map, take, Option, None, Some, Result, Ok, Err, refl, sym, ap, subst, ◌∙◌, append_assoc, arith, rules}
+use Rattle.std.proofs.Common.{◌≡◌, ◌⊎◌, inl, inr, ℕ, ◌+◌, ◌<◌, List, [], ◌∷◌, ◌++◌, true, length, map, take, Option, None, Some, Result, Ok, Err, refl, sym, ap, subst, ◌∙◌, append_assoc, arith, rules}
 use Rattle.std.proofs.lemmas.List.{append-nil, length-append}
 use Rattle.std.proofs.Math.Seq.{take-append-add}
 use Rattle.std.specs.Io.KnownBytes.{Appends, Keeps}
 use Rattle.tui_app.specs.Behaviour.{Behaviour}
 use Rattle.tui_app.specs.Lives.{IsFirst, Stand, Takes, heard}
-use Rattle.tui_app.specs.Parts.{Closed, HasBeen, IsBegun, Opened, Turned, stand_of}
+use Rattle.tui_app.specs.Parts.{Closed, Handled, HasBeen, IsBegun, Opened, Sent, Turned, stand_of}
 use Rattle.tui_app.specs.Run.{Counts, HasStopped, IsRun, Sending, Stops, cut, enters, leaves, nothing, shows, whole}
 use Rattle.tui_app.specs.Session.{begins, goes_on, output_at}
 use Rattle.tui_app.specs.Tape.{Broke, IsRead, Missed, Took, gave}
@@ -33,7 +33,25 @@ part_after a b c xs ys s t = record {
   taken = rw take-append-add (Appends-then a b c xs (take t.count ys) s t.taken);
 }
 
+Broke-after : {a b c : Told} {xs ys : List ℕ} → Took a b xs → Broke b c ys → Broke a c (xs ++ ys)
+Broke-after {a} {b} {c} {xs} {ys} s t = record {
+  part = part_after a.bytes b.bytes c.bytes xs ys s.taken t.part;
+  faults = subst (λ (n : ℕ). Rose n c.faults) s.faults t.faults;
+}
+
 -- ---- the beginning
+
+-- what enters was put, and then the text of the first screen
+pub opened : {E : Type 0} (o : Output) (s : Surface) (a b c : Told) (result : Result (Unit {0}) E) → Appends a.bytes b.bytes enter_text → b.faults ≡ a.faults →
+    Sent o true s b c result → Opened o s a c result
+opened o s a b c (Ok u) taken same sent =
+    let first : Took a b enter_text = record { taken = taken; faults = same } in
+    let next : Took b c sent.text = record { taken = sent.writes.ok.0; faults = sent.writes.ok.1 } in
+    (sent.text, sent.text_is, Took-then first next)
+opened o s a b c (Err e) taken same sent =
+    let first : Took a b enter_text = record { taken = taken; faults = same } in
+    let next : Broke b c sent.text = record { part = sent.writes.failed.0; faults = sent.writes.failed.1 } in
+    inr (sent.text, sent.text_is, Broke-after first next)
 
 pub been_first : {A : Type 0} (b : Behaviour A) (o : Output) (begin app : A) (area : Rect) (surface : Surface) (t now : Told) (text : List ℕ) →
     IsBegun b begin area app surface → IsFull (output_at o surface.place surface.shown.area) surface.shown text → Took t now (enter_text ++ text) →
@@ -70,6 +88,23 @@ been_more b o begin area stand new t0 t1 t2 count been t = record {
   took = Took-then been.took t.3;
   counted = length-append been.reads (t.0 ∷ []) ∙ ap (λ (n : ℕ). n + 1) been.counted;
 }
+
+-- a read, and what became of its bytes
+pub turned : {A : Type 0} (b : Behaviour A) (o : Output) (old new : Stand A) (bytes : List ℕ) (t0 t1 t2 : Told) (result : Option AppEnd) →
+    Took t0 t1 (gave bytes) → Handled b o old bytes new t1 t2 result → Turned b o old new t0 t2 result
+turned {A} b o old new bytes t0 t1 t2 result took h = by_result result h
+  where
+    still : t2 ≡ t1 → Took t0 t2 (gave bytes)
+    still same = subst (λ (t : Told). Took t0 t (gave bytes)) (sym same) took
+
+    by_result : (r : Option AppEnd) → Handled b o old bytes new t1 t2 r → Turned b o old new t0 t2 r
+    by_result None h = (bytes, h.0, h.1, Took-then took h.2)
+    by_result (Some ends.WriteFault) h = (bytes, h.0, h.1, Broke-after took h.2)
+    by_result (Some ends.NoMemory) h = (bytes, h.0, still h.1)
+    by_result (Some ends.Quit) h = (bytes, h.0, h.1, still h.2)
+    by_result (Some ends.Ended) h = absurd h
+    by_result (Some ends.ReadFault) h = absurd h
+    by_result (Some ends.ManyReads) h = absurd h
 
 -- ---- the end
 

@@ -50,8 +50,8 @@ IsShown b o fed app old moved new k now (Err _) = now ≡ k
 abbrev pub Handled : {A : Type 0} → Behaviour A → Output → Stand A → List ℕ → Stand A → Told → Told → Option AppEnd → Type 0
 Handled b o old bytes new k now None = (text : List ℕ) × Turns b o old bytes new text × Took k now text
 Handled b o old bytes new k now (Some ends.WriteFault) = (text : List ℕ) × Turns b o old bytes new text × Broke k now text
-Handled b o old bytes new k now (Some ends.NoMemory) = now ≡ k
-Handled b o old bytes new k now (Some ends.Quit) = Takes b old.app Go (heard old.keys bytes) new.app Quit × (now ≡ k)
+Handled b o old bytes new k now (Some ends.NoMemory) = IsRead bytes × (now ≡ k)
+Handled b o old bytes new k now (Some ends.Quit) = IsRead bytes × Takes b old.app Go (heard old.keys bytes) new.app Quit × (now ≡ k)
 Handled b o old bytes new k now (Some end) = ⊥
 
 -- a read, and what becomes of its bytes
