@@ -89,8 +89,8 @@ unfolding events_read keys_read
 fed_paused b old mid new keys bytes reading next short fed more =
     let p : paused reading.keys ≡ paused (keys_after keys bytes) = ap paused fed.keys_are in
     let told : IsTold b old unfed (events_of keys bytes ++ made (paused (keys_after keys bytes))) new next.fed =
-        subst (λ (l : Step). IsTold b old unfed (events_of keys bytes ++ made l) new next.fed) p
-        (told_then b old mid new unfed reading.fed next.fed (events_of keys bytes) (made (paused reading.keys)) fed.told more.told) in
+    subst (λ (l : Step). IsTold b old unfed (events_of keys bytes ++ made l) new next.fed) p
+    (told_then b old mid new unfed reading.fed next.fed (events_of keys bytes) (made (paused reading.keys)) fed.told more.told) in
     record {
       told = subst (λ (es : List Event). IsTold b old unfed es new next.fed) (sym (cond-true _ (events_read keys bytes) (events_of keys bytes) short)) told;
       keys_are = more.keys_are ∙ (ap (λ (l : Step). l.keys) p ∙ sym (cond-true _ (keys_read keys bytes) (keys_after keys bytes) short));

@@ -15,6 +15,7 @@ use tui_outside::{Failed, Sink};
 
 /// What a mark on the tape is, and what stands before each byte behind it: bytes that were given are told apart from those that were put.
 const MARK: u16 = 256;
+
 const GIVEN: u16 = 257;
 
 /// A terminal in memory, with room for `capacity` marks and bytes on its tape. It gives one read after another, of those that it was told, and then
