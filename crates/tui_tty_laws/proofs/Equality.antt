@@ -1,5 +1,5 @@
 -- A colour and attributes are equal to themselves by `==`.
-use Rattle.std.proofs.Common.{◌≡◌, ℕ, Bool, true, ◌&&◌, ◌==◌, refl, arith, rules}
+use Rattle.std.proofs.Common.{◌≡◌, ℕ, true, ◌==◌, refl, arith}
 use Rattle.std.proofs.lemmas.Bool.{and_from}
 use Rattle.std.proofs.lemmas.Bool.Decides.{nat_tests}
 use Rattle.tui_cells.specs.contracts.attributes.AttributesPartialEq as attributes
