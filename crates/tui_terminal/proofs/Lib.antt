@@ -2,6 +2,7 @@ mod Bytes
 mod Looks
 pub mod Nearest
 mod PlainRows
+mod PlainWalks
 mod RowWalks
 mod SameRows
 mod Styling

@@ -35,11 +35,11 @@ plain_end row i past = sym (ap plain (drop_all i row past))
 
 -- ---- each cell shows as it is
 
-map_some : List Look → List (Option Look)
+unfoldable pub map_some : List Look → List (Option Look)
 map_some [] = []
 map_some (c ∷ cs) = Some c ∷ map_some cs
 
-plain_shown : (trust : Trust) (row : List Look) → plain row ≡ true → shown_row trust uncovered row ≡ map_some row
+pub plain_shown : (trust : Trust) (row : List Look) → plain row ≡ true → shown_row trust uncovered row ≡ map_some row
 unfolding shown_row map_some
 plain_shown trust [] e = refl
 plain_shown trust (c ∷ cs) e =
@@ -58,18 +58,10 @@ none_risky trust left (c ∷ cs) e =
     let here : sent_here trust Risky left (Some c) c ≡ [] = cond-false (not (is_trusted trust c.symbol)) _ [] (ap not (byte_trusted trust c.symbol both.0)) in
     ap (λ (ps : List Placed). ps ++ sent trust Risky (left + 1) (map_some cs) (map_some cs)) here ∙ none_risky trust (left + 1) cs both.1
 
-plain_sends : (trust : Trust) (left : ℕ) (row : List Look) → plain row ≡ true → [] ≡ sent trust Risky left (row_shown trust row) (row_shown trust row)
+pub plain_sends : (trust : Trust) (left : ℕ) (row : List Look) → plain row ≡ true → [] ≡ sent trust Risky left (row_shown trust row) (row_shown trust row)
 plain_sends trust left row e =
     let is = plain_shown trust row e in
     sym ((λ j. sent trust Risky left (is j) (is j)) ∙ none_risky trust left row e)
-
-pub risky_next : (trust : Trust) (left : ℕ) (row : List Look) → list_all (λ c. is_ascii c.symbol) row ≡ true →
-    nowhere ≡ at_after trust nowhere (sent trust Risky left (row_shown trust row) (row_shown trust row))
-risky_next trust left row e = at_none trust nowhere ∙ ap (at_after trust nowhere) (plain_sends trust left row e)
-
-pub risky_text : (o : Output) (y left : ℕ) (row : List Look) → list_all (λ c. is_ascii c.symbol) row ≡ true →
-    [] ≡ flat_map spelling (send o y nowhere (sent o.trust Risky left (row_shown o.trust row) (row_shown o.trust row)))
-risky_text o y left row e = send_none o y nowhere ∙ ap (λ (ps : List Placed). flat_map spelling (send o y nowhere ps)) (plain_sends o.trust left row e)
 
 -- ---- nothing risky comes or goes
 
