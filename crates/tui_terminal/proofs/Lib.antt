@@ -8,5 +8,6 @@ mod SameRows
 mod Styling
 mod SymbolLemmas
 mod Texts
+mod TrustedRows
 mod Walking
 pub mod AddedTexts

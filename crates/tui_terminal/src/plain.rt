@@ -73,7 +73,7 @@ pub(crate) fn put_new_plain<K: Sink>(
     }
 }
 
-#[inline]
+#[inline(always)]
 fn is_changed(old: &Cell, new: &Cell) -> bool
     ensures { result ≡ not (is_same old.now new.now) }
 {
@@ -81,7 +81,7 @@ fn is_changed(old: &Cell, new: &Cell) -> bool
 }
 
 // Adds what sends a printable byte in a column, if it is wanted, and answers what is known then.
-#[inline]
+#[inline(always)]
 fn put_plain_if<K: Sink>(
     print: &mut Print,
     output: Output,

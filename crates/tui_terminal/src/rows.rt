@@ -8,13 +8,14 @@ ghost use Rattle.tui_terminal.specs.Seeing.{look_in, shown_in};
 ghost use Rattle.tui_terminal.specs.Sent.{is_calm_both, is_of_pass, pass_of, shows_same};
 ghost use Rattle.tui_terminal.specs.Risks.{is_new_risk};
 ghost use Rattle.tui_tty.specs.Spelling.{spelling};
-ghost use Rattle.tui_tty.specs.Symbols.{is_ascii};
+ghost use Rattle.tui_tty.specs.Symbols.{is_ascii, is_trusted};
 ghost use Rattle.tui_tty_laws.specs.Sending.{at_after, nowhere, row_anew, row_changes, send};
 ghost use Rattle.tui_tty_laws.specs.Sent.{changes, is_same, row_shown, sent};
 
 use crate::plain::{is_plain_row, put_all_plain, put_new_plain};
 use crate::seeing::{Seen, Under, see};
 use crate::sending::put_if;
+use crate::symbols::is_trusted;
 use tui_cells::Cell;
 use tui_outside::{Print, Sink};
 use tui_tty::{Output, Trust};
@@ -174,8 +175,38 @@ fn put_new<K: Sink>(
     }
 }
 
-// Whether no risky symbol comes or goes.
+// Whether no risky symbol comes or goes. In most rows there is none.
 fn is_calm(trust: Trust, old: &[Cell], new: &[Cell]) -> bool
+    requires { (length old.now ≡ length new.now) × (length new.now < 65536) }
+    ensures { (left : ℕ) → result ≡ is_calm_both trust left old.now new.now }
+{
+    if are_trusted(trust, old, new) {
+        true
+    } else {
+        is_calm_at_each(trust, old, new)
+    }
+}
+
+fn are_trusted(trust: Trust, old: &[Cell], new: &[Cell]) -> bool
+    ensures { result ≡ (list_all (λ c. is_trusted trust c.symbol) old.now && list_all (λ c. is_trusted trust c.symbol) new.now) }
+{
+    is_trusted_row(trust, old) && is_trusted_row(trust, new)
+}
+
+// Whether a terminal is trusted with each symbol of a row.
+fn is_trusted_row(trust: Trust, row: &[Cell]) -> bool
+    ensures { result ≡ list_all (λ c. is_trusted trust c.symbol) row.now }
+{
+    'columns: for column in 0..row.len() {
+        let cell = &row[column];
+        if !is_trusted(trust, cell.symbol()) {
+            return false;
+        }
+    }
+    true
+}
+
+fn is_calm_at_each(trust: Trust, old: &[Cell], new: &[Cell]) -> bool
     requires { (length old.now ≡ length new.now) × (length new.now < 65536) }
     ensures { (left : ℕ) → result ≡ is_calm_both trust left old.now new.now }
 {

@@ -57,7 +57,7 @@ pub(crate) fn put_if<K: Sink>(
 
 /// Adds what sends a symbol with attributes in a column, and answers what is known then. `columns` is how many it takes, `trusted` whether a
 /// terminal is trusted with it.
-#[inline]
+#[inline(always)]
 pub(crate) fn put_piece<K: Sink>(
     print: &mut Print,
     output: Output,
@@ -87,7 +87,7 @@ pub(crate) fn put_piece<K: Sink>(
 }
 
 // A single byte needs no copy.
-#[inline]
+#[inline(always)]
 fn put_symbol<K: Sink>(print: &mut Print, symbol: &str, sink: &mut K)
     ensures { Gathers (K.told sink.old) (K.told sink.new) print.old print.new symbol.now }
 {
@@ -98,7 +98,7 @@ fn put_symbol<K: Sink>(print: &mut Print, symbol: &str, sink: &mut K)
 }
 
 // Moves the cursor, unless it is known to stand there.
-#[inline]
+#[inline(always)]
 fn put_moves<K: Sink>(print: &mut Print, y: usize, at: At, column: usize, sink: &mut K)
     requires { (column < 65536) × (y < 65536) }
     ensures { Gathers (K.told sink.old) (K.told sink.new) print.old print.new
@@ -110,7 +110,7 @@ fn put_moves<K: Sink>(print: &mut Print, y: usize, at: At, column: usize, sink: 
 }
 
 // Moves the cursor from elsewhere: within the row, if it is known to stand before that.
-#[inline]
+#[inline(never)]
 fn put_moves_on<K: Sink>(print: &mut Print, y: usize, at: At, column: usize, sink: &mut K)
     requires { (column < 65536) × (y < 65536) }
     ensures { Gathers (K.told sink.old) (K.told sink.new) print.old print.new (flat_map spelling (moves_on y at column)) }
@@ -137,7 +137,7 @@ fn is_there(at: At, column: usize) -> bool
 }
 
 // Sets the pen, unless it is known to be this one.
-#[inline]
+#[inline(always)]
 fn put_paints<K: Sink>(
     print: &mut Print,
     depth: Depth,
@@ -154,6 +154,7 @@ fn put_paints<K: Sink>(
 }
 
 // Sets the pen from another one, if that is known.
+#[inline(never)]
 fn put_paints_on<K: Sink>(
     print: &mut Print,
     depth: Depth,

@@ -108,7 +108,7 @@ fn is_common_three(a: u8, b: u8, c: u8) -> bool
     is_tail(b)
         && is_tail(c)
         && 0xe0 <= a
-        && is_three_trusted(4096 * (a as u32 - 0xe0) + (64 * (b as u32 - 0x80) + (c as u32 - 0x80)))
+        && is_three(4096 * (a as u32 - 0xe0) + (64 * (b as u32 - 0x80) + (c as u32 - 0x80)))
 }
 
 #[inline]
@@ -133,6 +133,14 @@ fn is_two_trusted(code: u32) -> bool
         | is_within(code, 0x3a3, 0x3ff)
         | is_within(code, 0x400, 0x482)
         | is_within(code, 0x48a, 0x52f)
+}
+
+// Most texts of such characters are of ideographs, so these are asked for first.
+#[inline]
+fn is_three(code: u32) -> bool
+    ensures { result ≡ is_among three_byte_trusted code }
+{
+    is_within(code, 0x4e00, 0x9fd5) || is_three_trusted(code)
 }
 
 // Dashes, arrows, lines, blocks, Braille, kana, ideographs, Hangul and fullwidth forms.
