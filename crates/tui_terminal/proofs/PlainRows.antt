@@ -1,5 +1,5 @@
 -- Rows of printable bytes.
-use Rattle.std.proofs.Common.{◌≡◌, ℕ, ◌+◌, ◌<◌, ◌≤◌, Bool, true, false, not, ◌&&◌, List, [], ◌∷◌, ◌++◌, length, get_or, drop, cond, flat_map, refl, sym, ap, ◌∙◌, add-one, arith}
+use Rattle.std.proofs.Common.{◌≡◌, ℕ, ◌+◌, ◌<◌, ◌≤◌, Bool, true, false, not, ◌&&◌, List, [], ◌∷◌, ◌++◌, length, get_or, drop, cond, refl, sym, ap, ◌∙◌, add-one, arith}
 use Rattle.std.specs.Prelude.{Option, Some}
 use Rattle.std.specs.List.{list_all}
 use Rattle.std.proofs.lemmas.Bool.{and_from, and_parts, cond-false}
@@ -7,17 +7,14 @@ use Rattle.std.proofs.lemmas.List.{drop_all}
 use Rattle.std.proofs.Math.Seq.{drop-cons}
 use Rattle.tui_cells.specs.Cell.{Look}
 use Rattle.tui_text.specs.Visible.{Placed}
-use Rattle.tui_tty.specs.declared.output.Output.{Output}
 use Rattle.tui_tty.specs.declared.trust.Trust.{Trust}
 use Rattle.tui_tty.specs.Pieces.{next_cover, shown, shown_row, uncovered}
-use Rattle.tui_tty.specs.Spelling.{spelling}
 use Rattle.tui_tty.specs.Symbols.{is_ascii, is_trusted}
 use Rattle.tui_tty_laws.specs.declared.wanted.Wanted.TheVariants.{Changed, Risky}
-use Rattle.tui_tty_laws.specs.Sending.{at_after, nowhere, send}
 use Rattle.tui_tty_laws.specs.Sent.{is_calm, is_shown, row_shown, sent, sent_here}
 use Rattle.tui_terminal.specs.Sent.{is_calm_both}
 use Rattle.tui_terminal.proofs.Looks.{byte_next, byte_seen, byte_trusted}
-use Rattle.tui_terminal.proofs.Walking.{all_append, at_none, send_none}
+use Rattle.tui_terminal.proofs.Walking.{all_append}
 
 abbrev plain : List Look → Bool
 plain row = list_all (λ c. is_ascii c.symbol) row

@@ -1,20 +1,13 @@
 -- Rows that are the same.
-use Rattle.std.proofs.Common.{◌≡◌, false, subst, inl, inr, ℕ, ◌+◌, ◌<◌, ◌≤◌, Bool, true, not, ◌&&◌, List, [], ◌∷◌, ◌++◌, length, get_or, take, cond, flat_map, refl, sym, ap, ◌∙◌, add-one, arith}
-use Rattle.std.specs.Prelude.{Option, None, Some, nat_eq}
-use Rattle.std.specs.Cmp.Lexicographic.{pointwise}
+use Rattle.std.proofs.Common.{◌≡◌, false, subst, inl, inr, ℕ, ◌+◌, Bool, true, not, ◌&&◌, List, [], ◌∷◌, ◌++◌, cond, flat_map, refl, sym, ap, ◌∙◌}
+use Rattle.std.specs.Prelude.{Option, None, Some}
 use Rattle.std.specs.List.{list_all}
 use Rattle.std.specs.Prelude.{◌↔◌}
 use Rattle.std.proofs.lemmas.Bool.{cases_Bool, cond-true, cond-false, true≢false}
-use Rattle.std.proofs.lemmas.List.{take_all}
-use Rattle.std.proofs.Math.Seq.{take-suc}
-use Rattle.tui_cells.specs.Attributes.{look_of}
 use Rattle.tui_cells.specs.Cell.{Look}
-use Rattle.tui_cells.specs.contracts.attributes.AttributesPartialEq as attributes
-use Rattle.tui_cells.specs.declared.attributes.Attributes.{Attributes}
 use Rattle.tui_text.specs.Visible.{Placed}
 use Rattle.tui_tty.specs.declared.output.Output.{Output}
 use Rattle.tui_tty.specs.declared.trust.Trust.{Trust}
-use Rattle.tui_tty.specs.Pens.{attributes_of}
 use Rattle.tui_tty.specs.Spelling.{spelling}
 use Rattle.tui_tty.specs.Symbols.{is_trusted}
 use Rattle.tui_tty_laws.specs.declared.wanted.Wanted.TheVariants.{Changed}

@@ -1,6 +1,5 @@
-use Rattle.std.proofs.Common.{◌≡◌, ◌+◌, ◌<◌, ◌≤◌, [], ◌++◌, length, rules, refl, true, sym, ap, ◌∙◌, arith}
+use Rattle.std.proofs.Common.{◌+◌, ◌<◌, ◌≤◌, [], ◌++◌, length, rules, sym, ap, ◌∙◌, arith}
 use Rattle.tui_outside.proofs.Gathering.{Gathers-none, Gathers-then}
-use Rattle.tui_tty.specs.Symbols.{is_ascii}
 use Rattle.tui_tty_laws.specs.declared.at.At.{At}
 use Rattle.tui_tty_laws.specs.declared.wanted.Wanted.TheVariants.{Changed}
 use Rattle.tui_tty_laws.specs.Sending.{at_after, nowhere}

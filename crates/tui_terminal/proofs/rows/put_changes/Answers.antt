@@ -1,4 +1,4 @@
-use Rattle.std.proofs.Common.{◌≡◌, ◌&&◌, rules, true, sym, ap, ◌∙◌, flat_map, List}
+use Rattle.std.proofs.Common.{◌≡◌, rules, true, sym, ap, ◌∙◌, flat_map, List}
 use Rattle.std.specs.List.{list_all}
 use Rattle.std.proofs.lemmas.Bool.{and_parts, cond-true}
 use Rattle.tui_text.specs.Visible.{Placed}

@@ -1,5 +1,4 @@
-use Rattle.std.proofs.Common.{◌≡◌, [], List, flat_map, get_or, length, rules, true, ap, sym, ◌∙◌, arith}
-use Rattle.tui_cells.specs.Cell.{Look}
+use Rattle.std.proofs.Common.{◌≡◌, [], flat_map, get_or, length, rules, true, ap, arith}
 use Rattle.tui_outside.proofs.Gathering.{Gathers-none}
 use Rattle.tui_tty.specs.Spelling.{spelling}
 use Rattle.tui_tty_laws.specs.Sending.{nowhere, row_changes, send}
