@@ -2,14 +2,14 @@
 import random
 import re
 
-from page import REST, is_trusted
+from page import MENDING, REST, is_trusted
 
 TAME = b"\x18\x1b\\\x1b[?2026l\x1b[?69l\x1b[?6l\x1b[4l\x1b[r\x1b(B\x0f\x1b[?7l"
 MODES = {b"7": "autowrap", b"25": "visible", b"2026": "held", b"2004": "bracketed"}
 NUMBER = rb"(?:0|[1-9]\d*)"
 COMMAND = re.compile(
-    rb"(?P<tame>%b)|\x1b\[(?P<row>%b);(?P<column>%b)H|\x1b\[0(?P<paint>(?:;%b)*)m|\x1b\[(?P<add>[1-9]\d*(?:;%b)*)m"
-    rb"|\x1b\[\?(?P<mode>7|25|2026|2004)(?P<on>[hl])|(?P<text>[^\x00-\x1f\x7f]+)" % (re.escape(TAME), *[NUMBER] * 4))
+    rb"(?P<tame>%b)|\x1b\[(?P<row>%b);(?P<column>%b)H|\x1b\[(?P<across>%b)G|\x1b\[0(?P<paint>(?:;%b)*)m|\x1b\[(?P<add>[1-9]\d*(?:;%b)*)m"
+    rb"|\x1b\[\?(?P<mode>7|25|2026|2004)(?P<on>[hl])|(?P<text>[^\x00-\x1f\x7f]+)" % (re.escape(TAME), *[NUMBER] * 5))
 
 
 def color_of(first, numbers, base):
@@ -136,7 +136,12 @@ class Adversary:
             self.fault("prints", repr(symbol), "where cursor or pen is not known")
             return self.lost()
         (column, row), step = self.cursor, self.symbols.step(symbol)
-        self.printed.append((row, column, symbol))
+        if self.mending:
+            self.mending = False
+            if symbol != MENDING:
+                self.fault("mends a character that was cut by", repr(symbol))
+        else:
+            self.printed.append((row, column, symbol))
         if self.knows(symbol) and column + step <= self.columns:
             self.cut(row, column, column + step)
             for place in range(step):
@@ -170,11 +175,16 @@ class Adversary:
             if not self.whole:
                 self.dark()
             self.cursor, self.pen, self.tamed, self.whole = None, None, True, True
+            self.mending = is_trusted(self.trust, MENDING)
             self.modes.update(autowrap=False, held=False)
         elif kind == "column":
             column, row = int(match["column"]) - 1, int(match["row"]) - 1
             fits = self.tamed and 0 <= column < self.columns and 0 <= row < self.height
             self.cursor = (column, row) if fits else None
+        elif kind == "across":
+            column = int(match["across"]) - 1
+            fits = self.tamed and self.cursor and 0 <= column < self.columns
+            self.cursor = (column, self.cursor[1]) if fits else None
         elif kind == "paint":
             self.pen = self.settings((REST, REST, 0), match["paint"])
         elif kind == "add":
@@ -185,7 +195,7 @@ class Adversary:
             self.print_text(match["text"].decode())
 
     def feed(self, data, is_cut):
-        self.printed, self.size_fed, at, match = [], len(data), 0, None
+        self.printed, self.size_fed, self.mending, at, match = [], len(data), False, 0, None
         while at < len(data):
             match = COMMAND.match(data, at)
             if match is None or match["text"] and not is_text(match["text"]):

@@ -4,7 +4,7 @@ import subprocess
 import sys
 import typing
 
-from page import BLANK, COMMON, REST, Symbols
+from page import BLANK, COMMON, MENDING, REST, Symbols
 
 NARROW = list("ab~Z é─█│Жñλ")
 WIDE = list("世界水가コ、")
@@ -175,7 +175,7 @@ def written(program, frames):
 
 def symbols_by(program):
     """Symbols, with the program's widths of all texts that frames hold."""
-    texts = sorted({*NARROW, *WIDE, *EDGES, *BESIDE, *RISKY, *BAD, " ", *(text for pair in PAIRS + LATE for text in pair)})
+    texts = sorted({*NARROW, *WIDE, *EDGES, *BESIDE, *RISKY, *BAD, " ", MENDING, *(text for pair in PAIRS + LATE for text in pair)})
     texts += sorted({c for text in texts for c in text} - set(texts))
     found = asked(program, [f"width {' '.join(str(ord(c)) for c in text)}" for text in texts])
     return Symbols(dict(zip(texts, map(int, found))))

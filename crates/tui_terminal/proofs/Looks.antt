@@ -13,7 +13,7 @@ use Rattle.tui_tty.specs.declared.trust.Trust.TheVariants.{Common, Ascii}
 use Rattle.tui_tty.specs.Symbols.{is_ascii, is_common, is_ended, is_led, is_quiet, is_sendable, is_trusted}
 use Rattle.tui_tty.specs.Terminal.{reach}
 use Rattle.tui_terminal.proofs.Bytes.{one_byte}
-use Rattle.tui_tty_laws.proofs.Seen.{blank_step, parts_of, seen_false, seen_true}
+use Rattle.tui_tty_laws.proofs.Seen.{parts_of, seen_false, seen_true}
 
 -- ---- a symbol that may be sent, or not, as the code has read it from a cell
 
@@ -54,8 +54,12 @@ cover_as_blank trust room c s a n b es ea en is off =
 pub fits_as_it_is : (trust : Trust) (room : ℕ) (s : List ℕ) (b : Bool) → b ≡ is_sendable trust room s → b ≡ true → step_of s ≤ room
 fits_as_it_is trust room s b is on = (parts_of trust room s (sym is ∙ on)).fits
 
-pub blank_fits : (room : ℕ) → 0 < room → step_of space ≤ room
-blank_fits room some = omega (arith, blank_step)
+-- by what is known of the symbol
+pub sendable_is : (trust : Trust) (room : ℕ) (s : List ℕ) (n : ℕ) (t b : Bool) →
+    b ≡ ((is_quiet s && nat_le n room) && (t || ((is_led s && is_ended s) && nat_le (reach s) room))) → n ≡ step_of s → t ≡ is_trusted trust s → b ≡ is_sendable trust room s
+unfolding is_sendable
+sendable_is trust room s n t b e en et =
+    e ∙ (λ j. (is_quiet s && nat_le (en j) room) && (et j || ((is_led s && is_ended s) && nat_le (reach s) room)))
 
 -- ---- what the cell lies under
 

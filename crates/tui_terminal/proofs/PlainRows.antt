@@ -1,5 +1,5 @@
 -- Rows of printable bytes.
-use Rattle.std.proofs.Common.{◌≡◌, ℕ, ◌+◌, ◌<◌, ◌≤◌, Bool, true, false, not, ◌&&◌, List, [], ◌∷◌, ◌++◌, length, get_or, drop, cond, flat_map, refl, sym, ap, ◌∙◌, add-one, arith}
+use Rattle.std.proofs.Common.{◌≡◌, ℕ, ◌+◌, ◌<◌, ◌≤◌, Bool, true, false, not, ◌&&◌, List, [], ◌∷◌, ◌++◌, length, get_or, drop, cond, refl, sym, ap, ◌∙◌, add-one, arith}
 use Rattle.std.specs.Prelude.{Option, Some}
 use Rattle.std.specs.List.{list_all}
 use Rattle.std.proofs.lemmas.Bool.{and_from, and_parts, cond-false}
@@ -7,17 +7,14 @@ use Rattle.std.proofs.lemmas.List.{drop_all}
 use Rattle.std.proofs.Math.Seq.{drop-cons}
 use Rattle.tui_cells.specs.Cell.{Look}
 use Rattle.tui_text.specs.Visible.{Placed}
-use Rattle.tui_tty.specs.declared.output.Output.{Output}
 use Rattle.tui_tty.specs.declared.trust.Trust.{Trust}
 use Rattle.tui_tty.specs.Pieces.{next_cover, shown, shown_row, uncovered}
-use Rattle.tui_tty.specs.Spelling.{spelling}
 use Rattle.tui_tty.specs.Symbols.{is_ascii, is_trusted}
 use Rattle.tui_tty_laws.specs.declared.wanted.Wanted.TheVariants.{Changed, Risky}
-use Rattle.tui_tty_laws.specs.Sending.{at_after, nowhere, send}
 use Rattle.tui_tty_laws.specs.Sent.{is_calm, is_shown, row_shown, sent, sent_here}
 use Rattle.tui_terminal.specs.Sent.{is_calm_both}
 use Rattle.tui_terminal.proofs.Looks.{byte_next, byte_seen, byte_trusted}
-use Rattle.tui_terminal.proofs.Walking.{all_append, at_none, send_none}
+use Rattle.tui_terminal.proofs.Walking.{all_append}
 
 abbrev plain : List Look → Bool
 plain row = list_all (λ c. is_ascii c.symbol) row
@@ -35,11 +32,11 @@ plain_end row i past = sym (ap plain (drop_all i row past))
 
 -- ---- each cell shows as it is
 
-map_some : List Look → List (Option Look)
+unfoldable pub map_some : List Look → List (Option Look)
 map_some [] = []
 map_some (c ∷ cs) = Some c ∷ map_some cs
 
-plain_shown : (trust : Trust) (row : List Look) → plain row ≡ true → shown_row trust uncovered row ≡ map_some row
+pub plain_shown : (trust : Trust) (row : List Look) → plain row ≡ true → shown_row trust uncovered row ≡ map_some row
 unfolding shown_row map_some
 plain_shown trust [] e = refl
 plain_shown trust (c ∷ cs) e =
@@ -58,18 +55,10 @@ none_risky trust left (c ∷ cs) e =
     let here : sent_here trust Risky left (Some c) c ≡ [] = cond-false (not (is_trusted trust c.symbol)) _ [] (ap not (byte_trusted trust c.symbol both.0)) in
     ap (λ (ps : List Placed). ps ++ sent trust Risky (left + 1) (map_some cs) (map_some cs)) here ∙ none_risky trust (left + 1) cs both.1
 
-plain_sends : (trust : Trust) (left : ℕ) (row : List Look) → plain row ≡ true → [] ≡ sent trust Risky left (row_shown trust row) (row_shown trust row)
+pub plain_sends : (trust : Trust) (left : ℕ) (row : List Look) → plain row ≡ true → [] ≡ sent trust Risky left (row_shown trust row) (row_shown trust row)
 plain_sends trust left row e =
     let is = plain_shown trust row e in
     sym ((λ j. sent trust Risky left (is j) (is j)) ∙ none_risky trust left row e)
-
-pub risky_next : (trust : Trust) (left : ℕ) (row : List Look) → list_all (λ c. is_ascii c.symbol) row ≡ true →
-    nowhere ≡ at_after trust nowhere (sent trust Risky left (row_shown trust row) (row_shown trust row))
-risky_next trust left row e = at_none trust nowhere ∙ ap (at_after trust nowhere) (plain_sends trust left row e)
-
-pub risky_text : (o : Output) (y left : ℕ) (row : List Look) → list_all (λ c. is_ascii c.symbol) row ≡ true →
-    [] ≡ flat_map spelling (send o y nowhere (sent o.trust Risky left (row_shown o.trust row) (row_shown o.trust row)))
-risky_text o y left row e = send_none o y nowhere ∙ ap (λ (ps : List Placed). flat_map spelling (send o y nowhere ps)) (plain_sends o.trust left row e)
 
 -- ---- nothing risky comes or goes
 

@@ -1,9 +1,9 @@
 -- Symbols, byte by byte and character by character.
-use Rattle.std.proofs.Common.{◌≡◌, ℕ, ◌+◌, ◌<◌, ◌≤◌, Bool, true, not, ◌&&◌, ◌==◌, List, [], ◌∷◌, ◌++◌, length, map, sum, get_or, drop, refl, ap, ◌∙◌, add-one}
+use Rattle.std.proofs.Common.{◌≡◌, ℕ, ◌+◌, ◌<◌, ◌≤◌, Bool, true, false, not, ◌&&◌, ◌||◌, ◌==◌, nat_le, List, [], ◌∷◌, ◌++◌, length, map, sum, get_or, take, drop, refl, ap, ◌∙◌, add-one}
 use Rattle.std.proofs.lemmas.List.{drop_all, map_push}
 use Rattle.std.proofs.lemmas.List.Sums.{sum_by_push}
 use Rattle.std.proofs.Math.Seq.{drop-cons}
-use Rattle.tui_tty.specs.Symbols.{ends_chars, is_among, is_quiet_byte, is_quiet_from, joins_next, last_ends}
+use Rattle.tui_tty.specs.Symbols.{Range, ends_chars, is_among, is_quiet_byte, is_quiet_from, joins_next, last_ends, three_byte_trusted}
 use Rattle.tui_tty.specs.Terminal.{reach_of}
 
 -- ---- quiet symbols
@@ -31,3 +31,16 @@ ends_more (d ∷ ds) c = last_more d ds c
 
 pub reach_more : (cs : List ℕ) (c : ℕ) → sum (map reach_of (cs ++ c ∷ [])) ≡ sum (map reach_of cs) + reach_of c
 reach_more cs c = ap sum (map_push reach_of cs c) ∙ sum_by_push (λ x. x) (map reach_of cs) (reach_of c)
+
+-- ---- ideographs
+
+or_right : (a b : Bool) → b ≡ true → (a || b) ≡ true
+or_right true b e = refl
+or_right false b e = e
+
+among_later : (xs ys : List Range) (r : Range) (c : ℕ) → (nat_le r.from c && nat_le c r.to) ≡ true → is_among (xs ++ r ∷ ys) c ≡ true
+among_later [] ys r c e = ap (λ (b : Bool). b || is_among ys c) e
+among_later (x ∷ xs) ys r c e = or_right (nat_le x.from c && nat_le c x.to) (is_among (xs ++ r ∷ ys) c) (among_later xs ys r c e)
+
+pub ideograph_among : (c : ℕ) → (nat_le 0x4E00 c && nat_le c 0x9FD5) ≡ true → is_among three_byte_trusted c ≡ true
+ideograph_among c e = among_later (take 13 three_byte_trusted) (drop 14 three_byte_trusted) (record { from = 0x4E00; to = 0x9FD5 }) c e

@@ -103,10 +103,10 @@ here_pass trust column o false true c = refl
 here_pass trust column o risky false c = refl
 
 -- the same, as the code has seen the cell
-pub pass_is : (trust : Trust) (column : ℕ) (o n : Option Look) (risky shows wanted : Bool) (c : Look) →
-    wanted ≡ (shows && is_of_pass risky (is_trusted trust c.symbol)) → maybe shows c ≡ n → placed_if wanted column c ≡ sent_in trust (pass_of risky) column o n
-pass_is trust column o n risky shows wanted c ew en =
-    ap (λ (b : Bool). placed_if b column c) ew ∙ (here_pass trust column o risky shows c ∙ ap (sent_in trust (pass_of risky) column o) en)
+pub pass_is : (trust : Trust) (column : ℕ) (o n : Option Look) (risky shows wanted trusted : Bool) (c : Look) →
+    wanted ≡ (shows && is_of_pass risky trusted) → trusted ≡ is_trusted trust c.symbol → maybe shows c ≡ n → placed_if wanted column c ≡ sent_in trust (pass_of risky) column o n
+pass_is trust column o n risky shows wanted trusted c ew et en =
+    ap (λ (b : Bool). placed_if b column c) (ew ∙ ap (λ (b : Bool). shows && is_of_pass risky b) et) ∙ (here_pass trust column o risky shows c ∙ ap (sent_in trust (pass_of risky) column o) en)
 
 pub new_is : (trust : Trust) (column : ℕ) (o m n : Option Look) (shows wanted : Bool) (c : Look) →
     wanted ≡ (shows && not (shows_same o c)) → o ≡ m → maybe shows c ≡ n → placed_if wanted column c ≡ sent_in trust Changed column m n
@@ -115,7 +115,7 @@ new_is trust column o m n shows wanted c ew em en =
 
 -- ---- along a row
 
-dropped : {X : Type 0} (xs : List X) (i : ℕ) (x : X) → i < length xs → x ≡ get_or xs i x → drop i xs ≡ x ∷ drop (i + 1) xs
+pub dropped : {X : Type 0} (xs : List X) (i : ℕ) (x : X) → i < length xs → x ≡ get_or xs i x → drop i xs ≡ x ∷ drop (i + 1) xs
 dropped xs i x lt e = let first : drop i xs ≡ get_or xs i x ∷ drop (i + 1) xs = rw (add-one, drop-cons xs i x lt) refl in first ∙ ap (λ y. y ∷ drop (i + 1) xs) (sym e)
 
 sent_next : (trust : Trust) (w : Wanted) (column : ℕ) (o n : Option Look) (os ns : List (Option Look)) →
@@ -227,10 +227,11 @@ pub calm_end : (trust : Trust) (left i : ℕ) (u v : Cover) (olds news : List Lo
 calm_end trust left i u v olds news le = ap (list_all (trusts trust)) (sym (walk_none trust Changed left i u v olds news le))
 
 -- the same, as the code has seen the cell
-pub risk_is : (trust : Trust) (column : ℕ) (o m n : Option Look) (shows : Bool) (c : Look) → o ≡ m → maybe shows c ≡ n →
-    not ((shows && not (is_trusted trust c.symbol)) && not (shows_same o c)) ≡ list_all (λ p. is_trusted trust p.cell.symbol) (sent_in trust Changed column m n)
-risk_is trust column o m n shows c em en =
-    sym (calm_here trust column o shows c) ∙ (λ j. list_all (trusts trust) (sent_in trust Changed column (em j) (en j)))
+pub risk_is : (trust : Trust) (column : ℕ) (o m n : Option Look) (shows : Bool) (c : Look) (trusted : Bool) → trusted ≡ is_trusted trust c.symbol → o ≡ m → maybe shows c ≡ n →
+    not ((shows && not trusted) && not (shows_same o c)) ≡ list_all (λ p. is_trusted trust p.cell.symbol) (sent_in trust Changed column m n)
+risk_is trust column o m n shows c trusted et em en =
+    ap (λ (b : Bool). not ((shows && not b) && not (shows_same o c))) et
+    ∙ sym (calm_here trust column o shows c) ∙ (λ j. list_all (trusts trust) (sent_in trust Changed column (em j) (en j)))
 
 -- ---- two rows
 

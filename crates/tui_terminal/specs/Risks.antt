@@ -1,11 +1,9 @@
 -- Risky symbols that come or go.
 use Rattle.std.specs.Prelude.{Bool, not, ◌&&◌}
-use Rattle.tui_tty.specs.declared.trust.Trust.{Trust}
-use Rattle.tui_tty.specs.Symbols.{is_trusted}
 use Rattle.tui_terminal.specs.declared.seeing.Seen.{Seen}
 use Rattle.tui_terminal.specs.Seeing.{look_in, shown_in}
 use Rattle.tui_terminal.specs.Sent.{shows_same}
 
 -- whether a risky symbol shows that did not show so before
-abbrev pub is_new_risk : Trust → Seen → Seen → Bool
-is_new_risk trust old new = (new.shows && not (is_trusted trust new.symbol.now)) && not (shows_same (shown_in old) (look_in new))
+abbrev pub is_new_risk : Seen → Seen → Bool
+is_new_risk old new = (new.shows && not new.trusted) && not (shows_same (shown_in old) (look_in new))

@@ -19,6 +19,7 @@ ghost use Rattle.tui_tty.specs.Pens.{
   color_stays,
   front_added,
   has,
+  is_bright,
   is_own,
   marks_added,
   marks_of,
@@ -59,6 +60,31 @@ pub(crate) fn put_repaint<K: Sink>(
 // Whether nothing is taken away from the pen.
 fn only_adds(was: Attributes, is: Attributes) -> bool
     ensures { result ≡ only_adds (sent_pen was) (sent_pen is) }
+{
+    !is_bright(was.fg) && stays(was, is)
+}
+
+// Whether some terminals show a colour in front by bold, which they don't take back with the next one.
+#[tactic(auto, unfolding(tui_tty::specs::Pens::is_bright))]
+fn is_bright(color: Color) -> bool
+    ensures { result ≡ is_bright color }
+{
+    matches!(
+        color,
+        Color::DarkGray
+            | Color::LightRed
+            | Color::LightGreen
+            | Color::LightYellow
+            | Color::LightBlue
+            | Color::LightMagenta
+            | Color::LightCyan
+            | Color::White
+    )
+}
+
+fn stays(was: Attributes, is: Attributes) -> bool
+    ensures { result ≡ (marks_stay (marks_of was.modifier.bits) (marks_of is.modifier.bits)
+        && (color_stays was.fg is.fg && color_stays was.bg is.bg)) }
 {
     marks_stay(was.modifier.bits(), is.modifier.bits()) && colors_stay(was, is)
 }

@@ -6,6 +6,7 @@ mod colours;
 mod depth;
 mod palette;
 mod pens;
+mod plain;
 mod rows;
 mod seeing;
 mod sending;

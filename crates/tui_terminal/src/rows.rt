@@ -9,13 +9,13 @@ ghost use Rattle.tui_terminal.specs.Sent.{is_calm_both, is_of_pass, pass_of, sho
 ghost use Rattle.tui_terminal.specs.Risks.{is_new_risk};
 ghost use Rattle.tui_tty.specs.Spelling.{spelling};
 ghost use Rattle.tui_tty.specs.Symbols.{is_ascii, is_trusted};
-ghost use Rattle.tui_tty_laws.specs.declared.wanted.Wanted.TheVariants.{Risky};
 ghost use Rattle.tui_tty_laws.specs.Sending.{at_after, nowhere, row_anew, row_changes, send};
 ghost use Rattle.tui_tty_laws.specs.Sent.{changes, is_same, row_shown, sent};
 
+use crate::plain::{is_plain_row, put_all_plain, put_new_plain};
 use crate::seeing::{Seen, Under, see};
 use crate::sending::put_if;
-use crate::symbols::{is_ascii, is_trusted};
+use crate::symbols::is_trusted;
 use tui_cells::Cell;
 use tui_outside::{Print, Sink};
 use tui_tty::{Output, Trust};
@@ -34,8 +34,27 @@ pub(crate) fn put_anew<K: Sink>(
     ensures { Gathers (K.told sink.old) (K.told sink.new) print.old print.new
         (flat_map spelling (send output y nowhere (row_anew output.trust left row.now))) }
 {
-    // A terminal may make anything of the rest of the row at a risky symbol, so these come first.
-    let at = put_risky(print, output, y, left, row, sink);
+    if is_plain_row(row) {
+        put_all_plain(print, output, y, left, row, sink);
+    } else {
+        put_mixed(print, output, y, left, row, sink);
+    }
+}
+
+// Adds all cells of a row that may hold any symbols. A terminal may make anything of the rest of the row at a risky one, so these come first.
+fn put_mixed<K: Sink>(
+    print: &mut Print,
+    output: Output,
+    y: usize,
+    left: usize,
+    row: &[Cell],
+    sink: &mut K,
+)
+    requires { (left + length row.now ≤ 65535) × (y < 65536) }
+    ensures { Gathers (K.told sink.old) (K.told sink.new) print.old print.new
+        (flat_map spelling (send output y nowhere (row_anew output.trust left row.now))) }
+{
+    let at = put_pass(print, output, true, y, left, At::nowhere(), row, sink);
     put_pass(print, output, false, y, left, at, row, sink);
 }
 
@@ -53,40 +72,38 @@ pub(crate) fn put_changes<K: Sink>(
     ensures { Gathers (K.told sink.old) (K.told sink.new) print.old print.new
         (flat_map spelling (send output y nowhere (row_changes output.trust left old.now new.now))) }
 {
-    if is_same_row(old, new) {
-        return;
+    if are_plain(old, new) {
+        put_new_plain(print, output, y, left, old, new, sink);
+    } else {
+        put_mixed_changes(print, output, y, left, old, new, sink);
     }
+}
+
+fn are_plain(old: &[Cell], new: &[Cell]) -> bool
+    ensures { result ≡ (list_all (λ c. is_ascii c.symbol) old.now && list_all (λ c. is_ascii c.symbol) new.now) }
+{
+    is_plain_row(old) && is_plain_row(new)
+}
+
+// Adds what has changed in a row that may hold any symbols.
+fn put_mixed_changes<K: Sink>(
+    print: &mut Print,
+    output: Output,
+    y: usize,
+    left: usize,
+    old: &[Cell],
+    new: &[Cell],
+    sink: &mut K,
+)
+    requires { (length old.now ≡ length new.now) × (left + length new.now ≤ 65535) × (y < 65536) }
+    ensures { Gathers (K.told sink.old) (K.told sink.new) print.old print.new
+        (flat_map spelling (send output y nowhere (row_changes output.trust left old.now new.now))) }
+{
     if is_calm(output.trust, old, new) {
         put_new(print, output, y, left, old, new, sink);
     } else {
         put_anew(print, output, y, left, new, sink);
     }
-}
-
-// Whether no cell of a row differs. This passes over most rows of most frames.
-fn is_same_row(old: &[Cell], new: &[Cell]) -> bool
-    requires { length old.now ≡ length new.now }
-    ensures { IsTrue result → old.now ≡ new.now }
-{
-    'columns: for column in 0..new.len() {
-        let cell_old = &old[column];
-        let cell = &new[column];
-        if !is_same_cell(cell_old, cell) {
-            return false;
-        }
-    }
-    true
-}
-
-#[inline]
-fn is_same_cell(old: &Cell, new: &Cell) -> bool
-    ensures { result ≡ is_same old.now new.now }
-{
-    let symbol_old = old.symbol();
-    let attributes_old = old.attributes();
-    let symbol = new.symbol();
-    let attributes = new.attributes();
-    is_same_text(symbol_old, symbol) && attributes_old == attributes
 }
 
 // A comparison of texts is a call, which a single byte needs not.
@@ -98,40 +115,6 @@ fn is_same_text(one: &str, other: &str) -> bool
         ([a], [b]) => a == b,
         _ => one == other,
     }
-}
-
-// Adds the cells of a row with risky symbols, and answers what is known then. Most rows have printable bytes alone.
-fn put_risky<K: Sink>(
-    print: &mut Print,
-    output: Output,
-    y: usize,
-    left: usize,
-    row: &[Cell],
-    sink: &mut K,
-) -> At
-    requires { (left + length row.now ≤ 65535) × (y < 65536) }
-    ensures next { result ≡ at_after output.trust nowhere (sent output.trust Risky left (row_shown output.trust row.now) (row_shown output.trust row.now)) }
-    ensures put { Gathers (K.told sink.old) (K.told sink.new) print.old print.new (flat_map spelling (send output y nowhere
-        (sent output.trust Risky left (row_shown output.trust row.now) (row_shown output.trust row.now)))) }
-{
-    if is_plain_row(row) {
-        At::nowhere()
-    } else {
-        put_pass(print, output, true, y, left, At::nowhere(), row, sink)
-    }
-}
-
-// Whether each symbol of a row is a printable byte.
-fn is_plain_row(row: &[Cell]) -> bool
-    ensures { result ≡ list_all (λ c. is_ascii c.symbol) row.now }
-{
-    'columns: for column in 0..row.len() {
-        let cell = &row[column];
-        if !is_ascii(cell.symbol()) {
-            return false;
-        }
-    }
-    true
 }
 
 // Adds the cells of a row with risky symbols, or the ones with trusted symbols, and answers what is known then.
@@ -156,7 +139,7 @@ fn put_pass<K: Sink>(
     'columns: for column in 0..row.len() {
         let cell = &row[column];
         let seen = see(output.trust, under, row.len() - column, cell);
-        let wanted = is_in_pass(output.trust, risky, seen);
+        let wanted = is_in_pass(risky, seen);
         now = put_if(print, output, y, now, left + column, wanted, seen, sink);
         under = seen.under;
     }
@@ -192,22 +175,35 @@ fn put_new<K: Sink>(
     }
 }
 
-// Whether no risky symbol comes or goes.
+// Whether no risky symbol comes or goes. In most rows there is none.
 fn is_calm(trust: Trust, old: &[Cell], new: &[Cell]) -> bool
     requires { (length old.now ≡ length new.now) × (length new.now < 65536) }
     ensures { (left : ℕ) → result ≡ is_calm_both trust left old.now new.now }
 {
-    if are_plain(old, new) {
+    if are_trusted(trust, old, new) {
         true
     } else {
         is_calm_at_each(trust, old, new)
     }
 }
 
-fn are_plain(old: &[Cell], new: &[Cell]) -> bool
-    ensures { result ≡ (list_all (λ c. is_ascii c.symbol) old.now && list_all (λ c. is_ascii c.symbol) new.now) }
+fn are_trusted(trust: Trust, old: &[Cell], new: &[Cell]) -> bool
+    ensures { result ≡ (list_all (λ c. is_trusted trust c.symbol) old.now && list_all (λ c. is_trusted trust c.symbol) new.now) }
 {
-    is_plain_row(old) && is_plain_row(new)
+    is_trusted_row(trust, old) && is_trusted_row(trust, new)
+}
+
+// Whether a terminal is trusted with each symbol of a row.
+fn is_trusted_row(trust: Trust, row: &[Cell]) -> bool
+    ensures { result ≡ list_all (λ c. is_trusted trust c.symbol) row.now }
+{
+    'columns: for column in 0..row.len() {
+        let cell = &row[column];
+        if !is_trusted(trust, cell.symbol()) {
+            return false;
+        }
+    }
+    true
 }
 
 fn is_calm_at_each(trust: Trust, old: &[Cell], new: &[Cell]) -> bool
@@ -221,7 +217,7 @@ fn is_calm_at_each(trust: Trust, old: &[Cell], new: &[Cell]) -> bool
         let cell = &new[column];
         let before = see(trust, was, new.len() - column, cell_old);
         let seen = see(trust, is, new.len() - column, cell);
-        if is_alarm(trust, before, seen) {
+        if is_alarm(before, seen) {
             return false;
         }
         was = before.under;
@@ -232,10 +228,10 @@ fn is_calm_at_each(trust: Trust, old: &[Cell], new: &[Cell]) -> bool
 
 // Whether a cell shows and has a risky symbol, or shows and has a trusted one.
 #[inline]
-fn is_in_pass(trust: Trust, risky: bool, seen: Seen<'_>) -> bool
-    ensures { result ≡ (seen.entry.shows && is_of_pass risky (is_trusted trust seen.entry.symbol.now)) }
+fn is_in_pass(risky: bool, seen: Seen<'_>) -> bool
+    ensures { result ≡ (seen.entry.shows && is_of_pass risky seen.entry.trusted) }
 {
-    seen.shows && is_of_pass(risky, is_trusted(trust, seen.symbol))
+    seen.shows && is_of_pass(risky, seen.trusted)
 }
 
 #[inline]
@@ -246,17 +242,17 @@ fn is_of_pass(risky: bool, trusted: bool) -> bool
 }
 
 // Whether a risky symbol comes or goes in a column.
-fn is_alarm(trust: Trust, old: Seen<'_>, new: Seen<'_>) -> bool
-    ensures { result ≡ (is_new_risk trust old.entry new.entry || is_new_risk trust new.entry old.entry) }
+fn is_alarm(old: Seen<'_>, new: Seen<'_>) -> bool
+    ensures { result ≡ (is_new_risk old.entry new.entry || is_new_risk new.entry old.entry) }
 {
-    is_new_risk(trust, old, new) || is_new_risk(trust, new, old)
+    is_new_risk(old, new) || is_new_risk(new, old)
 }
 
 // Whether a risky symbol shows that did not show so before.
-fn is_new_risk(trust: Trust, old: Seen<'_>, new: Seen<'_>) -> bool
-    ensures { result ≡ is_new_risk trust old.entry new.entry }
+fn is_new_risk(old: Seen<'_>, new: Seen<'_>) -> bool
+    ensures { result ≡ is_new_risk old.entry new.entry }
 {
-    new.shows && !is_trusted(trust, new.symbol) && !is_same(old, new)
+    new.shows && !new.trusted && !is_same(old, new)
 }
 
 // Whether a cell shows that did not show so before.

@@ -4,10 +4,10 @@ ghost use Rattle.std.specs.Prelude.{◌≡◌, ◌-◌, ◌<◌, ◌≤◌, ◌=
 ghost use Rattle.tui_terminal.specs.Seeing.{blank_of, cover_of, shown_in};
 ghost use Rattle.tui_text.specs.Visible.{step_of};
 ghost use Rattle.tui_tty.specs.Pieces.{covered, next_cover, seen, shown, uncovered};
+ghost use Rattle.tui_tty.specs.Symbols.{is_trusted};
 
-use crate::symbols::{is_ascii, is_sendable};
+use crate::symbols::{is_ascii, is_sendable, known_of};
 use tui_cells::{Attributes, Cell};
-use tui_text::symbol_columns;
 use tui_tty::Trust;
 
 /// What the next cells of a row lie under: how many of them are behind a cell, and the attributes in which these show as
@@ -27,6 +27,10 @@ pub(crate) struct Seen<'c> {
     pub symbol: &'c str,
     /// Its attributes.
     pub attributes: Attributes,
+    /// How many columns it takes.
+    pub columns: usize,
+    /// Whether a terminal is trusted with it.
+    pub trusted: bool,
     /// What the next cells lie under.
     pub under: Under,
 }
@@ -49,12 +53,14 @@ pub(crate) fn see<'c>(trust: Trust, under: Under, room: usize, cell: &'c Cell) -
     requires { (0 < room) × (room < 65536) }
     ensures shown { shown_in result ≡ shown trust (cover_of under) room cell.now }
     ensures next { cover_of result.under ≡ next_cover trust (cover_of under) room cell.now }
-    ensures fits { step_of result.symbol.now ≤ room }
+    ensures fits { result.columns ≤ room }
+    ensures columns { result.columns ≡ step_of result.symbol.now }
+    ensures trusted { result.trusted ≡ is_trusted trust result.symbol.now }
 {
     if is_open(under) {
         see_open(trust, room, cell)
     } else {
-        see_under(under)
+        see_under(trust, under)
     }
 }
 
@@ -71,7 +77,9 @@ fn see_open<'c>(trust: Trust, room: usize, cell: &'c Cell) -> Seen<'c>
     requires { (0 < room) × (room < 65536) }
     ensures shown { shown_in result ≡ Some (seen trust room cell.now) }
     ensures next { cover_of result.under ≡ covered trust room cell.now }
-    ensures fits { step_of result.symbol.now ≤ room }
+    ensures fits { result.columns ≤ room }
+    ensures columns { result.columns ≡ step_of result.symbol.now }
+    ensures trusted { result.trusted ≡ is_trusted trust result.symbol.now }
 {
     let symbol = cell.symbol();
     let attributes = cell.attributes();
@@ -81,15 +89,20 @@ fn see_open<'c>(trust: Trust, room: usize, cell: &'c Cell) -> Seen<'c>
             shows: true,
             symbol,
             attributes,
+            columns: 1,
+            trusted: true,
             under: Under::none(),
         };
     }
-    let left = symbol_columns(symbol).min(room) - 1;
-    if is_sendable(trust, room, symbol) {
+    let known = known_of(trust, symbol);
+    let left = known.columns.min(room) - 1;
+    if is_sendable(symbol, room, known.columns, known.trusted) {
         Seen {
             shows: true,
             symbol,
             attributes,
+            columns: known.columns,
+            trusted: known.trusted,
             under: Under { left, blank: None },
         }
     } else {
@@ -97,6 +110,8 @@ fn see_open<'c>(trust: Trust, room: usize, cell: &'c Cell) -> Seen<'c>
             shows: true,
             symbol: " ",
             attributes,
+            columns: 1,
+            trusted: true,
             under: Under {
                 left,
                 blank: Some(attributes),
@@ -106,11 +121,13 @@ fn see_open<'c>(trust: Trust, room: usize, cell: &'c Cell) -> Seen<'c>
 }
 
 #[inline(always)]
-fn see_under<'c>(under: Under) -> Seen<'c>
+fn see_under<'c>(trust: Trust, under: Under) -> Seen<'c>
     requires { 0 < under.left }
     ensures shown { shown_in result ≡ blank_of under.blank }
     ensures next { cover_of result.under ≡ record { left = under.left - 1; blank = blank_of under.blank } }
-    ensures fits { step_of result.symbol.now ≤ 1 }
+    ensures fits { result.columns ≤ 1 }
+    ensures columns { result.columns ≡ step_of result.symbol.now }
+    ensures trusted { result.trusted ≡ is_trusted trust result.symbol.now }
 {
     let under_next = Under {
         left: under.left - 1,
@@ -121,12 +138,16 @@ fn see_under<'c>(under: Under) -> Seen<'c>
             shows: true,
             symbol: " ",
             attributes,
+            columns: 1,
+            trusted: true,
             under: under_next,
         },
         None => Seen {
             shows: false,
             symbol: " ",
             attributes: Attributes::at_rest(),
+            columns: 1,
+            trusted: true,
             under: under_next,
         },
     }

@@ -7,16 +7,15 @@ ghost use Rattle.tui_terminal.specs.Seeing.{look_in};
 ghost use Rattle.tui_terminal.specs.Sent.{is_before, is_pen, is_there, placed_at, placed_if};
 ghost use Rattle.tui_text.specs.Visible.{step_of};
 ghost use Rattle.tui_tty.specs.Spelling.{spelling};
+ghost use Rattle.tui_tty.specs.Symbols.{is_trusted};
 ghost use Rattle.tui_tty_laws.specs.Sending.{at_after, moves, moves_on, next_at, paints, paints_on, send, send_one};
 
 use crate::adding::put_repaint;
 use crate::pens::put_pen;
 use crate::seeing::Seen;
 use crate::spelling::{put_across, put_place};
-use crate::symbols::is_trusted;
 use tui_cells::Attributes;
 use tui_outside::{Print, Sink};
-use tui_text::symbol_columns;
 use tui_tty::{Depth, Output};
 use tui_tty_laws::At;
 
@@ -32,7 +31,8 @@ pub(crate) fn put_if<K: Sink>(
     seen: Seen<'_>,
     sink: &mut K,
 ) -> At
-    requires { (column + step_of seen.symbol.now ≤ 65535) × (y < 65536) }
+    requires { (column + seen.columns ≤ 65535) × (y < 65536)
+        × (seen.columns ≡ step_of seen.symbol.now) × (seen.trusted ≡ is_trusted output.trust seen.symbol.now) }
     ensures next { result ≡ at_after output.trust at (placed_if wanted column (look_in seen.entry)) }
     ensures put { Gathers (K.told sink.old) (K.told sink.new) print.old print.new
         (flat_map spelling (send output y at (placed_if wanted column (look_in seen.entry)))) }
@@ -46,6 +46,8 @@ pub(crate) fn put_if<K: Sink>(
             column,
             seen.symbol,
             seen.attributes,
+            seen.columns,
+            seen.trusted,
             sink,
         )
     } else {
@@ -53,9 +55,10 @@ pub(crate) fn put_if<K: Sink>(
     }
 }
 
-// Adds what sends a symbol with attributes in a column, and answers what is known then.
-#[inline]
-fn put_piece<K: Sink>(
+/// Adds what sends a symbol with attributes in a column, and answers what is known then. `columns` is how many it takes, `trusted` whether a
+/// terminal is trusted with it.
+#[inline(always)]
+pub(crate) fn put_piece<K: Sink>(
     print: &mut Print,
     output: Output,
     y: usize,
@@ -63,9 +66,11 @@ fn put_piece<K: Sink>(
     column: usize,
     symbol: &str,
     attributes: Attributes,
+    columns: usize,
+    trusted: bool,
     sink: &mut K,
 ) -> At
-    requires { (column + step_of symbol.now ≤ 65535) × (y < 65536) }
+    requires { (column + columns ≤ 65535) × (y < 65536) × (columns ≡ step_of symbol.now) × (trusted ≡ is_trusted output.trust symbol.now) }
     ensures next { result ≡ next_at output.trust (placed_at column symbol.now attributes) }
     ensures put { Gathers (K.told sink.old) (K.told sink.new) print.old print.new
         (flat_map spelling (send_one output.depth y at (placed_at column symbol.now attributes))) }
@@ -74,15 +79,15 @@ fn put_piece<K: Sink>(
     put_paints(print, output.depth, at, attributes, sink);
     put_symbol(print, symbol, sink);
     At {
-        column: column + symbol_columns(symbol),
-        placed: is_trusted(output.trust, symbol),
+        column: column + columns,
+        placed: trusted,
         pen: attributes,
         painted: true,
     }
 }
 
 // A single byte needs no copy.
-#[inline]
+#[inline(always)]
 fn put_symbol<K: Sink>(print: &mut Print, symbol: &str, sink: &mut K)
     ensures { Gathers (K.told sink.old) (K.told sink.new) print.old print.new symbol.now }
 {
@@ -93,7 +98,7 @@ fn put_symbol<K: Sink>(print: &mut Print, symbol: &str, sink: &mut K)
 }
 
 // Moves the cursor, unless it is known to stand there.
-#[inline]
+#[inline(always)]
 fn put_moves<K: Sink>(print: &mut Print, y: usize, at: At, column: usize, sink: &mut K)
     requires { (column < 65536) × (y < 65536) }
     ensures { Gathers (K.told sink.old) (K.told sink.new) print.old print.new
@@ -105,7 +110,7 @@ fn put_moves<K: Sink>(print: &mut Print, y: usize, at: At, column: usize, sink: 
 }
 
 // Moves the cursor from elsewhere: within the row, if it is known to stand before that.
-#[inline]
+#[inline(never)]
 fn put_moves_on<K: Sink>(print: &mut Print, y: usize, at: At, column: usize, sink: &mut K)
     requires { (column < 65536) × (y < 65536) }
     ensures { Gathers (K.told sink.old) (K.told sink.new) print.old print.new (flat_map spelling (moves_on y at column)) }
@@ -132,7 +137,7 @@ fn is_there(at: At, column: usize) -> bool
 }
 
 // Sets the pen, unless it is known to be this one.
-#[inline]
+#[inline(always)]
 fn put_paints<K: Sink>(
     print: &mut Print,
     depth: Depth,
@@ -149,6 +154,7 @@ fn put_paints<K: Sink>(
 }
 
 // Sets the pen from another one, if that is known.
+#[inline(never)]
 fn put_paints_on<K: Sink>(
     print: &mut Print,
     depth: Depth,

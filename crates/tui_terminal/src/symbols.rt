@@ -1,6 +1,7 @@
 //! Which symbols are sent, and which of them a terminal is trusted with.
 
-ghost use Rattle.std.specs.Prelude.{◌≡◌, ◌<◌, ◌&&◌, [], ◌∷◌, nat_le};
+ghost use Rattle.std.specs.Prelude.{◌≡◌, ◌<◌, ◌&&◌, ◌||◌, [], ◌∷◌, nat_le};
+ghost use Rattle.tui_text.specs.Visible.{step_of};
 ghost use Rattle.tui_tty.specs.Symbols.{
   ascii_trusted,
   has_columns,
@@ -11,7 +12,6 @@ ghost use Rattle.tui_tty.specs.Symbols.{
   is_led,
   is_quiet,
   is_quiet_byte,
-  is_sendable,
   is_tail,
   is_trusted,
   joins_next,
@@ -24,16 +24,33 @@ use tui_text::symbol_columns;
 use tui_tty::Trust;
 use unicode_width::UnicodeWidthChar;
 
-/// Whether a symbol may be sent, where this many columns are left in the row.
-#[tactic(auto, unfolding(tui_tty::specs::Symbols::is_sendable))]
-pub(crate) fn is_sendable(trust: Trust, room: usize, symbol: &str) -> bool
+/// How many columns a symbol takes, and whether a terminal is trusted with it.
+#[derive(Clone, Copy)]
+pub(crate) struct Known {
+    pub columns: usize,
+    pub trusted: bool,
+}
+
+/// What is known of a symbol.
+pub(crate) fn known_of(trust: Trust, symbol: &str) -> Known
+    ensures columns { result.columns ≡ step_of symbol.now }
+    ensures trusted { result.trusted ≡ is_trusted trust symbol.now }
+{
+    Known {
+        columns: symbol_columns(symbol),
+        trusted: is_trusted(trust, symbol),
+    }
+}
+
+/// Whether a symbol of this many columns may be sent, where this many are left in the row.
+pub(crate) fn is_sendable(symbol: &str, room: usize, columns: usize, trusted: bool) -> bool
     requires { room < 65536 }
-    ensures { result ≡ is_sendable trust room symbol.now }
+    ensures { result ≡ ((is_quiet symbol.now && nat_le columns room)
+        && (trusted || ((is_led symbol.now && is_ended symbol.now) && nat_le (reach symbol.now) room))) }
 {
     is_quiet(symbol)
-        && symbol_columns(symbol) <= room
-        && (is_trusted(trust, symbol)
-            || (is_led(symbol) && is_ended(symbol) && is_within_reach(symbol, room)))
+        && columns <= room
+        && (trusted || (is_led(symbol) && is_ended(symbol) && is_within_reach(symbol, room)))
 }
 
 /// Whether a terminal is trusted with a symbol.
@@ -91,7 +108,7 @@ fn is_common_three(a: u8, b: u8, c: u8) -> bool
     is_tail(b)
         && is_tail(c)
         && 0xe0 <= a
-        && is_three_trusted(4096 * (a as u32 - 0xe0) + (64 * (b as u32 - 0x80) + (c as u32 - 0x80)))
+        && is_three(4096 * (a as u32 - 0xe0) + (64 * (b as u32 - 0x80) + (c as u32 - 0x80)))
 }
 
 #[inline]
@@ -116,6 +133,14 @@ fn is_two_trusted(code: u32) -> bool
         | is_within(code, 0x3a3, 0x3ff)
         | is_within(code, 0x400, 0x482)
         | is_within(code, 0x48a, 0x52f)
+}
+
+// Most texts of such characters are of ideographs, so these are asked for first.
+#[inline]
+fn is_three(code: u32) -> bool
+    ensures { result ≡ is_among three_byte_trusted code }
+{
+    is_within(code, 0x4e00, 0x9fd5) || is_three_trusted(code)
 }
 
 // Dashes, arrows, lines, blocks, Braille, kana, ideographs, Hangul and fullwidth forms.

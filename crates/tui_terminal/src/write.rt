@@ -1,6 +1,6 @@
 //! Whole screens, and their changes.
 
-ghost use Rattle.std.specs.Prelude.{◌≡◌, ◌&&◌, nat_lt, ℕ, List, [], ◌∷◌, false, flat_map, map, true, if◌then◌else◌};
+ghost use Rattle.std.specs.Prelude.{◌≡◌, ◌+◌, ◌<◌, ◌≤◌, ◌&&◌, length, nat_lt, slice_index_or, ℕ, List, [], ◌∷◌, false, flat_map, map, true, if◌then◌else◌};
 ghost use Rattle.tui_cells.specs.Buffer.{IsScreen};
 ghost use Rattle.tui_outside.specs.Causes.{Writes};
 ghost use Rattle.tui_outside.specs.Gathers.{Gathers};
@@ -10,7 +10,7 @@ ghost use Rattle.tui_tty.specs.Shows.{IsPlace};
 ghost use Rattle.tui_tty.specs.Spelling.{spelling};
 ghost use Rattle.tui_tty.specs.Symbols.{is_trusted};
 ghost use Rattle.tui_tty.specs.Terminal.{held, place, turn, visible};
-ghost use Rattle.tui_tty_laws.specs.Sending.{change, full, row_anew, rows_sent, send_rows};
+ghost use Rattle.tui_tty_laws.specs.Sending.{change, full, nowhere, row_anew, row_changes, rows_sent, send, send_rows};
 
 use crate::rows::{put_anew, put_changes};
 use crate::spelling::{put_held, put_place, put_tame, put_visible};
@@ -138,15 +138,45 @@ fn put_new_rows<K: Sink>(
     let height_old = old.height();
     let height = new.height();
     'rows: for row in 0..height.min(height_old) {
-        let before = old.row_at(row);
-        let cells = new.row_at(row);
-        put_changes(
+        put_new_row(
             print,
             output,
             area.y as usize + row,
             area.x as usize,
-            before,
-            cells,
+            old,
+            new,
+            row,
+            sink,
+        );
+    }
+}
+
+// Most rows of most frames are passed over.
+fn put_new_row<K: Sink>(
+    print: &mut Print,
+    output: Output,
+    y: usize,
+    left: usize,
+    old: &Buffer,
+    new: &Buffer,
+    row: usize,
+    sink: &mut K,
+)
+    requires { (row < length old.now.rows) × (row < length new.now.rows)
+        × (length (slice_index_or old.now.rows row []) ≡ length (slice_index_or new.now.rows row []))
+        × (left + length (slice_index_or new.now.rows row []) ≤ 65535) × (y < 65536) }
+    ensures { Gathers (K.told sink.old) (K.told sink.new) print.old print.new
+        (flat_map spelling (send output y nowhere
+        (row_changes output.trust left (slice_index_or old.now.rows row []) (slice_index_or new.now.rows row [])))) }
+{
+    if !old.is_row_same(new, row) {
+        put_changes(
+            print,
+            output,
+            y,
+            left,
+            old.row_at(row),
+            new.row_at(row),
             sink,
         );
     }

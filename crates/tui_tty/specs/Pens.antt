@@ -2,7 +2,7 @@
 use Rattle.std.specs.Prelude.{◌≡◌, ℕ, ◌+◌, Bool, true, false, not, ◌&&◌, ◌||◌, bit_and, ◌==◌, List, [], ◌∷◌, ◌++◌, length, if◌then◌else◌}
 use Rattle.tui_cells.specs.declared.attributes.Attributes.{Attributes}
 use Rattle.tui_cells.specs.declared.color.Color.{Color}
-use Rattle.tui_cells.specs.declared.color.Color.TheVariants.{Reset, Rgb, Indexed}
+use Rattle.tui_cells.specs.declared.color.Color.TheVariants.{Reset, DarkGray, LightRed, LightGreen, LightYellow, LightBlue, LightMagenta, LightCyan, White, Rgb, Indexed}
 use Rattle.tui_cells.specs.Cell.{Look}
 use Rattle.tui_cells.specs.contracts.color.ColorPartialEq as color
 use Rattle.tui_tty.specs.declared.depth.Depth.{Depth}
@@ -91,9 +91,21 @@ is_own c = false
 abbrev pub color_stays : Color → Color → Bool
 color_stays a b = color.TheImpl.ghosts.eq a b || not (is_own b)
 
+-- a colour in front which some terminals show by bold, and don't take that back with the next one
+unfoldable pub is_bright : Color → Bool
+is_bright DarkGray = true
+is_bright LightRed = true
+is_bright LightGreen = true
+is_bright LightYellow = true
+is_bright LightBlue = true
+is_bright LightMagenta = true
+is_bright LightCyan = true
+is_bright White = true
+is_bright c = false
+
 -- from one pen to another nothing is taken away
 abbrev pub only_adds : Pen → Pen → Bool
-only_adds p q = marks_stay p.marks q.marks && (color_stays p.fg q.fg && color_stays p.bg q.bg)
+only_adds p q = not (is_bright p.fg) && (marks_stay p.marks q.marks && (color_stays p.fg q.fg && color_stays p.bg q.bg))
 
 -- the marks that are added, and each colour that changes
 abbrev pub marks_added : ℕ → List Bool → List Bool → List Setting

@@ -6,7 +6,7 @@ use Rattle.tui_cells.specs.Same.{same_color}
 use Rattle.tui_cells.specs.contracts.color.ColorPartialEq as color
 use Rattle.tui_cells.specs.declared.color.Color.{Color}
 use Rattle.tui_cells.specs.declared.color.Color.TheVariants.{Rgb, Indexed}
-use Rattle.tui_tty.specs.Pens.{add_all, added, adds_of, back_added, color_parameters, front_added, has_name, marks_added, marks_of, marks_stay, only_adds, parameters, then_back_added}
+use Rattle.tui_tty.specs.Pens.{add_all, added, adds_of, back_added, color_parameters, front_added, has_name, is_bright, marks_added, marks_of, marks_stay, only_adds, parameters, then_back_added}
 use Rattle.tui_tty.specs.Sends.{IsSafe, IsSafeSetting}
 use Rattle.tui_tty.specs.Terminal.{Pen, Setting, Tty, add, back, front, mark, pen_after, run}
 use Rattle.tui_tty_laws.proofs.Depths.{mark_few, parameters_append}
@@ -90,7 +90,8 @@ with_back knows false ms fs bs p q r t whole first second u third =
 pub pen_added : (knows : List ℕ → Bool) (f g h k : Color) (m n : ℕ) (t : Tty) → t.whole ≡ true → only_adds (pen_from f g m) (pen_from h k n) ≡ true →
     run knows (adds_of (pen_from f g m) (pen_from h k n)) (with_pen (pen_from f g m) t) ≡ with_pen (pen_from h k n) t
 pen_added knows f g h k m n t whole adds =
-    let both = and_parts (marks_stay (marks_of m) (marks_of n)) _ adds in
+    let dull = and_parts (not (is_bright f)) _ adds in
+    let both = and_parts (marks_stay (marks_of m) (marks_of n)) _ dull.1 in
     with_back knows (has_name k) (marks_added 0 (marks_of m) (marks_of n)) (front_added f h) (back_added g k)
     (pen_from f g m) (inked f g (marks_of n)) (inked h g (marks_of n)) t whole
     (marks_set [] (marks_of m) (marks_of n) f g both.0 refl) (front_more f h g (marks_of n)) (pen_from h k n) (back_more g k h (marks_of n))

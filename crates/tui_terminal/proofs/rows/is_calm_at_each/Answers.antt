@@ -32,16 +32,16 @@ columns-preserved c = λ left.
     let lt : i < length a.new.now = search (rules, arith) in
     let lt_old : i < length a.old.now = omega (arith, c.requires.0) in
     let off : c.is_alarm.result ≡ false = search rules in
-    let none = neither (is_new_risk a.trust b s) (is_new_risk a.trust s b) (sym c.is_alarm.ensures ∙ off) in
+    let none = neither (is_new_risk b s) (is_new_risk s b) (sym c.is_alarm.ensures ∙ off) in
     let eb = c.see-before.ensures in
     let es = c.see-seen.ensures in
-    let here = risk_is a.trust (left + i) (shown_in b) (shown a.trust u room o) (shown a.trust v room n) s.shows (look_in s) eb.shown es.shown in
-    let back = risk_is a.trust (left + i) (shown_in s) (shown a.trust v room n) (shown a.trust u room o) b.shows (look_in b) es.shown eb.shown in
-    let one = calm_more a.trust left i room u v (cover_of b.under) (cover_of s.under) a.old.now a.new.now o n (is_new_risk a.trust b s) _ lt c.requires.0
+    let here = risk_is a.trust (left + i) (shown_in b) (shown a.trust u room o) (shown a.trust v room n) s.shows (look_in s) s.trusted es.trusted eb.shown es.shown in
+    let back = risk_is a.trust (left + i) (shown_in s) (shown a.trust v room n) (shown a.trust u room o) b.shows (look_in b) b.trusted eb.trusted es.shown eb.shown in
+    let one = calm_more a.trust left i room u v (cover_of b.under) (cover_of s.under) a.old.now a.new.now o n (is_new_risk b s) _ lt c.requires.0
     c.index-old-column.is c.index-new-column.is refl eb.next es.next here (l.invariant left).0 in
-    let other = calm_more a.trust left i room v u (cover_of s.under) (cover_of b.under) a.new.now a.old.now n o (is_new_risk a.trust s b) _ lt_old (sym c.requires.0)
+    let other = calm_more a.trust left i room v u (cover_of s.under) (cover_of b.under) a.new.now a.old.now n o (is_new_risk s b) _ lt_old (sym c.requires.0)
     c.index-new-column.is c.index-old-column.is room_old es.next eb.next back (l.invariant left).1 in
-    (calm_on (is_new_risk a.trust b s) _ _ none.0 one, calm_on (is_new_risk a.trust s b) _ _ none.1 other)
+    (calm_on (is_new_risk b s) _ _ none.0 one, calm_on (is_new_risk s b) _ _ none.1 other)
 
 pub returns-then-is_alarm : goal.returns-then-is_alarm
 unfolding is_calm
@@ -62,13 +62,13 @@ returns-then-is_alarm c = λ left.
     let on : c.is_alarm.result ≡ true = search rules in
     let eb = c.see-before.ensures in
     let es = c.see-seen.ensures in
-    let here = risk_is a.trust (left + i) (shown_in b) (shown a.trust u room o) (shown a.trust v room n) s.shows (look_in s) eb.shown es.shown in
-    let back = risk_is a.trust (left + i) (shown_in s) (shown a.trust v room n) (shown a.trust u room o) b.shows (look_in b) es.shown eb.shown in
-    let one = calm_more a.trust left i room u v (cover_of b.under) (cover_of s.under) a.old.now a.new.now o n (is_new_risk a.trust b s) _ lt c.requires.0
+    let here = risk_is a.trust (left + i) (shown_in b) (shown a.trust u room o) (shown a.trust v room n) s.shows (look_in s) s.trusted es.trusted eb.shown es.shown in
+    let back = risk_is a.trust (left + i) (shown_in s) (shown a.trust v room n) (shown a.trust u room o) b.shows (look_in b) b.trusted eb.trusted es.shown eb.shown in
+    let one = calm_more a.trust left i room u v (cover_of b.under) (cover_of s.under) a.old.now a.new.now o n (is_new_risk b s) _ lt c.requires.0
     c.index-old-column.is c.index-new-column.is refl eb.next es.next here (l.invariant left).0 in
-    let other = calm_more a.trust left i room v u (cover_of s.under) (cover_of b.under) a.new.now a.old.now n o (is_new_risk a.trust s b) _ lt_old (sym c.requires.0)
+    let other = calm_more a.trust left i room v u (cover_of s.under) (cover_of b.under) a.new.now a.old.now n o (is_new_risk s b) _ lt_old (sym c.requires.0)
     c.index-new-column.is c.index-old-column.is room_old es.next eb.next back (l.invariant left).1 in
-    alarm_ends (is_new_risk a.trust b s) (is_new_risk a.trust s b) _ _ _ _ (sym c.is_alarm.ensures ∙ on) one other
+    alarm_ends (is_new_risk b s) (is_new_risk s b) _ _ _ _ (sym c.is_alarm.ensures ∙ on) one other
 
 pub returns : goal.returns
 unfolding is_calm

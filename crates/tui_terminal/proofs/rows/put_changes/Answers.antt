@@ -1,37 +1,30 @@
-use Rattle.std.proofs.Common.{◌≡◌, rules, true, false, sym, ap, ◌∙◌, flat_map, List}
-use Rattle.std.proofs.lemmas.Bool.{cond-true, cond-false}
+use Rattle.std.proofs.Common.{◌≡◌, rules, true, sym, ap, ◌∙◌, flat_map, List}
+use Rattle.std.specs.List.{list_all}
+use Rattle.std.proofs.lemmas.Bool.{and_parts, cond-true}
 use Rattle.tui_text.specs.Visible.{Placed}
 use Rattle.tui_tty.specs.Spelling.{spelling}
+use Rattle.tui_tty.specs.Symbols.{is_ascii}
 use Rattle.tui_tty_laws.specs.Sending.{nowhere, send}
 use Rattle.tui_tty_laws.specs.Sent.{anew, changes, row_shown}
 use Rattle.tui_terminal.specs.Sent.{is_calm_both}
-use Rattle.tui_outside.proofs.Gathering.{Gathers-none}
-use Rattle.tui_terminal.proofs.SameRows.{same_text}
+use Rattle.tui_terminal.proofs.PlainRows.{plain_calm}
 use Rattle.tui_terminal.proofs.Texts.{Gathers-text}
 use Rattle.tui_terminal.proofs.rows.put_changes.Goals as goal
 
-pub returns-then-is_calm : goal.returns-then-is_calm
-returns-then-is_calm g c =
+pub put_new_plain-requires : goal.put_new_plain-requires
+put_new_plain-requires g c =
+    let a = c.args in
+    let on : c.are_plain.result ≡ true = search rules in
+    let both = and_parts (list_all (λ k. is_ascii k.symbol) a.old.now) (list_all (λ k. is_ascii k.symbol) a.new.now) (sym c.are_plain.ensures ∙ on) in
+    (c.requires.0, c.requires.1, c.requires.2, both.0, both.1)
+
+pub returns-then-are_plain : goal.returns-then-are_plain
+returns-then-are_plain g c =
     let a = c.args in
     let trust = a.output.trust in
     let olds = row_shown trust a.old.now in
     let news = row_shown trust a.new.now in
-    let calm : c.is_calm.result ≡ true = search rules in
-    let is = cond-true (is_calm_both trust a.left a.old.now a.new.now) (changes trust a.left olds news) (anew trust a.left news) (sym (c.is_calm.ensures a.left) ∙ calm) in
-    Gathers-text (ap (λ (ps : List Placed). flat_map spelling (send a.output a.y nowhere ps)) (sym is)) c.put_new.ensures
-
-pub returns-else-is_calm : goal.returns-else-is_calm
-returns-else-is_calm g c =
-    let a = c.args in
-    let trust = a.output.trust in
-    let olds = row_shown trust a.old.now in
-    let news = row_shown trust a.new.now in
-    let calm : c.is_calm.result ≡ false = search rules in
-    let is = cond-false (is_calm_both trust a.left a.old.now a.new.now) (changes trust a.left olds news) (anew trust a.left news) (sym (c.is_calm.ensures a.left) ∙ calm) in
-    Gathers-text (ap (λ (ps : List Placed). flat_map spelling (send a.output a.y nowhere ps)) (sym is)) c.put_anew.ensures
-
-pub returns-then-is_same_row : goal.returns-then-is_same_row
-returns-then-is_same_row g c =
-    let a = c.args in
-    let same : c.is_same_row.result ≡ true = search rules in
-    Gathers-text (same_text a.output a.y a.left a.old.now a.new.now (c.is_same_row.ensures same)) (Gathers-none _ _)
+    let on : c.are_plain.result ≡ true = search rules in
+    let calm = sym (plain_calm trust a.left a.old.now a.new.now (sym c.are_plain.ensures ∙ on)) in
+    let is = cond-true (is_calm_both trust a.left a.old.now a.new.now) (changes trust a.left olds news) (anew trust a.left news) calm in
+    Gathers-text (ap (λ (ps : List Placed). flat_map spelling (send a.output a.y nowhere ps)) (sym is)) c.put_new_plain.ensures

@@ -33,8 +33,8 @@ columns-preserved g c =
     let s = c.see-seen.result in
     let next = c.see-seen.ensures.next in
     let here = placed_if c.is_in_pass-wanted.result (a.left + i) (look_in s) in
-    let same = pass_is a.output.trust (a.left + i) (shown a.output.trust u room cell) (shown a.output.trust u room cell) a.risky s.shows c.is_in_pass-wanted.result (look_in s)
-    c.is_in_pass-wanted.ensures c.see-seen.ensures.shown in
+    let same = pass_is a.output.trust (a.left + i) (shown a.output.trust u room cell) (shown a.output.trust u room cell) a.risky s.shows c.is_in_pass-wanted.result s.trusted (look_in s)
+    c.is_in_pass-wanted.ensures c.see-seen.ensures.trusted c.see-seen.ensures.shown in
     let lt : i < length row = search (rules, arith) in (
       inv.0 ++ here,
       Gathers-text (send_more a.output a.y a.at l.now inv.0 here inv.2) (Gathers-then inv.1 c.put_if-now.ensures.put),

@@ -1,4 +1,4 @@
-use Rattle.std.proofs.Common.{◌≡◌, ◌+◌, ◌<◌, ◌≤◌, [], ◌++◌, flat_map, length, get_or, rules, ap, ◌∙◌, arith}
+use Rattle.std.proofs.Common.{◌≡◌, ◌+◌, ◌<◌, ◌≤◌, [], ◌++◌, flat_map, length, get_or, rules, refl, ap, ◌∙◌, arith}
 use Rattle.tui_cells.specs.declared.rect.Rect.{Rect}
 use Rattle.tui_outside.proofs.Gathering.{Gathers-none, Gathers-then}
 use Rattle.tui_tty.specs.Spelling.{spelling}
@@ -10,8 +10,8 @@ use Rattle.tui_terminal.proofs.write.put_new_rows.Goals as goal
 pub rows-init : goal.rows-init
 rows-init g c = ([], Gathers-none _ _, changes_begin c.args.output c.area-area.result.y c.area-area.result.x c.args.old.now.rows c.args.new.now.rows)
 
-pub put_changes-requires : goal.put_changes-requires
-put_changes-requires g c =
+pub put_new_row-requires : goal.put_new_row-requires
+put_new_row-requires g c =
     let o = c.args.old.now in
     let n = c.args.new.now in
     let was = c.height-height_old.ensures.shape in
@@ -24,11 +24,9 @@ put_changes-requires g c =
     let wide : length (get_or n.rows i []) ≡ n.area.width = is.wide i [] lt in
     let wide_old : length (get_or o.rows i []) ≡ o.area.width = was.wide i [] lt_old in
     let widths : o.area.width ≡ n.area.width = ap (λ (a : Rect). a.width) c.requires in
-    let old_row = ap length c.row_at-before.ensures in
-    let new_row = ap length c.row_at-cells.ensures in
     let x : c.area-area.result.x ≡ n.area.x = ap (λ (a : Rect). a.x) c.area-area.ensures in
     let y : c.area-area.result.y ≡ n.area.y = ap (λ (a : Rect). a.y) c.area-area.ensures in
-    (omega (arith, old_row, new_row, wide, wide_old, widths), omega (arith, wide, new_row, x, is.right), omega (arith, y, lt, is.high, is.bottom))
+    (lt_old, lt, omega (arith, wide, wide_old, widths), omega (arith, wide, x, is.right), omega (arith, y, lt, is.high, is.bottom))
 
 pub rows-preserved : goal.rows-preserved
 rows-preserved g c =
@@ -41,9 +39,9 @@ rows-preserved g c =
     let least = c.min-row-end.ensures in
     let lt : i < length n.rows = search (rules, arith) in
     let high : length o.rows ≡ length n.rows = omega (arith, c.height-height_old.ensures.shape.high, c.height-height.ensures.shape.high, ap (λ (k : Rect). k.height) c.requires) in (
-      inv.0 ++ flat_map spelling (send t (a.y + i) nowhere (row_changes t.trust a.x c.row_at-before.result.now c.row_at-cells.result.now)),
-      Gathers-then inv.1 c.put_changes.ensures,
-      changes_more t a.y a.x i o.rows n.rows c.row_at-before.result.now c.row_at-cells.result.now inv.0 _ lt high c.row_at-before.ensures c.row_at-cells.ensures inv.2,
+      inv.0 ++ flat_map spelling (send t (a.y + i) nowhere (row_changes t.trust a.x (get_or o.rows i []) (get_or n.rows i []))),
+      Gathers-then inv.1 c.put_new_row.ensures,
+      changes_more t a.y a.x i o.rows n.rows (get_or o.rows i []) (get_or n.rows i []) inv.0 _ lt high refl refl inv.2,
     )
 
 pub returns-clause-put : goal.returns-clause-put

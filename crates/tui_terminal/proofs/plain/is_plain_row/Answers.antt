@@ -2,7 +2,7 @@ use Rattle.std.proofs.Common.{◌≡◌, ◌+◌, ◌<◌, ◌≤◌, ◌&&◌, 
 use Rattle.std.specs.List.{list_all}
 use Rattle.tui_tty.specs.Symbols.{is_ascii}
 use Rattle.tui_terminal.proofs.PlainRows.{plain_end, plain_step}
-use Rattle.tui_terminal.proofs.rows.is_plain_row.Goals as goal
+use Rattle.tui_terminal.proofs.plain.is_plain_row.Goals as goal
 
 pub columns-preserved : goal.columns-preserved
 columns-preserved c =

@@ -1,0 +1,20 @@
+use Rattle.std.proofs.Common.{◌≡◌, ◌+◌, List, ◌++◌, drop, flat_map}
+use Rattle.tui_outside.specs.Gathers.{Gathers}
+use Rattle.tui_text.specs.Visible.{Placed}
+use Rattle.tui_tty.specs.Spelling.{spelling}
+use Rattle.tui_tty_laws.specs.declared.wanted.Wanted.TheVariants.{Changed}
+use Rattle.tui_tty_laws.specs.Sending.{at_after, nowhere, send}
+use Rattle.tui_tty_laws.specs.Sent.{sent}
+use Rattle.tui_terminal.proofs.PlainRows.{map_some}
+use Rattle.tui_terminal.proofs.plain.put_new_plain.Given as goal
+
+-- the cells that are sent so far, and those that are still to come
+abbrev pub invariant-columns : goal.invariant-columns
+invariant-columns g l =
+    let k = g.K.Sink in
+    let trust = l.output.trust in
+    (done : List Placed)
+    × Gathers (k.told l.fn.sink) (k.told l.sink) l.fn.print l.print (flat_map spelling (send l.output l.y nowhere done))
+    × (l.now ≡ at_after trust nowhere done)
+    × (done ++ sent trust Changed (l.left + l.column) (map_some (drop l.column l.old)) (map_some (drop l.column l.new))
+    ≡ sent trust Changed l.left (map_some l.old) (map_some l.new))

@@ -1,0 +1,33 @@
+use Rattle.std.proofs.Common.{◌≡◌, ◌+◌, ◌<◌, ◌≤◌, ◌&&◌, Bool, length, drop, rules, true, false, sym, ap, ◌∙◌, arith}
+use Rattle.std.specs.List.{list_all}
+use Rattle.tui_tty.specs.Symbols.{is_trusted}
+use Rattle.tui_terminal.proofs.TrustedRows.{trusted_end, trusted_step}
+use Rattle.tui_terminal.proofs.rows.is_trusted_row.Goals as goal
+
+pub columns-preserved : goal.columns-preserved
+columns-preserved c =
+    let trust = c.args.trust in
+    let l = c.columns in
+    let row = c.args.row.now in
+    let cell = c.index-row-column.result in
+    let lt : l.column < length row = search (rules, arith) in
+    let on : c.is_trusted.result ≡ true = search rules in
+    let is : is_trusted trust cell.symbol ≡ true = ap (is_trusted trust) (sym c.symbol.ensures.is) ∙ (sym c.is_trusted.ensures ∙ on) in
+    sym (trusted_step trust row l.column cell lt c.index-row-column.is ∙ ap (λ (b : Bool). b && list_all (λ k. is_trusted trust k.symbol) (drop (l.column + 1) row)) is) ∙ l.invariant
+
+pub returns-then-not-is_trusted : goal.returns-then-not-is_trusted
+returns-then-not-is_trusted c =
+    let trust = c.args.trust in
+    let l = c.columns in
+    let row = c.args.row.now in
+    let cell = c.index-row-column.result in
+    let lt : l.column < length row = search (rules, arith) in
+    let off : c.is_trusted.result ≡ false = search rules in
+    let is : is_trusted trust cell.symbol ≡ false = ap (is_trusted trust) (sym c.symbol.ensures.is) ∙ (sym c.is_trusted.ensures ∙ off) in
+    sym (trusted_step trust row l.column cell lt c.index-row-column.is ∙ ap (λ (b : Bool). b && list_all (λ k. is_trusted trust k.symbol) (drop (l.column + 1) row)) is) ∙ l.invariant
+
+pub returns : goal.returns
+returns c =
+    let l = c.columns in
+    let past : length c.args.row.now ≤ l.column = search (rules, arith) in
+    trusted_end c.args.trust c.args.row.now l.column past ∙ l.invariant
