@@ -1,0 +1,7 @@
+//! The tests of tui_app, apart from it, so that it is proved but once.
+#![tactic(auto)]
+
+#[cfg(test)]
+mod dot;
+#[cfg(test)]
+mod sessions;
