@@ -4,7 +4,7 @@ use Rattle.std.proofs.Math.Seq.{drop-cons}
 use Rattle.std.proofs.lemmas.List.{append-nil, map-append, take-append-drop, take_all, take_more}
 use Rattle.tui_app.specs.Behaviour.{Behaviour}
 use Rattle.tui_app.specs.Lives.{IsFirst, Stand}
-use Rattle.tui_app.specs.Over.{Draws, IsLast, IsOver, LivesOn, RunsOver, draws_first, draws_next}
+use Rattle.tui_app.specs.Over.{Draws, LivesOn, RunsOver, draws_first, draws_next}
 use Rattle.tui_cells.specs.Buffer.{Screen}
 use Rattle.tui_cells.specs.declared.rect.Rect.{Rect}
 
@@ -22,7 +22,7 @@ pub drawn_next : {A : Type 0} (b : Behaviour A) (begin : A) (area : Rect) (reads
 drawn_next b begin area reads i d old new screens next screen lt draws lives e =
     let all : next ≡ screens ++ old.screen ∷ [] = e ∙ ap (λ (s : Screen). screens ++ s ∷ []) lives.2 in
     let more : map bytes_of (take (i + 1) reads) ≡ map bytes_of (take i reads) ++ (get_or reads i d).now ∷ [] =
-        ap (map bytes_of) (take_more reads i d lt) ∙ map-append bytes_of (take i reads) (get_or reads i d ∷ []) in
+    ap (map bytes_of) (take_more reads i d lt) ∙ map-append bytes_of (take i reads) (get_or reads i d ∷ []) in
     rw (all, more) (draws_next (map bytes_of (take i reads)) (get_or reads i d).now lives.0 old new (screens ++ old.screen ∷ []) draws lives.1)
 
 -- the last screen is added
@@ -39,7 +39,7 @@ pub over_at : {A X E : Type 0} (items : X → List Screen) (result : Result X E)
 over_at items result b begin area reads i d old new screens lt draws lives e =
     let rest = map bytes_of (drop (suc i) reads) in
     let split : reads ≡ take i reads ++ get_or reads i d ∷ drop (suc i) reads =
-        sym (take-append-drop i reads) ∙ ap (λ (l : List (Bor (List ℕ))). take i reads ++ l) (drop-cons reads i d lt) in
+    sym (take-append-drop i reads) ∙ ap (λ (l : List (Bor (List ℕ))). take i reads ++ l) (drop-cons reads i d lt) in
     with_all items result b begin area (map bytes_of reads) (screens ++ new.screen ∷ []) new.app
     (record {
       taken = map bytes_of (take i reads);

@@ -15,7 +15,6 @@ mod turn;
 
 pub use app::{App, Flow};
 pub use ending::{AppEnd, MOST_READS};
-pub use feed::Size;
 pub use memory_terminal::MemTerminal;
 pub use over::run_over;
 pub use port::Port;

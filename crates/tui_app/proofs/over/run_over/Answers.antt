@@ -1,4 +1,4 @@
-use Rattle.std.proofs.Common.{◌≡◌, [], ◌∷◌, ◌++◌, get_or}
+use Rattle.std.proofs.Common.{[]}
 use Rattle.tui_app.proofs.Living.{drawn_first, drawn_next, over_all, over_at}
 use Rattle.tui_app.specs.Over.{stand_at}
 use Rattle.tui_cells.specs.Rect.{area_of}
