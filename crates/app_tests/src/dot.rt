@@ -8,6 +8,7 @@ use tui_cells::{Buffer, Mem, NoMemory, Position};
 use tui_keys::Event;
 
 /// Draws a letter in a column of the first row, and has the cursor there.
+#[derive(Drop)]
 pub(crate) struct Dot {
     pub(crate) column: u16,
 }

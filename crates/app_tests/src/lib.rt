@@ -4,4 +4,6 @@
 #[cfg(test)]
 mod dot;
 #[cfg(test)]
+mod screens;
+#[cfg(test)]
 mod sessions;

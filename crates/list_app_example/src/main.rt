@@ -17,6 +17,7 @@ use tui::widgets::{List, ListItem, ListState, StatefulWidget};
 
 const NAMES: [&str; 6] = ["apples", "bread", "cheese", "dates", "eggs", "figs"];
 
+#[derive(Drop)]
 struct Shopping {
     state: ListState,
 }
