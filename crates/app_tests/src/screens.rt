@@ -22,7 +22,13 @@ fn has_x_in(buf: &Buffer, column: u16) -> bool {
 #[test]
 fn screens_of_reads(rt: HostRuntime) -> Mem<()> {
     let alloc = rt.alloc();
-    let reads: [&[u8]; 5] = [b"\x1b[C\x1b[C", b"\x1b[8;2;6t\x1b[", b"C", b"q\x1b[C", b"\x1b[C"];
+    let reads: [&[u8]; 5] = [
+        b"\x1b[C\x1b[C",
+        b"\x1b[8;2;6t\x1b[",
+        b"C",
+        b"q\x1b[C",
+        b"\x1b[C",
+    ];
     let screens = run_over(alloc, &mut Dot { column: 0 }, 4, 1, &reads)?;
     match screens.as_slice() {
         [first, moved, sized, cut] => {

@@ -15,10 +15,12 @@ const OUTPUT: Output = Output {
     hold: false,
 };
 
-const ENTER: &str = "\x1b[?1049h\x18\x1b\\\x1b[?2026l\x1b[?69l\x1b[?6l\x1b[4l\x1b[r\x1b(B\x0f\x1b[?7l\x1b[?2004h";
+const ENTER: &str =
+    "\x1b[?1049h\x18\x1b\\\x1b[?2026l\x1b[?69l\x1b[?6l\x1b[4l\x1b[r\x1b(B\x0f\x1b[?7l\x1b[?2004h";
 
 /// What a full screen begins with.
-const FULL: &str = "\x18\x1b\\\x1b[?2026l\x1b[?69l\x1b[?6l\x1b[4l\x1b[r\x1b(B\x0f\x1b[?7l\x1b[1;1H\x1b[0mÀ";
+const FULL: &str =
+    "\x18\x1b\\\x1b[?2026l\x1b[?69l\x1b[?6l\x1b[4l\x1b[r\x1b(B\x0f\x1b[?7l\x1b[1;1H\x1b[0mÀ";
 
 const LEAVE: &str = "\x1b[?2026l\x1b[?2004l\x1b[?1049l\x1b[0m\x1b[?7h\x1b[?25h";
 
