@@ -6,3 +6,5 @@ pub mod Joining
 pub mod Showing
 pub mod Making
 pub mod Spelling
+pub mod Looking
+pub mod Copies

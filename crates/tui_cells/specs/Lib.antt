@@ -18,3 +18,4 @@ pub mod Drawing
 pub mod Symbols
 pub mod Names
 pub mod Same
+pub mod Copying

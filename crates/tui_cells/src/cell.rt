@@ -64,6 +64,14 @@ impl Cell {
         self.content.attributes()
     }
 
+    /// Whether another cell shows the same.
+    #[inline]
+    pub fn is_same(&self, other: &Cell) -> bool
+        ensures { IsTrue result ↔ (self.now ≡ other.now) }
+    {
+        self.content.is_same(&other.content)
+    }
+
     #[inline]
     pub(crate) fn is_at_rest(&self) -> bool
         ensures { IsTrue result ↔ IsAtRest self.now }
@@ -153,6 +161,17 @@ impl Cell {
         ensures err { OnErr result (self.new ≡ self.old) }
     {
         self.content = Content::Long(self.content.attributes(), symbol.clone()?);
+        Ok(())
+    }
+
+    /// Shows what another cell shows. At NoMemory the cell is as before. A symbol of at most 8 bytes takes no memory.
+    #[inline]
+    pub fn copy_from(&mut self, other: &Cell) -> Mem<()>
+        ensures ok { OnOk result (self.new ≡ other.now) }
+        ensures err { OnErr result (self.new ≡ self.old) }
+        ensures light { IsLight other.now.symbol → IsOk result }
+    {
+        self.content = other.content.duplicate()?;
         Ok(())
     }
 

@@ -1,6 +1,6 @@
 //! How a cell keeps what it shows.
 
-ghost use Rattle.std.specs.Prelude.{◌≡◌, ◌<◌, [], ◌∷◌, IsOk, IfOk, IfSome, None, OnErr, OnOk, length, string_bytes};
+ghost use Rattle.std.specs.Prelude.{◌≡◌, ◌↔◌, ◌<◌, [], ◌∷◌, IsOk, IsTrue, IfOk, IfSome, None, OnErr, OnOk, length, string_bytes};
 ghost use Rattle.std.specs.Char.{encode_utf8};
 ghost use Rattle.tui_cells.specs.Attributes.{content_look, look_of};
 ghost use Rattle.tui_cells.specs.Cell.{IsLight, dim, dressed, edited, put, space, symbol_of};
@@ -77,6 +77,29 @@ pub(crate) fn short_symbol(text: &str) -> Option<ArrayString<SHORT>>
     }
 }
 
+// A text that another cell has, shared where it is long.
+#[inline(never)]
+fn shared(attributes: Attributes, symbol: &Rc<String>) -> Mem<Content>
+    ensures same { IfOk result (λ c. content_look c ≡ look_of (string_bytes symbol.now.value) attributes) }
+    ensures light { IsLight (string_bytes symbol.now.value) → IsOk result }
+{
+    match short_symbol(symbol.as_str()) {
+        Some(short) => Ok(Content::Short(attributes, short)),
+        None => Ok(Content::Long(attributes, symbol.clone()?)),
+    }
+}
+
+// A comparison of texts is a call, which a single byte needs not.
+#[inline]
+fn is_same_text(one: &str, other: &str) -> bool
+    ensures { IsTrue result ↔ (one.now ≡ other.now) }
+{
+    match (one.as_bytes(), other.as_bytes()) {
+        ([a], [b]) => a == b,
+        _ => one == other,
+    }
+}
+
 impl Content {
     /// Sets the symbol; the empty text gives one blank. At NoMemory the content is as before.
     #[inline]
@@ -146,6 +169,14 @@ impl Content {
         }
     }
 
+    /// Whether both show the same.
+    #[inline]
+    pub(crate) fn is_same(&self, other: &Content) -> bool
+        ensures { IsTrue result ↔ (content_look self.now ≡ content_look other.now) }
+    {
+        self.attributes() == other.attributes() && is_same_text(self.symbol(), other.symbol())
+    }
+
     pub(crate) fn dim(&mut self)
         ensures { content_look self.new ≡ edited dim (content_look self.old) }
     {
@@ -155,13 +186,15 @@ impl Content {
         }
     }
 
-    /// The same content; a long symbol is shared.
+    /// The same content; a long symbol is shared. A text of at most 8 bytes takes no memory.
+    #[inline]
     pub(crate) fn duplicate(&self) -> Mem<Content>
-        ensures { IfOk result (λ c. content_look c ≡ content_look self.now) }
+        ensures same { IfOk result (λ c. content_look c ≡ content_look self.now) }
+        ensures light { IsLight (content_look self.now).symbol → IsOk result }
     {
         match self {
             Content::Short(attributes, symbol) => Ok(Content::Short(*attributes, *symbol)),
-            Content::Long(attributes, symbol) => Ok(Content::Long(*attributes, symbol.clone()?)),
+            Content::Long(attributes, symbol) => shared(*attributes, symbol),
         }
     }
 }

@@ -24,7 +24,8 @@ pub trait Numbered<'v, F: Fields>: Sized {
     // What the data of this number is, or the refusal of the first of its fields whose test fails.
     ghost tests: { Self.Known → ℕ → Data → Result Seen F.Refusal };
 
-    /// The value of this number. It is refused at the first of its fields that is missing though required or not of its kind.
+    /// The value of this number, its place in an array, so that a reader may add to it. It is refused at the first of its fields that
+    /// is missing though required or not of its kind.
     fn read(
         alloc: Global,
         known: Self::Known,

@@ -65,6 +65,9 @@ begin_three ws word allowed n m have = (have.0 ∷ have.1 ∷ [], have.2, count_
 pub few_none : (ws : List (String Global)) → AreTexts [] ws → length ws ≤ most_words
 few_none ws are = omega (arith, count_of [] ws are)
 
+pub few_begun : (word : List ℕ) (ws : List (String Global)) → Begin word 2 ws → length ws ≤ most_words
+few_begun word ws h = omega (arith, h.2)
+
 pub few_one : (word : List ℕ) (ws : List (String Global)) → AreTexts (word ∷ []) ws → length ws ≤ most_words
 few_one word ws are = omega (arith, count_of (word ∷ []) ws are)
 

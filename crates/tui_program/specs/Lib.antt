@@ -6,3 +6,4 @@ pub mod Runs
 pub mod Status
 pub mod Transcript
 pub mod Words
+pub mod Files

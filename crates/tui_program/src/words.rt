@@ -13,7 +13,7 @@ const FIRST_WORDS: usize = 4;
 
 /// The first words behind the program's name, of which there may be one more than any command has: these tell which command all of them
 /// name, or that they name none. Takes no memory.
-pub(crate) fn first_words(alloc: Global, all: Args) -> ArrayVec<String, 4, Global>
+pub fn first_words(alloc: Global, all: Args) -> ArrayVec<String, 4, Global>
     ensures { result.items ≡ take 4 (drop 1 (into_iter_items all)) }
 {
     let mut rest = all;
@@ -43,7 +43,7 @@ pub fn is_word(words: &[String], word: &str) -> bool
 }
 
 /// Whether there are `count` words, of which this is the first.
-pub(crate) fn begin(words: &[String], count: usize, word: &str) -> bool
+pub fn begin(words: &[String], count: usize, word: &str) -> bool
     requires { 0 < count }
     ensures { IsTrue result ↔ Begin word.now count words.now }
 {

@@ -50,7 +50,7 @@ record Alike (a : Screen) (rows : List (List Look)) (r : Rect) : Type 0 where
   cells : (x y : ℕ) → cell_at (record { area = r; rows = rows }) x y ≡ cell_at a x y
 
 -- screens of one area with the same cells are one
-one_screen : (a b : Screen) → b.area ≡ a.area → IsScreen a → IsScreen b → ((x y : ℕ) → cell_at b x y ≡ cell_at a x y) → b ≡ a
+pub one_screen : (a b : Screen) → b.area ≡ a.area → IsScreen a → IsScreen b → ((x y : ℕ) → cell_at b x y ≡ cell_at a x y) → b ≡ a
 one_screen a b area p q same =
     let there = subst (Alike a b.rows) area (record { shape = q; cells = same }) in
     let rows = same_rows a.area b.rows a.rows there.shape p there.cells in

@@ -128,7 +128,7 @@ order_is_free ps order a b lie is painted =
     painted
 
 -- drawn again the widgets draw the same strokes
-scene_repeats : (area : Rect) (ps : List PlacedData) → scene_layers area (map (placed_after area) ps) ≡ scene_layers area ps
+pub scene_repeats : (area : Rect) (ps : List PlacedData) → scene_layers area (map (placed_after area) ps) ≡ scene_layers area ps
 scene_repeats area [] = refl
 scene_repeats area (p ∷ ps) =
     ap (λ ls. ls ++ scene_layers area (map (placed_after area) ps)) (items_repeat area p)

@@ -19,7 +19,7 @@ use Rattle.tui_clusters.specs.Width.{width_of}
 use Rattle.tui_text.specs.Grapheme.{Glyph}
 use Rattle.tui_clusters.specs.Shown.{clusters, one_byte}
 use Rattle.tui_text.specs.Graphemes.{glyph_in, span_graphemes}
-use Rattle.tui_text.specs.Painting.{cells_at, column_at, line_part, shown_glyph, shown_glyphs}
+use Rattle.tui_text.specs.Painting.{cells_at, column_at, row_part, shown_glyph, shown_glyphs}
 use Rattle.tui_clusters.specs.Printable.{is_printable}
 use Rattle.tui_text.specs.Row.{InRow, ShownUpTo}
 use Rattle.tui_text.specs.Setting.{set_cluster, set_clusters}
@@ -84,13 +84,13 @@ painted_first row skip place next style run cs all a b e p more =
     subst (λ gs. ShownUpTo row skip place gs next (map (glyph_in style) cs ++ more) a b) (first_glyphs style run cs all more e)
     (p (map (glyph_in style) cs ++ more))
 
-run_out : (row : Rect) (x n u v : ℕ) → row.x ≤ x → x + n ≤ right_of row → row.y < bottom_of row → line_part row u v ≡ false →
+run_out : (row : Rect) (x n u v : ℕ) → row.x ≤ x → x + n ≤ right_of row → row.y < bottom_of row → row_part row u v ≡ false →
     covers (cells_at x row.y n) u v ≡ false
 run_out row x n u v first last low out = grind (arith, nat_tests)
 
 -- bytes whose columns lie in a row change nothing outside it
 pub run_kept : (row : Rect) (skip place x : ℕ) (style : Style) (run : List ℕ) (a b : Screen) → InRow row skip place (length run) → x ≡ row.x + (place - skip) →
-    Painted (ascii_layers x row.y style run) a b → KeptOutside (line_part row) a b
+    Painted (ascii_layers x row.y style run) a b → KeptOutside (row_part row) a b
 run_kept row skip place x style run a b k is p =
     KeptOutside-weaker (λ u v out. run_out row x (length run) u v (omega (arith, is)) (omega (arith, is, k.within)) k.low out)
     (kept_spelt x row.y (length run) style run a b (omega arith) p)

@@ -26,6 +26,7 @@ use Rattle.tui_text.specs.Painting.{
   line_part,
   lines_layers,
   row_layers,
+  row_part,
   shown_glyphs,
   text_layers,
 }
@@ -84,25 +85,25 @@ pub row_stays : (row : Rect) (a : Alignment) (line : LineData) → StayIn (cover
 unfolding row_layers
 row_stays row a line = line_stays row a line _ refl
 
-part_out : (row : Rect) (x y : ℕ) → line_part row x y ≡ false → is_empty row ≡ false → covers (first_row row) x y ≡ false
+part_out : (row : Rect) (x y : ℕ) → row_part row x y ≡ false → is_empty row ≡ false → covers (first_row row) x y ≡ false
 part_out row x y out some = grind (arith, nat_tests)
 
 -- the style on the first row of an area changes nothing outside that row
 pub dressed_kept : (row : Rect) (style : Style) (a b : Screen) → is_empty row ≡ false → Painted (stroke (covers (first_row row)) (dress style)) a b →
-    KeptOutside (line_part row) a b
+    KeptOutside (row_part row) a b
 dressed_kept row style a b some p = Painted-kept (StayIn-stroke (covers (first_row row)) (dress style) (λ x y out. part_out row x y out some)) p
 
 found : (t : Bool) (p x : ℕ) → (if t then Some p else None) ≡ Some x → (t ≡ true) × (p ≡ x)
 found true p x e = (refl, cc)
 found false p x e = cc
 
-columns_out : (row : Rect) (x w u v : ℕ) → covers row x row.y ≡ true → covers row (x + (w - 1)) row.y ≡ true → line_part row u v ≡ false →
+columns_out : (row : Rect) (x w u v : ℕ) → covers row x row.y ≡ true → covers row (x + (w - 1)) row.y ≡ true → row_part row u v ≡ false →
     covers (cells_at x row.y w) u v ≡ false
 columns_out row x w u v first last out = grind (arith, nat_tests)
 
 -- a grapheme that lies whole inside a row changes nothing outside it
 pub glyph_kept : (row : Rect) (skip place w x : ℕ) (a b : Screen) → column_at row skip place w ≡ Some x → KeptOutside (covers (cells_at x row.y w)) a b →
-    KeptOutside (line_part row) a b
+    KeptOutside (row_part row) a b
 glyph_kept row skip place w x a b e k =
     let p : ℕ = row.x + (place - skip) in
     let f = found _ p x e in
@@ -110,8 +111,14 @@ glyph_kept row skip place w x a b e k =
     KeptOutside-weaker (λ u v out. columns_out row x w u v (rw f.1 at inside.0) (rw f.1 at inside.1) out) k
 
 -- what changes nothing outside the first row of an area changes nothing outside the area
-pub line_kept : (row : Rect) (a b : Screen) → KeptOutside (line_part row) a b → KeptOutside (covers row) a b
+pub line_kept : (row : Rect) (a b : Screen) → KeptOutside (row_part row) a b → KeptOutside (covers row) a b
 line_kept row a b k = KeptOutside-weaker (λ x y out. rw out refl) k
+
+-- where a line has columns, it may change its whole row
+pub part_kept : (row : Rect) (line : LineData) (a b : Screen) → nat_lt 0 (line_width false line) ≡ true → KeptOutside (row_part row) a b →
+    KeptOutside (line_part row line) a b
+unfolding line_part
+part_kept row line a b some k = KeptOutside-weaker (λ x y out. rw some at out) k
 
 pub below_out : (area : Rect) (x y : ℕ) → covers area x y ≡ false → covers (below area) x y ≡ false
 below_out area x y out = grind (arith, nat_tests)

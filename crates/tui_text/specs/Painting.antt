@@ -46,9 +46,13 @@ cells_at x y width = record { x = x; y = y; width = width; height = 1 }
 abbrev pub first_row : Rect → Rect
 first_row area = cells_at area.x area.y area.width
 
--- the cells that a line painted in an area may change: those of the area's first row
-abbrev pub line_part : Rect → ℕ → ℕ → Bool
-line_part area x y = covers area x y && (y == area.y)
+-- the cells of the first row of an area that it has
+abbrev pub row_part : Rect → ℕ → ℕ → Bool
+row_part area x y = covers area x y && (y == area.y)
+
+-- the cells that a line painted in an area may change: those of the area's first row, and none where the line has no columns
+unfoldable pub line_part : Rect → LineData → ℕ → ℕ → Bool
+line_part area line x y = nat_lt 0 (line_width false line) && row_part area x y
 
 -- a grapheme from a column on: its symbol, its style, and the cells behind a wide one made blank
 abbrev pub glyph_at : ℕ → ℕ → Glyph → List Layer

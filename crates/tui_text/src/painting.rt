@@ -42,7 +42,7 @@ fn before_it(alignment: Alignment, room: usize, width: usize) -> usize
 /// Paints spans in the first row of an area, as `paint_row` paints a line of them in a style. No line is made for it.
 ///
 /// Spans that begin at the left are read once, and others once more for their width.
-#[tactic(auto, unfolding(crate::specs::Painting::row_layers))]
+#[tactic(auto, unfolding(crate::specs::Painting::line_part, crate::specs::Painting::row_layers))]
 pub fn paint_spans(
     buf: &mut Buffer,
     row: Rect,
@@ -52,7 +52,7 @@ pub fn paint_spans(
 ) -> Mem<()>
     ensures ok { OnOk result (Painted (row_layers row alignment (spans_line (map span_data spans.now) style)) buf.old buf.new) }
     ensures kept { KeptOutside (covers row) buf.old buf.new }
-    ensures part { KeptOutside (line_part row) buf.old buf.new }
+    ensures part { KeptOutside (line_part row (spans_line (map span_data spans.now) style)) buf.old buf.new }
     ensures light { AreLight (map span_data spans.now) → IsOk result }
 {
     if row.is_empty() || !has_columns(spans) {
@@ -83,11 +83,11 @@ fn beginning(spans: &[Span<'_>], alignment: Alignment, room: u16) -> (usize, usi
 }
 
 /// Paints a line in the first row of an area, as `paint_line` does where the area lies in its clip and in the buffer.
-#[tactic(auto, unfolding(crate::specs::Painting::row_layers))]
+#[tactic(auto, unfolding(crate::specs::Painting::line_part, crate::specs::Painting::row_layers))]
 pub fn paint_row(buf: &mut Buffer, row: Rect, line: &Line<'_>, alignment: Alignment) -> Mem<()>
     ensures ok { OnOk result (Painted (row_layers row alignment (line_data line.now)) buf.old buf.new) }
     ensures kept { KeptOutside (covers row) buf.old buf.new }
-    ensures part { KeptOutside (line_part row) buf.old buf.new }
+    ensures part { KeptOutside (line_part row (line_data line.now)) buf.old buf.new }
     ensures light { AreLight (line_data line.now).spans → IsOk result }
 {
     paint_spans(buf, row, line.spans(), line.line_style(), alignment)
@@ -96,8 +96,8 @@ pub fn paint_row(buf: &mut Buffer, row: Rect, line: &Line<'_>, alignment: Alignm
 /// Paints a line in the first row of its area within the clip and the buffer: its style on the row, then each grapheme that
 /// lies whole inside, in its span's style, the cells behind a wide one made blank. A line that fits is indented by its free
 /// columns: none (Left), half of them (Center) or all (Right); a wider one loses columns at its left in the same way. A line
-/// without columns changes nothing. At NoMemory nothing outside that first row has changed; graphemes of at most 8 bytes take no
-/// memory.
+/// without columns changes nothing, also at NoMemory. Nothing outside that first row has changed then; graphemes of at most 8
+/// bytes take no memory.
 pub fn paint_line(
     buf: &mut Buffer,
     clip: Rect,
@@ -108,7 +108,7 @@ pub fn paint_line(
     ensures ok { OnOk result
         (Painted (row_layers (intersection_of area (intersection_of clip buf.old.area)) alignment (line_data line.now)) buf.old buf.new) }
     ensures kept { KeptOutside (covers (intersection_of area (intersection_of clip buf.old.area))) buf.old buf.new }
-    ensures part { KeptOutside (line_part (intersection_of area (intersection_of clip buf.old.area))) buf.old buf.new }
+    ensures part { KeptOutside (line_part (intersection_of area (intersection_of clip buf.old.area)) (line_data line.now)) buf.old buf.new }
     ensures light { AreLight (line_data line.now).spans → IsOk result }
 {
     let part = clip.intersection(buf.area());

@@ -10,7 +10,7 @@ ghost use Rattle.tui_text.specs.Grapheme.{Glyph, glyph_of, glyph_width};
 ghost use Rattle.tui_clusters.specs.Clusters.{clusters_left};
 ghost use Rattle.tui_clusters.specs.Shown.{clusters, one_byte};
 ghost use Rattle.tui_text.specs.Graphemes.{glyph_in, span_graphemes};
-ghost use Rattle.tui_text.specs.Painting.{cells_at, column_at, glyph_at, line_part, shown_glyph, shown_glyphs};
+ghost use Rattle.tui_text.specs.Painting.{cells_at, column_at, glyph_at, row_part, shown_glyph, shown_glyphs};
 ghost use Rattle.tui_clusters.specs.Printable.{is_printable};
 ghost use Rattle.tui_text.specs.Row.{InRow, ShownUpTo};
 ghost use Rattle.tui_text.specs.Setting.{AreLight};
@@ -93,7 +93,7 @@ fn paint_glyph(
 ) -> Mem<()>
     requires { width ≡ glyph_width (glyph_of grapheme.now) }
     ensures ok { OnOk result (Painted (shown_glyph row skip place (glyph_of grapheme.now)) buf.old buf.new) }
-    ensures kept { KeptOutside (line_part row) buf.old buf.new }
+    ensures kept { KeptOutside (row_part row) buf.old buf.new }
     ensures light { IsLight (glyph_of grapheme.now).text → IsOk result }
 {
     match column_at(row, skip, place, width) {
@@ -123,7 +123,7 @@ fn paint_bytes(buf: &mut Buffer, row: Rect, skip: usize, place: usize, bytes: &[
     requires inside { 0 < length bytes.now → InRow row skip place (length bytes.now) }
     ensures shown { (more : List Glyph) → ShownUpTo row skip place (map (glyph_in style) (map one_byte bytes.now) ++ more)
         (place + length bytes.now) more buf.old buf.new }
-    ensures kept { KeptOutside (line_part row) buf.old buf.new }
+    ensures kept { KeptOutside (row_part row) buf.old buf.new }
 {
     if bytes.is_empty() {
         return;
@@ -145,7 +145,7 @@ fn paint_run(
     requires { skip + row.width < 2 ^ 64 }
     ensures shown { (more : List Glyph) → ShownUpTo row skip place (map (glyph_in style) (clusters_left clusters.old) ++ more)
         result (map (glyph_in style) (clusters_left clusters.new) ++ more) buf.old buf.new }
-    ensures kept { KeptOutside (line_part row) buf.old buf.new }
+    ensures kept { KeptOutside (row_part row) buf.old buf.new }
     ensures light { All IsLight (clusters_left clusters.old) → All IsLight (clusters_left clusters.new) }
     ensures fewer { length (clusters_left clusters.new) ≤ length (clusters_left clusters.old) }
 {
@@ -166,7 +166,7 @@ fn paint_cluster(
 ) -> Mem<usize>
     requires { skip + row.width < 2 ^ 64 }
     ensures shown { IfOk result (λ next. (more : List Glyph) → ShownUpTo row skip place (glyph_in style symbol.now ∷ more) next more buf.old buf.new) }
-    ensures kept { KeptOutside (line_part row) buf.old buf.new }
+    ensures kept { KeptOutside (row_part row) buf.old buf.new }
     ensures light { IsLight symbol.now → IsOk result }
 {
     let width = cell_width(symbol);
@@ -195,7 +195,7 @@ fn paint_clusters(
     requires { skip + row.width < 2 ^ 64 }
     ensures shown { IfOk result (λ next. (more : List Glyph) →
         ShownUpTo row skip place (map (glyph_in style) (clusters text.now) ++ more) next more buf.old buf.new) }
-    ensures kept { KeptOutside (line_part row) buf.old buf.new }
+    ensures kept { KeptOutside (row_part row) buf.old buf.new }
     ensures light { All IsLight (clusters text.now) → IsOk result }
 {
     let (run, rest) = split_run(text, room_from(row, skip, place));
@@ -220,7 +220,7 @@ fn paint_others(
     requires { skip + row.width < 2 ^ 64 }
     ensures shown { IfOk result (λ next. (more : List Glyph) →
         ShownUpTo row skip place (map (glyph_in style) (clusters text.now) ++ more) next more buf.old buf.new) }
-    ensures kept { KeptOutside (line_part row) buf.old buf.new }
+    ensures kept { KeptOutside (row_part row) buf.old buf.new }
     ensures light { All IsLight (clusters text.now) → IsOk result }
 {
     if is_plain_char(text) {
@@ -242,7 +242,7 @@ fn paint_mixed(
     requires { skip + row.width < 2 ^ 64 }
     ensures shown { IfOk result (λ next. (more : List Glyph) →
         ShownUpTo row skip start (map (glyph_in style) (clusters text.now) ++ more) next more buf.old buf.new) }
-    ensures kept { KeptOutside (line_part row) buf.old buf.new }
+    ensures kept { KeptOutside (row_part row) buf.old buf.new }
     ensures light { All IsLight (clusters text.now) → IsOk result }
 {
     let end = skip + row.width as usize;
@@ -270,7 +270,7 @@ pub(crate) fn paint_glyphs(
 ) -> Mem<()>
     requires { skip + row.width < 2 ^ 64 }
     ensures ok { OnOk result (Painted (shown_glyphs row skip start (flat_map (span_graphemes no_style) (map span_data spans.now))) buf.old buf.new) }
-    ensures kept { KeptOutside (line_part row) buf.old buf.new }
+    ensures kept { KeptOutside (row_part row) buf.old buf.new }
     ensures light { AreLight (map span_data spans.now) → IsOk result }
 {
     let end = skip + row.width as usize;

@@ -1,4 +1,3 @@
-pub mod Equality
 pub mod Lists
 pub mod Seen
 pub mod Walks

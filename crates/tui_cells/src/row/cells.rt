@@ -1,9 +1,10 @@
 //! Neighbouring cells.
 
-ghost use Rattle.std.specs.Prelude.{◌≡◌, ◌+◌, ◌≤◌, ◌<◌, [], ℕ, IfOk, IsAscii, length, replicate, slice_index_or, vec_capacity};
+ghost use Rattle.std.specs.Prelude.{◌≡◌, ◌↔◌, ◌+◌, ◌≤◌, ◌<◌, [], ℕ, All, IfOk, IsAscii, IsOk, IsTrue, OnErr, OnOk, length, replicate, slice_index_or, vec_capacity};
 ghost use Rattle.tui_cells.specs.Buffer.{RowEdited};
+ghost use Rattle.tui_cells.specs.Copying.{IsEitherRow};
 ghost use Rattle.tui_cells.specs.Keeping.{row_cells};
-ghost use Rattle.tui_cells.specs.Cell.{IsAtRest, blank, dim, dress, put, wipe};
+ghost use Rattle.tui_cells.specs.Cell.{IsAtRest, IsLight, blank, dim, dress, put, wipe};
 ghost use Rattle.tui_cells.specs.Spelt.{RowSpelt};
 
 use crate::cell::Cell;
@@ -58,6 +59,36 @@ pub(crate) fn rest_end(cells: &[Cell]) -> usize
         }
     }
     cells.len()
+}
+
+/// Whether two rows show the same.
+pub(crate) fn are_same(one: &[Cell], other: &[Cell]) -> bool
+    ensures { IsTrue result ↔ (one.now ≡ other.now) }
+{
+    if one.len() != other.len() {
+        return false;
+    }
+    'places: for place in 0..one.len() {
+        if !one[place].is_same(&other[place]) {
+            return false;
+        }
+    }
+    true
+}
+
+/// Makes cells show what others show. At NoMemory each is as before or as the other.
+pub(crate) fn copy_cells(cells: &mut Vec<Cell>, others: &[Cell]) -> Mem<()>
+    requires { length cells.old.items ≡ length others.now }
+    ensures ok { OnOk result (cells.new.items ≡ others.now) }
+    ensures err { OnErr result (IsEitherRow others.now cells.old.items cells.new.items) }
+    ensures len { length cells.new.items ≡ length others.now }
+    ensures light { All (λ c. IsLight c.symbol) others.now → IsOk result }
+{
+    'places: for place in 0..others.len() {
+        let cell = &mut cells[place];
+        cell.copy_from(&others[place])?;
+    }
+    Ok(())
 }
 
 /// Dims the cells from one place up to another.

@@ -5,7 +5,7 @@ use Rattle.tui_text.specs.Grapheme.{Glyph}
 use Rattle.tui_clusters.specs.Clusters.{clusters_left}
 use Rattle.tui_clusters.specs.Shown.{clusters}
 use Rattle.tui_text.specs.Graphemes.{glyph_in}
-use Rattle.tui_text.specs.Painting.{line_part}
+use Rattle.tui_text.specs.Painting.{row_part}
 use Rattle.tui_text.specs.Row.{ShownUpTo}
 use Rattle.tui_text.proofs.row.paint_mixed.Given as goal
 
@@ -15,7 +15,7 @@ invariant-clusters l = record {
   shown : (more : List Glyph) → ShownUpTo l.row l.skip l.start (map (glyph_in l.style) (clusters l.text) ++ more)
       l.place (map (glyph_in l.style) (clusters_left l.clusters) ++ more) l.fn.buf l.buf;
   light : All IsLight (clusters l.text) → All IsLight (clusters_left l.clusters);
-  kept : KeptOutside (line_part l.row) l.fn.buf l.buf;
+  kept : KeptOutside (row_part l.row) l.fn.buf l.buf;
 }
 
 abbrev pub decreases-clusters : goal.decreases-clusters

@@ -1,0 +1,60 @@
+//! Files as sources.
+
+ghost use Rattle.std.specs.Prelude.{◌≡◌};
+ghost use Rattle.std.specs.Io.{ReadsAtMost};
+ghost use Rattle.std.specs.Io.KnownBytes.{ReadConsumes};
+ghost use Rattle.tui_program.specs.Files.{told_of};
+
+use std::io;
+use std::io::Read;
+use tui_outside::{Failed, Source};
+
+/// A file that was to be opened, as a source, which counts the reads that failed. Of one that could not be opened each read fails. Of its bytes it
+/// tells what the file tells, which for a file of the system is nothing.
+#[derive(Drop)]
+pub struct FileSource<F> {
+    file: Option<F>,
+    faults: u64,
+}
+
+impl<F: Read + Drop> FileSource<F> {
+    /// What an opening answered, of which nothing is read, and which has not failed yet.
+    pub fn new(opened: io::Result<F>) -> FileSource<F>
+        ensures { result.faults ≡ 0 }
+    {
+        FileSource {
+            file: opened.ok(),
+            faults: 0,
+        }
+    }
+}
+
+impl<F: Read + Drop> Source for FileSource<F> {
+    ghost use Rattle.tui_program.specs.Files.{told_of};
+
+    ghost told = { λ s. record { bytes = told_of F.remaining s.file; faults = s.faults } };
+
+    fn read(&mut self, into: &mut [u8]) -> Result<usize, Failed> {
+        match read_some(&mut self.file, into) {
+            Ok(count) => Ok(count),
+            Err(_) => {
+                self.faults = self.faults.saturating_add(1);
+                Err(Failed)
+            }
+        }
+    }
+}
+
+/// Reads from a file, if there is one.
+fn read_some<F: Read>(file: &mut Option<F>, into: &mut [u8]) -> Result<usize, Failed>
+    ensures bound { ReadsAtMost result into.new }
+    ensures bytes { ReadConsumes (told_of F.remaining file.old) (told_of F.remaining file.new) result into.new }
+{
+    match file {
+        Some(file) => match file.read(into) {
+            Ok(count) => Ok(count),
+            Err(_) => Err(Failed),
+        },
+        None => Err(Failed),
+    }
+}
