@@ -32,6 +32,7 @@ impl App for Shopping {
     fn step(&mut self, _alloc: Global, event: Event) -> Mem<Flow> {
         match event {
             Event::Char('q') => return Ok(Flow::Quit),
+            Event::Ctrl('l') => return Ok(Flow::Redraw),
             Event::Down | Event::Char('j') => self.state.select_next(),
             Event::Up | Event::Char('k') => self.state.select_previous(),
             _ => {}
