@@ -1,7 +1,5 @@
 //! An app that moves a letter.
 
-ghost use Rattle.std.specs.Prelude.{◌≡◌, ◌≤◌};
-
 use std::alloc::Global;
 use tui_app::{App, Flow};
 use tui_cells::{Buffer, Mem, NoMemory, Position};

@@ -1,7 +1,6 @@
 //! The screens of an app over reads.
 
 use crate::dot::Dot;
-use std::alloc::Global;
 use tui_app::run_over;
 use tui_cells::{Buffer, Mem, Position};
 

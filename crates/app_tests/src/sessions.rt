@@ -1,7 +1,5 @@
 //! Sessions on a terminal in memory: what is put, read by read, and how they end.
 
-ghost use Rattle.std.specs.Prelude.{◌≤◌, length};
-
 use crate::dot::Dot;
 use std::alloc::Global;
 use tui_app::{AppEnd, MemTerminal, run};
