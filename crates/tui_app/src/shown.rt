@@ -1,11 +1,9 @@
 //! Drawing, and sending what was drawn.
 
-ghost use Rattle.std.specs.Prelude.{◌≡◌, IfOk, OnOk, None, IsTrue, List, ℕ, true, false};
-ghost use Rattle.tui_app.specs.Lives.{Stand};
-ghost use Rattle.tui_app.specs.Parts.{IsDrawn, IsShown, Sent, stand_of};
-ghost use Rattle.tui_app.specs.Session.{IsText, cursor_for, is_anew, output_at};
+ghost use Rattle.std.specs.Prelude.{◌≡◌, IfOk, None, OnOk};
+ghost use Rattle.tui_app.specs.Parts.{IsDrawn, IsShown, Sent};
+ghost use Rattle.tui_app.specs.Session.{cursor_for, is_anew, output_at};
 ghost use Rattle.tui_cells.specs.Rect.{area_of};
-ghost use Rattle.tui_outside.specs.Causes.{Writes};
 ghost use Rattle.tui_tty.specs.Shows.{IsPlace};
 
 use crate::app::{App, Flow};

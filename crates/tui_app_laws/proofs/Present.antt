@@ -1,5 +1,5 @@
 -- A session shows what the app has drawn last.
-use Rattle.std.proofs.Common.{◌≡◌, ℕ, ◌+◌, ◌≤◌, Bool, true, List, [], ◌∷◌, ◌++◌, All, flat_map, Option, None, Some, refl, sym, ap, subst, ◌∙◌, append_assoc}
+use Rattle.std.proofs.Common.{◌≡◌, ℕ, ◌+◌, ◌≤◌, Bool, List, [], ◌++◌, flat_map, Option, None, Some, refl, sym, ap, subst, ◌∙◌, append_assoc}
 use Rattle.std.proofs.lemmas.Grind.{flat_map-append}
 use Rattle.std.proofs.lemmas.List.Elements.{All-append}
 use Rattle.tui_app.specs.Behaviour.{Behaviour}
@@ -8,7 +8,7 @@ use Rattle.tui_app.specs.Session.{IsText, Session, begins, cursor_for, goes_on, 
 use Rattle.tui_app.specs.declared.app.Flow.{Flow}
 use Rattle.tui_app.specs.declared.app.Flow.TheVariants.{Go, Redraw, Quit}
 use Rattle.tui_app.specs.declared.feed.Size.{Size}
-use Rattle.tui_app_laws.specs.Showing.{IsPresent, IsShown, WaitingShows}
+use Rattle.tui_app_laws.specs.Showing.{WaitingShows}
 use Rattle.tui_cells.specs.Buffer.{Screen}
 use Rattle.tui_cells.specs.declared.position.Position.{Position}
 use Rattle.tui_cells.specs.declared.rect.Rect.{Rect}
@@ -22,7 +22,7 @@ use Rattle.tui_tty.specs.declared.output.Output.{Output}
 use Rattle.tui_tty.specs.declared.trust.Trust.{Trust}
 use Rattle.tui_tty_laws.proofs.Apart.{apart_append, begins_append}
 use Rattle.tui_tty_laws.proofs.Between.{gives_back}
-use Rattle.tui_tty_laws.proofs.Steps.{run_append}
+use Rattle.tui_tty_laws.proofs.Pen.{run_append}
 
 -- what is put behind what enters, and what it makes of a terminal
 record IsShowing (o : Output) (screen : Screen) (place : Option Position) (text : List ℕ) : Type 0 where
