@@ -1,5 +1,5 @@
 -- The rules of the program: its words, and what it reads and writes.
-use Rattle.std.specs.Prelude.{◌≡◌, ◌≤◌, ℕ, ◌⊎◌, inl, inr, List, [], ◌∷◌, length, codes, drop, Result, Ok, Err, String, string_bytes}
+use Rattle.std.specs.Prelude.{◌⊎◌, List, [], ◌∷◌, codes, drop, Result, Ok, Err, String, string_bytes}
 use Rattle.std.specs.declared.alloc.Global.{Global}
 use Rattle.std.specs.declared.io.Error.{Error}
 use Rattle.std.specs.declared.vec.IntoIter.{IntoIter}
@@ -7,8 +7,7 @@ use Rattle.std.specs.Vec.Iter.{into_iter_items}
 use Rattle.tui_program.specs.Endings.{nothing}
 use Rattle.tui_program.specs.FieldLine.{refused_in_scene}
 use Rattle.tui_program.specs.Rules.{JobRules, Rules, reading_rules}
-use Rattle.tui_program.specs.Words.{AreTexts, Begin, most_words}
-use Rattle.tui_program.proofs.Word.{few_begun, few_one}
+use Rattle.tui_program.specs.Words.{AreTexts, Begin}
 use Rattle.tui_schema.specs.Field.{field_name}
 use Rattle.tui_schema.specs.Scene.{SceneData, scene_of}
 use Rattle.tui_schema.specs.declared.bad_field.BadField.{BadField}
@@ -25,16 +24,8 @@ abbrev pub NameFile : Result (IntoIter (String Global) Global) Error → String 
 NameFile (Ok all) file = AreTexts (codes "rows" ∷ string_bytes file ∷ []) (drop 1 (into_iter_items all))
 NameFile (Err e) file = ⊥
 
--- or they name none
-abbrev pub NameNoFile : Result (IntoIter (String Global) Global) Error → Type 0
-NameNoFile args = (file : String Global) → NameFile args file → ⊥
-
 abbrev pub Names : ViewCommand → List (String Global) → Type 0
 Names c words = AreRows words
-
--- they are two at most
-pub few_words : (c : ViewCommand) (words : List (String Global)) → Names c words → length words ≤ most_words
-few_words c words are = elim are [ inl one ↦ few_one (codes "rows") words one | inr two ↦ few_begun (codes "rows") words two ]
 
 -- what the command does with a value, for a terminal of so many colours: nothing is written before all is drawn
 abbrev pub rows_job : Depth → JobRules BadField
