@@ -1,6 +1,7 @@
 //! The library under one name: what programs call of the crates below, in modules named as those of ratatui.
 #![tactic(auto)]
 
+pub mod app;
 pub mod buffer;
 pub mod layout;
 pub mod pager;

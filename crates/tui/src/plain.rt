@@ -12,6 +12,7 @@ ghost use Rattle.tui_pager_lib.specs.Same.{same_size};
 ghost use Rattle.tui_pager_lib.specs.declared.entry.Entry.{Entry};
 ghost use Rattle.tui_pages_lib.specs.declared.column.Column.{Column};
 
+use crate::app::{AppEnd, Flow};
 use crate::buffer::{Attributes, NoMemory};
 use crate::layout::{
     Alignment, Constraint, Direction, Flex, Fraction, Offset, Position, Rect, Segment, Window,
@@ -55,6 +56,18 @@ pub fn text_laws<'a>()
 pub fn padding_laws()
     ensures order { PaddingIsOrdered }
 {}
+
+impl Plain for AppEnd {
+    ghost same = { Prim.search rules };
+
+    ghost cloned = { Prim.search rules };
+}
+
+impl Plain for Flow {
+    ghost same = { Prim.search rules };
+
+    ghost cloned = { Prim.search rules };
+}
 
 impl Plain for Attributes {
     ghost same = { same_attributes };

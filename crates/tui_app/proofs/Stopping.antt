@@ -1,15 +1,14 @@
 -- What was read and put, one after the other.
-use Rattle.std.proofs.Common.{◌≡◌, ◌⊎◌, inl, inr, ℕ, ◌+◌, ◌<◌, List, [], ◌∷◌, ◌++◌, true, length, map, take, Option, None, Some, Result, Ok, Err, refl, sym, ap, subst, ◌∙◌, append_assoc, arith, rules}
-use Rattle.std.proofs.lemmas.List.{append-nil, length-append}
+use Rattle.std.proofs.Common.{◌≡◌, ◌⊎◌, inl, inr, ℕ, ◌+◌, List, [], ◌∷◌, ◌++◌, true, length, take, Option, None, Some, Result, Ok, Err, refl, sym, ap, subst, ◌∙◌, arith}
+use Rattle.std.proofs.lemmas.List.{length-append}
 use Rattle.std.proofs.Math.Seq.{take-append-add}
-use Rattle.std.specs.Io.KnownBytes.{Appends, Keeps}
+use Rattle.std.specs.Io.KnownBytes.{Appends}
 use Rattle.tui_app.specs.Behaviour.{Behaviour}
-use Rattle.tui_app.specs.Lives.{IsFirst, Stand, Takes, heard}
+use Rattle.tui_app.specs.Lives.{Stand}
 use Rattle.tui_app.specs.Parts.{Closed, Handled, HasBeen, IsBegun, Opened, Sent, Turned, stand_of}
-use Rattle.tui_app.specs.Run.{Counts, HasStopped, IsRun, Sending, Stops, cut, enters, leaves, nothing, shows, whole}
+use Rattle.tui_app.specs.Run.{Counts, HasStopped, IsRun, Stops, cut, enters, leaves, shows, whole}
 use Rattle.tui_app.specs.Session.{begins, goes_on, output_at}
-use Rattle.tui_app.specs.Tape.{Broke, IsRead, Missed, Took, gave}
-use Rattle.tui_app.specs.declared.app.Flow.TheVariants.{Go, Quit}
+use Rattle.tui_app.specs.Tape.{Broke, Took, gave}
 use Rattle.tui_app.specs.declared.ending.AppEnd.{AppEnd}
 use Rattle.tui_app.specs.declared.ending.AppEnd.TheVariants as ends
 use Rattle.tui_app.specs.declared.surface.Surface.{Surface}

@@ -1,5 +1,5 @@
 -- The events of a read, byte by byte.
-use Rattle.std.specs.Prelude.{◌≡◌, ℕ, List, None}
+use Rattle.std.specs.Prelude.{◌≡◌, List, None}
 use Rattle.tui_app.specs.Behaviour.{Behaviour}
 use Rattle.tui_app.specs.Lives.{Takes, last_size}
 use Rattle.tui_app.specs.declared.app.Flow.TheVariants.{Go}

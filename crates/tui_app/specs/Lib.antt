@@ -6,3 +6,4 @@ pub mod Run
 pub mod Feeding
 pub mod Parts
 pub mod Memory
+pub mod Over

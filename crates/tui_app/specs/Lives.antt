@@ -1,9 +1,9 @@
 -- What becomes of an app: from read to read it takes the events of what was read, and draws.
-use Rattle.std.specs.Prelude.{◌≡◌, ◌≢◌, ℕ, Bool, true, false, nat_lt, List, [], ◌∷◌, ◌++◌, length, Option, None, Some, if◌then◌else◌}
+use Rattle.std.specs.Prelude.{◌≡◌, ◌≢◌, ℕ, nat_lt, List, [], ◌∷◌, ◌++◌, length, Option, None, Some, if◌then◌else◌}
 use Rattle.tui_app.specs.Behaviour.{Behaviour}
 use Rattle.tui_app.specs.Tape.{IsRead, read_room}
 use Rattle.tui_app.specs.declared.app.Flow.{Flow}
-use Rattle.tui_app.specs.declared.app.Flow.TheVariants.{Go, Redraw, Quit}
+use Rattle.tui_app.specs.declared.app.Flow.TheVariants.{Go, Quit}
 use Rattle.tui_app.specs.declared.feed.Size.{Size}
 use Rattle.tui_cells.specs.Buffer.{Screen}
 use Rattle.tui_cells.specs.Rect.{area_of}

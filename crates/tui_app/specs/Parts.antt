@@ -1,5 +1,5 @@
 -- The parts of a run.
-use Rattle.std.specs.Prelude.{◌≡◌, ℕ, Bool, true, ◌⊎◌, List, [], ◌++◌, length, Option, None, Some, Result, Ok, Err}
+use Rattle.std.specs.Prelude.{◌≡◌, ℕ, Bool, ◌⊎◌, List, [], ◌++◌, length, Option, None, Some, Result, Ok, Err}
 use Rattle.tui_app.specs.Behaviour.{Behaviour}
 use Rattle.tui_app.specs.Lives.{IsFirst, Stand, Takes, area_after, heard}
 use Rattle.tui_app.specs.Session.{IsText, Session, Turns, is_anew, output_at}

@@ -1,5 +1,5 @@
 -- Sessions: what a terminal gives, and what is put.
-use Rattle.std.specs.Prelude.{◌≡◌, ℕ, Bool, true, false, List, [], ◌∷◌, ◌++◌, Option, None, Some, if◌then◌else◌}
+use Rattle.std.specs.Prelude.{ℕ, Bool, true, false, List, [], ◌∷◌, ◌++◌, Option, None, Some, if◌then◌else◌}
 use Rattle.tui_app.specs.Behaviour.{Behaviour}
 use Rattle.tui_app.specs.Lives.{IsFirst, IsTurn, Stand, size_heard}
 use Rattle.tui_app.specs.Tape.{gave}

@@ -5,6 +5,7 @@ mod app;
 mod ending;
 mod feed;
 mod memory_terminal;
+mod over;
 mod port;
 mod runs;
 mod shown;
@@ -14,8 +15,8 @@ mod turn;
 
 pub use app::{App, Flow};
 pub use ending::{AppEnd, MOST_READS};
-pub use feed::Size;
 pub use memory_terminal::MemTerminal;
+pub use over::run_over;
 pub use port::Port;
 pub use runs::run;
 pub use terminal::{READ_ROOM, Terminal};

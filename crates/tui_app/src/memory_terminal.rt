@@ -1,11 +1,11 @@
 //! Terminals in memory.
 
-ghost use Rattle.std.specs.Prelude.{◌≡◌, ◌+◌, ◌<◌, ◌≤◌, ◌↔◌, ◌⊎◌, [], ◌∷◌, ◌++◌, Contains, IfOk, IsErr, MatchResult, OnErr, OnOk, Some, length, map, take, vec_len, vec_capacity};
-ghost use Rattle.std.specs.Io.{ReadsAtMost};
-ghost use Rattle.std.specs.Io.KnownBytes.{ReadConsumes};
+ghost use Rattle.std.specs.Prelude.{◌≡◌, ◌+◌, ◌-◌, ◌<◌, ◌≤◌, ◌↔◌, ◌⊎◌, [], ◌∷◌, ◌++◌, Contains, IfOk, IsErr, MatchResult, OnOk, Some, drop, length, map, min, take, vec_len, vec_capacity};
+ghost use Rattle.std.specs.Io.{ReadsAtMost, WritesAtMost};
+ghost use Rattle.std.specs.Io.KnownBytes.{WriteAppends};
 ghost use Rattle.tui_app.specs.Memory.{given_next};
 ghost use Rattle.tui_app.specs.Tape.{Missed, Took, gave};
-ghost use Rattle.tui_outside.specs.Causes.{counted};
+ghost use Rattle.tui_outside.specs.Causes.{HasCause, counted};
 
 use crate::terminal::{READ_ROOM, Terminal};
 use std::alloc::Global;
@@ -13,7 +13,7 @@ use std::marker::Model;
 use tui_cells::Mem;
 use tui_outside::{Failed, Sink};
 
-/// What a mark on the tape is, and what stands before each byte behind it: bytes that were given are told apart from those that were put.
+/// A read on the tape. Behind it stand its bytes, counted from `GIVEN` on, so that they are told apart from those that were put.
 const MARK: u16 = 256;
 
 const GIVEN: u16 = 257;
@@ -129,7 +129,21 @@ impl Sink for MemTerminal {
 
     ghost told = { λ t. record { bytes = Some t.tape; faults = t.faults } };
 
-    fn put(&mut self, bytes: &[u8]) -> Result<usize, Failed> {
+    /// Takes as much as there is room for. Call number k fails exactly where k is listed, or a piece that isn't empty finds no room; the number
+    /// stays at its last value.
+    fn put(&mut self, bytes: &[u8]) -> Result<usize, Failed>
+        ensures bound { WritesAtMost result bytes.now }
+        ensures some { IfOk result (λ n. 0 < length bytes.now → 0 < n) }
+        ensures bytes { WriteAppends (Some self.old.tape) (Some self.new.tape) result bytes.now }
+        ensures cause { HasCause self.old.faults self.new.faults result }
+
+        // Exactly which calls fail, and what stays.
+        ensures number { self.new.calls ≡ counted self.old.calls }
+        ensures listed { IsErr result ↔ (Contains self.old.failing self.new.calls
+            ⊎ ((0 < length bytes.now) × (length self.old.tape ≡ self.old.capacity))) }
+        ensures all { IfOk result (λ n. n ≡ min (length bytes.now) (self.old.capacity - length self.old.tape)) }
+        ensures stays { self.new ≡ record self.old { tape = self.new.tape; calls = self.new.calls; faults = self.new.faults } }
+    {
         self.calls = self.calls.saturating_add(1);
         let calls = self.calls;
         let room = self.capacity - self.tape.len();
@@ -144,7 +158,22 @@ impl Sink for MemTerminal {
 }
 
 impl Terminal for MemTerminal {
-    fn wait(&mut self, into: &mut [u8; READ_ROOM]) -> Result<usize, Failed> {
+    /// Gives the next read. Call number k fails exactly where k is listed, or the tape has no room for the mark and the bytes; the number stays at
+    /// its last value.
+    fn wait(&mut self, into: &mut [u8; READ_ROOM]) -> Result<usize, Failed>
+        ensures bound { ReadsAtMost result into.new }
+        ensures tape { MatchResult result
+            (λ n. Took (record { bytes = Some self.old.tape; faults = self.old.faults }) (record { bytes = Some self.new.tape; faults = self.new.faults }) (gave (take n into.new)))
+            (λ _. Missed (record { bytes = Some self.old.tape; faults = self.old.faults }) (record { bytes = Some self.new.tape; faults = self.new.faults })) }
+
+        // Exactly which calls fail, what is given, and what stays.
+        ensures number { self.new.calls ≡ counted self.old.calls }
+        ensures listed { IsErr result ↔ (Contains self.old.failing self.new.calls ⊎ (self.old.capacity ≤ length self.old.tape + given_next self.old)) }
+        ensures all { IfOk result (λ n. n ≡ given_next self.old) }
+        ensures gives { IfOk result (λ n. (take n into.new ≡ take n self.old.left) × (self.new.left ≡ drop n self.old.left)) }
+        ensures next { IfOk result (λ n. self.new.lengths ≡ drop 1 self.old.lengths) }
+        ensures stays { (self.new.failing ≡ self.old.failing) × (self.new.capacity ≡ self.old.capacity) }
+    {
         self.calls = self.calls.saturating_add(1);
         let calls = self.calls;
         let count = self.given_next();

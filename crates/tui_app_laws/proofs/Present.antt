@@ -22,7 +22,7 @@ use Rattle.tui_tty.specs.declared.output.Output.{Output}
 use Rattle.tui_tty.specs.declared.trust.Trust.{Trust}
 use Rattle.tui_tty_laws.proofs.Apart.{apart_append, begins_append}
 use Rattle.tui_tty_laws.proofs.Between.{gives_back}
-use Rattle.tui_tty_laws.proofs.Steps.{run_append}
+use Rattle.tui_tty_laws.proofs.Pen.{run_append}
 
 -- what is put behind what enters, and what it makes of a terminal
 record IsShowing (o : Output) (screen : Screen) (place : Option Position) (text : List ℕ) : Type 0 where

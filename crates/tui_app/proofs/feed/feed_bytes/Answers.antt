@@ -1,4 +1,4 @@
-use Rattle.std.proofs.Common.{◌≡◌, length, take, arith, rules}
+use Rattle.std.proofs.Common.{◌≡◌, take}
 use Rattle.std.proofs.lemmas.List.{take_all}
 use Rattle.tui_app.proofs.Taking.{HasFed, fed_first, fed_more}
 use Rattle.tui_app.proofs.feed.feed_bytes.Goals as goal
