@@ -1,5 +1,5 @@
 -- The pager as an app.
-use Rattle.std.specs.Prelude.{◌≡◌, ◌≢◌, ℕ, List, None, codes, if◌then◌else◌}
+use Rattle.std.specs.Prelude.{◌≡◌, ◌≢◌, ◌≤◌, ℕ, List, None, codes, if◌then◌else◌}
 use Rattle.tui_app.specs.Behaviour.{Behaviour}
 use Rattle.tui_browse_lib.specs.Asked.{asked, calls_for, flow_of, has_room}
 use Rattle.tui_browse_lib.specs.declared.paging.PagerApp.{PagerApp}
@@ -24,11 +24,13 @@ IsPage p screen = IsBlankUnder (pager_layers p) (page_area p.width p.height) scr
 -- a blank screen on which, from its first cell on, stands that it is too small
 pub record SaysTooSmall (screen : Screen) : Type 0 where
   pub before : Screen
-  pub filled : IsFilled screen.area blank before
-  pub painted : Painted (set_layers screen.area (record { x = screen.area.x; y = screen.area.y }) (styled_text (codes "too small") no_style) 9) before screen
+  pub filled : IsFilled before.area blank before
+  pub painted : Painted (set_layers before.area (record { x = before.area.x; y = before.area.y }) (styled_text (codes "too small") no_style) 9) before screen
 
--- the pager's screen where it has the pager's area, and elsewhere that it is too small
+-- The pager's screen where it has the pager's area, and elsewhere that it is too small. A pager's area is one that a screen can have.
 pub record Draws (p : PagerData) (screen : Screen) : Type 0 where
+  pub wide : p.width ≤ 65535
+  pub high : p.height ≤ 65535
   pub page : screen.area ≡ page_area p.width p.height → IsPage p screen
   pub other : screen.area ≢ page_area p.width p.height → SaysTooSmall screen
 

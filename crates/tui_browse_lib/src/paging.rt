@@ -1,23 +1,21 @@
 //! The app.
 
-ghost use Rattle.std.specs.Prelude.{◌≡◌, IfOk, OnOk, map, replicate};
+ghost use Rattle.std.specs.Prelude.{◌≡◌, ◌≤◌, IfOk, OnOk, map, replicate};
 ghost use Rattle.tui_browse_lib.specs.Asked.{calls_for, flow_of, size_calls};
 ghost use Rattle.tui_browse_lib.specs.Paging.{Draws, SaysTooSmall, first_of};
 ghost use Rattle.tui_cells.specs.Buffer.{IsFilled};
 ghost use Rattle.tui_cells.specs.Cell.{blank};
 ghost use Rattle.tui_pager_lib.specs.Entry.{entry_data};
 ghost use Rattle.tui_pager_lib.specs.Laws.{after_calls, press};
+ghost use Rattle.tui_pager_lib.specs.Screen.{page_area};
 
 use crate::asking::{Asked, asked_by};
 use std::alloc::Global;
 use tui_app::{App, Flow};
-use tui_cells::{Buffer, Mem, Position, Style};
+use tui_cells::{Buffer, Mem, Position, Rect, Style};
 use tui_keys::Event;
 use tui_pager_lib::{Entry, Key, Pager, PagerSize};
-use tui_text::set_stringn;
-
-/// What is drawn where there is no room for a pager.
-const TOO_SMALL: &str = "too small";
+use tui_text::set_stringn_in;
 
 /// A pager that events move. Where a screen is too small for a pager that is said on it; what is selected and shown stays, and the next size that has
 /// room shows it again.
@@ -98,8 +96,8 @@ fn make_calls(pager: &mut Pager<'_>, asked: Asked) -> Mem<()>
     match asked {
         Asked::Press(key) => pager.key(key),
         Asked::Turn(key) => {
-            let rows = pager.screen().area().height;
-            press_often(pager, key, rows.saturating_sub(3))
+            let rows = page_area(pager).height.saturating_sub(3);
+            press_often(pager, key, rows)
         }
         Asked::Size(width, height) => take_size(pager, width, height),
         _ => Ok(()),
@@ -131,12 +129,19 @@ fn draw_pager(pager: &Pager<'_>, buf: &mut Buffer) -> Mem<()>
     ensures draws { OnOk result (Draws pager.now buf.new) }
     ensures area { OnOk result (buf.new.area ≡ buf.old.area) }
 {
-    let screen = pager.screen();
-    if screen.area() == buf.area() {
-        buf.copy_from(screen)
+    if page_area(pager) == buf.area() {
+        buf.copy_from(pager.screen())
     } else {
         say_too_small(buf)
     }
+}
+
+/// The area of a pager's screen.
+fn page_area(pager: &Pager<'_>) -> Rect
+    ensures is { result ≡ page_area pager.now.width pager.now.height }
+    ensures within { (pager.now.width ≤ 65535) × (pager.now.height ≤ 65535) }
+{
+    pager.screen().area()
 }
 
 fn say_too_small(buf: &mut Buffer) -> Mem<()>
@@ -149,6 +154,6 @@ fn say_too_small(buf: &mut Buffer) -> Mem<()>
         x: area.x,
         y: area.y,
     };
-    set_stringn(buf, area, at, TOO_SMALL, TOO_SMALL.len(), Style::new())?;
+    set_stringn_in(buf, area, at, "too small", 9, Style::new())?;
     Ok(())
 }
