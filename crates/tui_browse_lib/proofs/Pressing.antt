@@ -11,4 +11,6 @@ after_more p (c ∷ cs) more = after_more (after_call p c) cs more
 -- one more of the same call
 pub once_more : (p : PagerData) (call : Call) (n : ℕ) → after_call (after_calls p (replicate n call)) call ≡ after_calls p (replicate (n + 1) call)
 once_more p call zero = refl
-once_more p call (suc n) = once_more (after_call p call) call n
+once_more p call (suc n) =
+    let later : suc n + 1 ≡ suc (n + 1) = omega arith in
+    once_more (after_call p call) call n ∙ ap (λ (k : ℕ). after_calls p (replicate k call)) (sym later)
