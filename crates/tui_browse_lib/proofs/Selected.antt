@@ -160,13 +160,13 @@ lives_kept : (entries : List EntryData) (width height : ℕ) (begin : PagerApp) 
 lives_kept entries width height begin _ _ first (drew stand is) =
     let e : stand.app.pager ≡ first_of entries width height = is.draws.0 ∙ first in
     let kept : Kept entries (area_of 0 0 width height) (first_of entries width height) =
-        record { came = came_first entries width height; fits = fits_first entries width height } in
+    record { came = came_first entries width height; fits = fits_first entries width height } in
     subst (λ (r : Rect). Kept entries r stand.app.pager) (sym is.area_is) (subst (Kept entries (area_of 0 0 width height)) (sym e) kept)
 lives_kept entries width height begin _ _ first (lived reads bytes flow old new lives turn) =
     let was = lives_kept entries width height begin reads old first lives in
     let moved = takes_kept entries old.screen.area None (heard old.keys bytes) Go flow old.app turn.moved turn.not_quit was turn.takes in
     subst (λ (r : Rect). Kept entries r new.app.pager) (sym turn.area_is)
-        (subst (Kept entries (area_after old.screen.area (size_heard old.keys bytes))) (sym turn.draws.0) moved)
+    (subst (Kept entries (area_after old.screen.area (size_heard old.keys bytes))) (sym turn.draws.0) moved)
 
 lives_drawn : (begin : PagerApp) (area : Rect) (reads : List (List ℕ)) (stand : Stand PagerApp) → Lives paging begin area reads stand → Draws stand.app.pager stand.screen
 lives_drawn begin area _ _ (drew stand is) = subst (λ (p : PagerData). Draws p stand.screen) (sym is.draws.0) is.draws.2

@@ -27,12 +27,7 @@ pub struct PagerApp<'a> {
 impl<'a> PagerApp<'a> {
     /// A pager of these entries on a screen of `width` columns and `height` rows, which may be too small for it. `NoMemory` where there is none for the
     /// pager.
-    pub fn new(
-        alloc: Global,
-        width: u16,
-        height: u16,
-        entries: Vec<Entry<'a>>,
-    ) -> Mem<PagerApp<'a>>
+    pub fn new(alloc: Global, width: u16, height: u16, entries: Vec<Entry<'a>>) -> Mem<PagerApp<'a>>
         ensures { IfOk result (λ app. app.pager ≡ first_of (map entry_data entries.entry.items) width height) }
     {
         let pager = first_pager(alloc, width, height, entries)?;

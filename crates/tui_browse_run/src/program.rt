@@ -63,7 +63,10 @@ fn browse_json<T: Terminal>(
     let value = match Value::from_slice(alloc, &bytes) {
         Ok(value) => value,
         Err(error) if error.is_memory() => return BrowseEnded::NoMemory,
-        Err(_) => return if_put(BrowseEnded::NotJson, put_all(terminal, b"refused: not JSON\n")),
+        Err(_) => return if_put(
+            BrowseEnded::NotJson,
+            put_all(terminal, b"refused: not JSON\n"),
+        ),
     };
     match read_entries(alloc, &value) {
         Ok(entries) => show(alloc, setting, entries, terminal),
@@ -114,7 +117,15 @@ fn show<T: Terminal>(
     match PagerApp::new(alloc, setting.width, setting.height, entries) {
         Ok(app) => {
             let mut app = app;
-            run(alloc, &mut app, setting.output, setting.width, setting.height, terminal).into()
+            run(
+                alloc,
+                &mut app,
+                setting.output,
+                setting.width,
+                setting.height,
+                terminal,
+            )
+            .into()
         }
         Err(NoMemory) => BrowseEnded::NoMemory,
     }
