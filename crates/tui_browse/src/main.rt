@@ -1,0 +1,53 @@
+//! The program `tui_browse`: a pager of a file's entries, on the terminal that `./live` gives it.
+#![tactic(auto)]
+
+use std::fs::File;
+use std::process::ExitCode;
+use std::{env, io};
+use tui_app::Port;
+use tui_browse_run::{Setting, browse, named_by, refuse_usage, side_in};
+use tui_outside::{StdSink, StdSource};
+use tui_program::FileSource;
+use tui_terminal::depth_of;
+use tui_tty::{Cursor, Output, Trust};
+
+fn main(rt: HostRuntime) -> ExitCode {
+    let alloc = rt.alloc();
+    let setting = setting(&rt);
+    let mut terminal = Port::new(StdSource::new(rt.reader()), StdSink::new(io::writer(&rt)));
+    let ended = match named_by(alloc, env::args(&rt)) {
+        Some(named) => {
+            let mut source = FileSource::new(File::open(&rt, named.file.as_str()));
+            browse(alloc, named.command, setting, &mut source, &mut terminal)
+        }
+        None => refuse_usage(&mut terminal),
+    };
+    ended.exit_code()
+}
+
+/// What the environment says of the terminal.
+fn setting(rt: &HostRuntime) -> Setting {
+    let depth = depth_of(
+        variable(rt, "NO_COLOR").as_str(),
+        variable(rt, "COLORTERM").as_str(),
+        variable(rt, "TERM").as_str(),
+    );
+    Setting {
+        output: Output {
+            depth,
+            trust: Trust::Common,
+            cursor: Cursor::Hidden,
+            hold: false,
+        },
+        width: side_in(variable(rt, "COLUMNS").as_str(), 80),
+        height: side_in(variable(rt, "LINES").as_str(), 24),
+    }
+}
+
+/// What a variable of the environment says; nothing, if it is not set.
+fn variable(rt: &HostRuntime, name: &str) -> String {
+    match env::var(rt, name) {
+        Ok(text) => text,
+        Err(_) => String::new(rt.alloc()),
+    }
+}

@@ -1,0 +1,17 @@
+//! Entries in JSON.
+
+use serde_json::Value;
+use std::alloc::Global;
+use tui_json::{Counted, InputError, each_numbered, required};
+use tui_pager_lib::Entry;
+use tui_pager_run::{BadInput, PagerField};
+
+/// The entries of an input, which is an object with an array of at most 1000 of them, as the pager's is. It is refused at the first field that is
+/// missing or not of its kind.
+pub(crate) fn read_entries<'v>(
+    alloc: Global,
+    value: &'v Value,
+) -> Result<Vec<Entry<'v>>, InputError<BadInput>> {
+    let Counted(values): Counted<'v, 0, 1000> = required(alloc, None, PagerField::Entries, value)?;
+    each_numbered::<Entry<'v>, PagerField>(alloc, (), values)
+}
