@@ -1,0 +1,12 @@
+//! Plain values of the program, which `==` tells apart and a clone leaves as they are.
+
+ghost use Rattle.std.proofs.Common.{rules};
+
+use crate::command::ViewCommand;
+use tui_program::Plain;
+
+impl Plain for ViewCommand {
+    ghost same = { Prim.search rules };
+
+    ghost cloned = { Prim.search rules };
+}
