@@ -5,6 +5,7 @@
 
 mod cases;
 mod each;
+mod frames;
 mod program;
 mod report;
 mod row;
@@ -60,9 +61,10 @@ fn check_file<W: Write>(alloc: Global, text: &str, tally: &mut Tally, out: &mut 
 
 /// Writes what a row's run ends with and has written.
 fn run_row<W: Write>(alloc: Global, row: &Row, out: &mut W) -> Result<()> {
-    match row.each {
-        Some(each) => run_each(alloc, row, each, out),
-        None => run_once(alloc, row, out),
+    match (&row.frames, row.each) {
+        (Some(frames), _) => frames.show(alloc, out),
+        (None, Some(each)) => run_each(alloc, row, each, out),
+        (None, None) => run_once(alloc, row, out),
     }
 }
 

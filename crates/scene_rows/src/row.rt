@@ -1,5 +1,6 @@
 //! A row of the data.
 
+use crate::frames::Frames;
 use crate::program::Program;
 use anyhow::{Result, bail};
 use serde::Deserialize;
@@ -33,6 +34,8 @@ pub(crate) struct Row {
     room: usize,
     /// What changes from run to run, where the row is run again and again.
     pub(crate) each: Option<Each>,
+    /// Scenes that a terminal is to show, where no program runs.
+    pub(crate) frames: Option<Frames>,
 }
 
 /// What changes from run to run.

@@ -76,7 +76,7 @@ fn full_screens(rt: HostRuntime) -> Mem<()> {
             alloc,
             &plain,
             COMMON,
-            "\x1b[2;3H\x1b[0ma\x1b[0;1;31m\x1b[48;2;1;20;255mbc\x1b[0md",
+            "\x1b[2;3H\x1b[0mÀ\x1b[2;3H\x1b[0ma\x1b[1;31m\x1b[48;2;1;20;255mbc\x1b[0md",
         )?
     );
 
@@ -87,7 +87,7 @@ fn full_screens(rt: HostRuntime) -> Mem<()> {
             alloc,
             &risky,
             COMMON,
-            "\x1b[2;4H\x1b[0me\u{301}\x1b[2;3Ha\x1b[2;5H  ",
+            "\x1b[2;3H\x1b[0mÀ\x1b[2;4H\x1b[0me\u{301}\x1b[2;3Ha\x1b[5G  ",
         )?
     );
     Ok(())
@@ -106,7 +106,7 @@ fn few_colours_and_ascii(rt: HostRuntime) -> Mem<()> {
             alloc,
             &lines,
             FEW,
-            "\x1b[?2026h\x1b[2;3H\x1b[0m│\x1b[2;4Ha\x1b[0;91mb\x1b[0mc\x1b[?25l\x1b[?2026l",
+            "\x1b[?2026h\x1b[2;3H\x1b[0m│\x1b[2;4Ha\x1b[91mb\x1b[0mc\x1b[?25l\x1b[?2026l",
         )?
     );
     Ok(())
@@ -119,7 +119,7 @@ fn changes(rt: HostRuntime) -> Mem<()> {
     assert!(&rt; is_change(alloc, &old, &old, "")?);
 
     let new = row(alloc, ["a", "x", "c", "y"])?;
-    assert!(&rt; is_change(alloc, &old, &new, "\x1b[2;4H\x1b[0mx\x1b[2;6Hy")?);
+    assert!(&rt; is_change(alloc, &old, &new, "\x1b[2;4H\x1b[0mx\x1b[6Gy")?);
 
     // What a wide symbol covers is not looked at.
     let wide = row(alloc, ["a", "字", "z", "d"])?;

@@ -26,7 +26,7 @@ fn is_window(
     (first, end): (usize, usize),
 ) -> Mem<bool> {
     let sums = sums_of(alloc, heights)?;
-    let found = window_of(&sums, height, offset, selected, padding);
+    let found = window_of(alloc, &sums, height, offset, selected, padding);
     Ok(sums.len() == heights.len() && found == Window { first, end })
 }
 
@@ -84,7 +84,7 @@ fn windows_of_many_items(rt: HostRuntime) -> Result<(), Fail> {
     let mut sums = Sums::new(rt.alloc());
     push_ones(&mut sums, 1000)?;
     assert!(rt;
-        window_of(&sums, 10, 0, Some(999), 0)
+        window_of(rt.alloc(), &sums, 10, 0, Some(999), 0)
             == Window {
                 first: 990,
                 end: 1000
@@ -92,7 +92,7 @@ fn windows_of_many_items(rt: HostRuntime) -> Result<(), Fail> {
     );
     push_ones(&mut sums, 64536)?;
     assert!(rt;
-        window_of(&sums, 1000, 70000, Some(40000), 5)
+        window_of(rt.alloc(), &sums, 1000, 70000, Some(40000), 5)
             == Window {
                 first: 39995,
                 end: 40995

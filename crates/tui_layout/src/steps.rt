@@ -2,6 +2,7 @@
 
 ghost use Rattle.std.specs.Prelude.{ℕ, ◌≡◌, ◌+◌, ◌<◌};
 
+use std::alloc::Global;
 use std::marker::Model;
 use std::sync::ledger::{Blank, Book, Ledger, Share};
 
@@ -21,8 +22,9 @@ impl<L: Ledger> Model for Steps<L> {
 }
 
 impl<L: Ledger> Steps<L> {
-    /// A counter at 0, from a blank with the name and the parts of its ledger.
-    pub fn new(blank: Blank) -> Steps<L>
+    /// A counter at 0, from a blank with the name and the parts of its ledger. It takes no memory; the allocator is wanted so that a
+    /// call that has none counts by the counter that it was given, and by no other one.
+    pub fn new(_alloc: Global, blank: Blank) -> Steps<L>
         requires name { blank.name ≡ L.name }
         requires parts { blank.parts ≡ L.parts }
         requires some { 0 < L.parts }

@@ -8,6 +8,7 @@ ghost use Rattle.tui_layout.specs.Halves.{IsProbing};
 use crate::halves::{end_from, fits, nearest_start, widest_padding};
 use crate::steps::Steps;
 use crate::sums::Sums;
+use std::alloc::Global;
 use std::marker::Brand;
 use std::sync::ledger::{Blank, Ledger};
 
@@ -23,7 +24,7 @@ pub struct Window {
 /// The window of a list with these item heights over `height` rows. It begins at `offset` or at the nearest item from which the
 /// selected one is seen, with as many items of the `padding` around it as fit. An offset or a selection past the end counts
 /// as the last item, and an item that is taller than the list is the first. A step is counted for each sum that is asked
-/// for: for n items at most 1 + 3d, where 2 to the power d is at most 2n. No memory is taken.
+/// for: for n items at most 1 + 3d, where 2 to the power d is at most 2n. No memory is taken, and no other counter can be made here.
 pub fn scroll_window<L: Ledger>(
     sums: &Sums,
     height: u64,
@@ -50,8 +51,10 @@ pub fn scroll_window<L: Ledger>(
     }
 }
 
-/// The window of a list with these item heights over `height` rows, found as by `scroll_window`, whose steps are not counted.
+/// The window of a list with these item heights over `height` rows, found as by `scroll_window`, whose steps are not told. It takes
+/// no memory.
 pub fn window_of(
+    alloc: Global,
     sums: &Sums,
     height: u64,
     offset: usize,
@@ -63,10 +66,19 @@ pub fn window_of(
     ensures order { (result.first ≤ result.end) × (result.end ≤ length sums.now) }
     ensures first { 0 < length sums.now → result.first < length sums.now }
 {
-    window_with::<Brand>(Blank::new(1), sums, height, offset, selected, padding)
+    window_with::<Brand>(
+        alloc,
+        Blank::new(1),
+        sums,
+        height,
+        offset,
+        selected,
+        padding,
+    )
 }
 
 fn window_with<L: Ledger>(
+    alloc: Global,
     blank: Blank,
     sums: &Sums,
     height: u64,
@@ -79,7 +91,7 @@ fn window_with<L: Ledger>(
     requires some { 0 < L.parts }
     ensures { IsWindow sums.now height offset selected padding result }
 {
-    let mut steps: Steps<L> = Steps::new(blank);
+    let mut steps: Steps<L> = Steps::new(alloc, blank);
     scroll_window(sums, height, offset, selected, padding, &mut steps)
 }
 

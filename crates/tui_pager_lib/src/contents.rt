@@ -112,7 +112,7 @@ impl<'a> Contents<'a> {
     pub(crate) fn follow(&self, rows: u16, state: PagerState) -> PagerState
         ensures { result ≡ settled (heights_of (map title_item self.now)) rows state }
     {
-        follow(&self.heights, rows, state)
+        follow(*self.entries.allocator(), &self.heights, rows, state)
     }
 
     /// The screen of a state, by itself, whatever the buffer held. `places` are where the lines of the selected body begin.

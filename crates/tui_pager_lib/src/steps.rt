@@ -5,6 +5,7 @@ ghost use Rattle.tui_pager_lib.specs.Steps.{line_by, most_in, moved_by, selected
 
 use crate::key::Key;
 use crate::state::PagerState;
+use std::alloc::Global;
 use tui_cells::FARTHEST_EDGE;
 use tui_layout::{Sums, window_of};
 
@@ -64,11 +65,18 @@ fn moved_line(most: u16, key: Key, line: u16) -> u16
     }
 }
 
-/// The offset follows the selection as that of a list does, with one entry around it.
-pub(crate) fn follow(titles: &Sums, rows: u16, state: PagerState) -> PagerState
+/// The offset follows the selection as that of a list does, with one entry around it. It takes no memory.
+pub(crate) fn follow(alloc: Global, titles: &Sums, rows: u16, state: PagerState) -> PagerState
     ensures { result ≡ settled titles.now rows state }
 {
-    let window = window_of(titles, u64::from(rows), state.offset, state.selected, 1);
+    let window = window_of(
+        alloc,
+        titles,
+        u64::from(rows),
+        state.offset,
+        state.selected,
+        1,
+    );
     PagerState {
         offset: window.first,
         ..state

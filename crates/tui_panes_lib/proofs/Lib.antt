@@ -7,3 +7,4 @@ pub mod Orders
 pub mod Placed
 pub mod Put
 pub mod StandApart
+pub mod TriedAgain

@@ -141,7 +141,8 @@ impl<'v> Panes<'v> {
     /// buffer held, each cell is the old one, reset within the rectangle, under the widget's strokes; the other leaves are as before.
     /// Where no widget has a shadow and the buffer was fresh, as the leaves draw it on a blank buffer, it is fresh again. `NoMemory`:
     /// the leaf has its old widget with its old state, and no cell outside the rectangle and the new widget's footprint has changed.
-    /// Where the widget takes no memory or does not meet the buffer, the answer is Ok.
+    /// Where no widget has a shadow, replacing the same leaf again, whatever is put there, makes the buffer fresh that was fresh before;
+    /// replacing another leaf does not. Where the widget takes no memory or does not meet the buffer, the answer is Ok.
     pub fn replace(
         &mut self,
         alloc: Global,

@@ -1,6 +1,8 @@
 pub mod Accepted
+pub mod Afresh
 pub mod Changing
 pub mod Commands
 pub mod Holding
 pub mod Numbers
+pub mod Output
 pub mod Trees

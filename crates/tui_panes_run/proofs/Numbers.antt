@@ -2,8 +2,7 @@
 use Rattle.std.proofs.Common.{◌≡◌, ℕ, zero, suc, ◌+◌, ◌<◌, ◌≤◌, ◌==◌, true, false, if◌then◌else◌, List, ◌∷◌, All, refl, ◌∙◌, arith, inl, inr}
 use Rattle.std.specs.Prelude.{◌≢◌, count_by, reverse}
 use Rattle.std.specs.List.{AllByRecursion, range_with_len}
-use Rattle.std.proofs.lemmas.Bool.{cases_eq, cond-false, cond-true}
-use Rattle.std.proofs.lemmas.Bool.Decides.{nat_tests}
+use Rattle.std.proofs.lemmas.Bool.{cases_eq, cond-false, cond-true, eq-eqb, ne_eqb}
 use Rattle.std.proofs.lemmas.List.Elements.{All-from_recursion}
 use Rattle.std.proofs.lemmas.List.Sorted.{All-permutation, IsPermutation-reverse, sum_by-IsPermutation}
 use Rattle.std.proofs.lemmas.List.Sums.{sum_by-cons}
@@ -11,12 +10,6 @@ use Rattle.tui_scene.specs.Redraw.{IsOrder}
 use Rattle.tui_panes_run.specs.Order.{numbers_of}
 use Rattle.tui_panes_run.specs.declared.order.Order.{Order}
 use Rattle.tui_panes_run.specs.declared.order.Order.TheVariants.{FirstToLast, LastToFirst}
-
-eq_test : (a b : ℕ) → a ≡ b → (a == b) ≡ true
-eq_test a b h = grind (arith, nat_tests)
-
-ne_test : (a b : ℕ) → a ≢ b → (a == b) ≡ false
-ne_test a b h = grind (arith, nat_tests)
 
 each_below : (n a limit : ℕ) → a + n ≤ limit → AllByRecursion (λ i. i < limit) (range_with_len a n)
 each_below zero a limit le = tt
@@ -28,11 +21,11 @@ one i j = if j == i then 1 else 0
 
 here : (i j : ℕ) → j ≡ i → one i j ≡ 1
 unfolding one
-here i j e = cond-true _ _ _ (eq_test j i e)
+here i j e = cond-true _ _ _ (eq-eqb j i e)
 
 elsewhere : (i j : ℕ) → j ≢ i → one i j ≡ 0
 unfolding one
-elsewhere i j e = cond-false _ _ _ (ne_test j i e)
+elsewhere i j e = cond-false _ _ _ (ne_eqb j i e)
 
 count_one : (i j : ℕ) (js : List ℕ) → count_by (λ j. j == i) (j ∷ js) ≡ one i j + count_by (λ j. j == i) js
 unfolding one

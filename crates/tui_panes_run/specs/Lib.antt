@@ -9,3 +9,5 @@ pub mod Shown
 pub mod Found
 pub mod Ended
 pub mod Rules
+pub mod Same
+pub mod Laws

@@ -1,10 +1,13 @@
 //! Plain values of the program, which `==` tells apart and a clone leaves as they are.
 
 ghost use Rattle.std.proofs.Common.{rules};
+ghost use Rattle.tui_panes_run.specs.Same.{same_ended, same_refusal};
 
 use crate::command::PanesCommand;
+use crate::ended::PanesEnded;
 use crate::field::PaneField;
 use crate::order::Order;
+use crate::refusal::PanesRefusal;
 use tui_program::Plain;
 
 impl Plain for Order {
@@ -21,6 +24,18 @@ impl Plain for PanesCommand {
 
 impl Plain for PaneField {
     ghost same = { Prim.search rules };
+
+    ghost cloned = { Prim.search rules };
+}
+
+impl Plain for PanesRefusal {
+    ghost same = { same_refusal };
+
+    ghost cloned = { Prim.search rules };
+}
+
+impl Plain for PanesEnded {
+    ghost same = { same_ended };
 
     ghost cloned = { Prim.search rules };
 }

@@ -20,7 +20,9 @@ use tui_program::{Leftovers, run};
 /// It ends `Ok` only where the source was read to its end within 1,048,576 bytes, these bytes are JSON that passes each test of the
 /// input, no read and no put failed, and the sink holds what it held and then the print of the screen that the drawing in that order
 /// and the changes reach from a blank buffer; or with `at` the line `leaf` and the number of the leaf whose rectangle has the
-/// position, or `none`. At `NoMemory` the sink is as before. Every other ending has its cause; see `PanesEnded`.
+/// position, or `none`. At `NoMemory` the sink is as before. Every other ending has its cause; see `PanesEnded`. Where no
+/// widget has a shadow, that screen is the one that the panes draw on a blank buffer as they stand at last, in either order
+/// (`output_laws`).
 pub fn run_panes<S: Source, K: Sink>(
     alloc: Global,
     words: &[String],

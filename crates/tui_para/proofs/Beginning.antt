@@ -11,7 +11,7 @@ use Rattle.tui_para.specs.Hyphens.{glyph_rule, with_splits}
 use Rattle.tui_para.specs.declared.wrap.Wrap.{Wrap}
 use Rattle.tui_para.specs.Answers.{both}
 use Rattle.tui_para.specs.Given.{IsGlyph, MayBe, MayGive, WillBe, WillGive, SourceGives, SourceReads, line_answers, source_answers}
-use Rattle.tui_para.specs.Lines.{GlyphLine, glyph_line, LinesOfEach, IsFirstOf, PartsThenLines, LinesFrom, LinesOf, GivenUnlessDone, WrapsLine}
+use Rattle.tui_para.specs.Lines.{GlyphLine, glyph_line, LinesOfEach, IsTakenOf, PartsThenLines, LinesFrom, LinesOf, GivenUnlessDone, WrapsLine}
 use Rattle.tui_para.specs.Marked.{splits_of, glyphs_of, part_of}
 use Rattle.tui_para.specs.Wrapped.{WrapsKept, not_wider}
 use Rattle.tui_para.specs.Wrapping.{FindsLine, FindsPart, PartsWith, WrapperLines, glyphs_from, wrapper_answers}
@@ -76,7 +76,7 @@ module _ {O I : Type 0} (outer : O → Option (I × Alignment) → O → Type 0)
           first = first_from (wrapper_answers outer inner s) (wrapper_answers outer inner n) (λ x. (map glyph_of f.taken ++ x.0, x.1))
               (Gave-both (source_answers inner s.current.source) texts (source_answers inner t.source) texts (λ glyphs. map glyph_of f.taken ++ glyphs) (λ ts. ts) (source_gave inner s.current.source t.source f.taken f.reads) (Gave-none texts))
               (WrapperLines s) (WrapperLines n) s.current.width t.width some width (Some (glyph_line s.alignment shown))
-              (λ x comes. at_size (λ v b. IsFirstOf (Some (glyph_line s.alignment shown)) (WrapperLines s (map glyph_of f.taken ++ x.0, x.1)) (PartsThenLines (PartsWith t x.0) s.alignment (WrapsLine v b) x.1))
+              (λ x comes. at_size (λ v b. IsTakenOf (Some (glyph_line s.alignment shown)) (WrapperLines s (map glyph_of f.taken ++ x.0, x.1)) (PartsThenLines (PartsWith t x.0) s.alignment (WrapsLine v b) x.1))
               t.width s.current.width t.wrap s.current.wrap width way
               (part_first wraps (PartsWith s.current (map glyph_of f.taken ++ x.0)) (PartsWith t x.0) s.alignment shown x.1 (f.first x.0 (ended inner t x.0 (⊎_elim (λ h. inl h.0) (λ h. inr h.0) comes)))))
               (λ e. cc);
@@ -94,9 +94,9 @@ module _ {O I : Type 0} (outer : O → Option (I × Alignment) → O → Type 0)
               (Gave-both (source_answers inner s.current.source) (line_answers outer inner s.done s.lines) (source_answers inner t.source) (line_answers outer inner later u) (λ glyphs. map glyph_of f.taken ++ glyphs) (λ ts. ts)
               (source_gave inner s.current.source t.source f.taken f.reads) gave)
               (WrapperLines s) (WrapperLines n) s.current.width t.width some width None
-              (λ x comes. at_size (λ v b. IsFirstOf None (WrapperLines s (map glyph_of f.taken ++ x.0, x.1)) (PartsThenLines (PartsWith t x.0) s.alignment (WrapsLine v b) x.1))
+              (λ x comes. at_size (λ v b. IsTakenOf None (WrapperLines s (map glyph_of f.taken ++ x.0, x.1)) (PartsThenLines (PartsWith t x.0) s.alignment (WrapsLine v b) x.1))
               t.width s.current.width t.wrap s.current.wrap width way
-              (subst (λ ts. IsFirstOf None (PartsThenLines (PartsWith s.current (map glyph_of f.taken ++ x.0)) s.alignment wraps ts) (PartsThenLines (PartsWith t x.0) s.alignment wraps ts)) (sym (⊎_elim (λ h. will_stop (MayGive outer (MayBe inner) u) later over x.1 h.1) (λ h. will_stop (WillGive outer (WillBe inner) u) later over x.1 h.1) comes))
+              (subst (λ ts. IsTakenOf None (PartsThenLines (PartsWith s.current (map glyph_of f.taken ++ x.0)) s.alignment wraps ts) (PartsThenLines (PartsWith t x.0) s.alignment wraps ts)) (sym (⊎_elim (λ h. will_stop (MayGive outer (MayBe inner) u) later over x.1 h.1) (λ h. will_stop (WillGive outer (WillBe inner) u) later over x.1 h.1) comes))
               (end_first wraps (PartsWith s.current (map glyph_of f.taken ++ x.0)) (PartsWith t x.0) s.alignment s.alignment (f.first x.0 (ended inner t x.0 (⊎_elim (λ h. inl h.0) (λ h. inr h.0) comes))))))
               (λ e. (([], []), (subst (λ o. (source_answers inner o).may []) (sym ends) refl, inl (over, refl))));
         }
@@ -131,7 +131,7 @@ module _ {O I : Type 0} (outer : O → Option (I × Alignment) → O → Type 0)
               (Gave-then texts (both (source_answers inner (Some i)) rest) (both later rest) (λ z. glyph_line a z.0 ∷ z.1) (λ x. (map glyph_of f.taken ++ x.0, x.1)) (line_gave outer inner s.lines u s.done going i a step)
               (Gave-both (source_answers inner (Some i)) rest later rest (λ glyphs. map glyph_of f.taken ++ glyphs) (λ ts. ts) (source_gave inner (Some i) n.source f.taken reads) (Gave-none rest))))
               (WrapperLines s) (WrapperLines m) s.current.width n.width some width (Some (glyph_line a shown))
-              (λ x comes. at_size (λ v d. IsFirstOf (Some (glyph_line a shown)) (WrapperLines s (before, line x.0 ∷ x.1)) (PartsThenLines (PartsWith n x.0) a (WrapsLine v d) x.1))
+              (λ x comes. at_size (λ v d. IsTakenOf (Some (glyph_line a shown)) (WrapperLines s (before, line x.0 ∷ x.1)) (PartsThenLines (PartsWith n x.0) a (WrapsLine v d) x.1))
               n.width s.current.width n.wrap s.current.wrap width way
               (first_along (Some (glyph_line a shown)) (LinesOfEach wraps (line x.0 ∷ x.1)) (WrapperLines s (before, line x.0 ∷ x.1)) (PartsThenLines (PartsWith n x.0) a wraps x.1) (PartsThenLines (PartsWith n x.0) a wraps x.1)
               (λ lines. let e = none_before wraps (PartsWith s.current before) s.alignment none_left (line x.0 ∷ x.1) lines in (e.1, e.0)) (same_lists (PartsThenLines (PartsWith n x.0) a wraps x.1))

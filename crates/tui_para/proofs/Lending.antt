@@ -5,11 +5,11 @@ use Rattle.std.specs.Prelude.{◌↔◌, ◌⊎◌}
 use Rattle.tui_text.specs.Grapheme.{Glyph}
 use Rattle.tui_text.specs.declared.alignment.Alignment.{Alignment}
 use Rattle.tui_para.specs.Answers.{Answers}
-use Rattle.tui_para.specs.Lines.{GlyphLine, glyph_line, LinesOfEach, IsFirst, IsFirstOf, PartsThenLines, LinesFrom, lines_from}
+use Rattle.tui_para.specs.Lines.{GlyphLine, glyph_line, LinesOfEach, IsTaken, IsTakenOf, PartsThenLines, LinesFrom, lines_from}
 use Rattle.tui_para.proofs.Answering.{Gave}
 
 -- what holds of the same lists
-pub first_along : {A : Type 0} (first : Option A) (P P' Q Q' : List A → Type 0) → ((xs : List A) → P xs ↔ P' xs) → ((xs : List A) → Q xs ↔ Q' xs) → IsFirstOf first P Q → IsFirstOf first P' Q'
+pub first_along : {A : Type 0} (first : Option A) (P P' Q Q' : List A → Type 0) → ((xs : List A) → P xs ↔ P' xs) → ((xs : List A) → Q xs ↔ Q' xs) → IsTakenOf first P Q → IsTakenOf first P' Q'
 first_along None P P' Q Q' p q h = record {
   lends = (p []).0 h.lends;
   takes = λ xs k. let none = h.takes xs ((p xs).1 k) in (none.0, (q []).0 none.1);
@@ -31,7 +31,7 @@ module _ (R : GlyphLine → List (List Glyph) → Type 0) where
   )
 
   -- one more part of it
-  pub part_first : (P Q : List (List Glyph) → Type 0) (a : Alignment) (part : List Glyph) (ts : List GlyphLine) → IsFirstOf (Some part) P Q → IsFirstOf (Some (glyph_line a part)) (PartsThenLines P a R ts) (PartsThenLines Q a R ts)
+  pub part_first : (P Q : List (List Glyph) → Type 0) (a : Alignment) (part : List Glyph) (ts : List GlyphLine) → IsTakenOf (Some part) P Q → IsTakenOf (Some (glyph_line a part)) (PartsThenLines P a R ts) (PartsThenLines Q a R ts)
   part_first P Q a part ts h = record {
     lends = λ lines (parts, q, (rest, each, e)). (part ∷ parts, h.lends parts q, (rest, each, ap (λ k. glyph_line a part ∷ k) e));
     takes = λ lines (parts, p, (rest, each, e)).
@@ -40,7 +40,7 @@ module _ (R : GlyphLine → List (List Glyph) → Type 0) where
   }
 
   -- its end, where no text line comes after it
-  pub end_first : (P Q : List (List Glyph) → Type 0) (a b : Alignment) → IsFirstOf None P Q → IsFirstOf None (PartsThenLines P a R []) (PartsThenLines Q b R [])
+  pub end_first : (P Q : List (List Glyph) → Type 0) (a b : Alignment) → IsTakenOf None P Q → IsTakenOf None (PartsThenLines P a R []) (PartsThenLines Q b R [])
   end_first P Q a b h = record {
     lends = ([], h.lends, ([], refl, refl));
     takes = λ lines (parts, p, (rest, each, e)). (let k = h.takes parts p in (e ∙ (ap (λ ps. map (glyph_line a) ps ++ rest) k.0 ∙ each), ([], k.1, ([], refl, refl))));
@@ -57,7 +57,7 @@ module _ {X Y : Type 0} (k : Answers X) (l : Answers Y) (back : Y → X) (gave :
       (λ (p, (x, will, each)). let (y, e, after) = gave.will x will in (y, after, subst (λ c. lined c lines) e each))
       h
 
-  pub first_from : (first : Option GlyphLine) → ((y : Y) → (l.may y ⊎ l.will y) → IsFirstOf first (lined (back y)) (later y)) → (first ≡ None → (y : Y) × l.may y) → IsFirst first (lines_from k lined w) (lines_from l later v)
+  pub first_from : (first : Option GlyphLine) → ((y : Y) → (l.may y ⊎ l.will y) → IsTakenOf first (lined (back y)) (later y)) → (first ≡ None → (y : Y) × l.may y) → IsTaken first (lines_from k lined w) (lines_from l later v)
   first_from None is ends =
       let (y, may) = ends refl in
       record {

@@ -9,7 +9,7 @@ use Rattle.tui_text.specs.declared.grapheme.StyledGrapheme.{StyledGrapheme}
 use Rattle.tui_para.specs.Given.{SourceReads}
 use Rattle.tui_para.specs.Hyphenation.{behind_all, marked_from}
 use Rattle.tui_para.specs.Hyphens.{Unsplit, glyph_rule, unsplit}
-use Rattle.tui_para.specs.Lines.{IsFirstOf}
+use Rattle.tui_para.specs.Lines.{IsTakenOf}
 use Rattle.tui_para.specs.Marked.{IsPart, splits_of, glyphs_of, part_of}
 use Rattle.tui_para.specs.Wrapped.{HasLines, not_wider}
 use Rattle.tui_para.specs.Wrapping.{SplitPartsWith, FindsPart, HasRead, IsNextPlace, LinesOfRest, PartsWith, glyphs_from}
@@ -157,7 +157,7 @@ module _ {I : Type 0} (gives : I → Option StyledGrapheme → I → Type 0) whe
       first = λ glyphs ended.
           let has = HasLines (glyph_rule t.width t.wrap) (glyphs_from t p.next glyphs) in
           let first = first_unsplit (Some (between p.start p.end (splits_of t.line))) (SplitPartsWith t glyphs) has (k.first glyphs (λ e. ended (source ∙ e))) in
-          subst (λ k. IsFirstOf (Some k) (PartsWith s (map glyph_of r.taken ++ glyphs)) (PartsWith u glyphs)) shown
+          subst (λ k. IsTakenOf (Some k) (PartsWith s (map glyph_of r.taken ++ glyphs)) (PartsWith u glyphs)) shown
           (first_along (Some (map glyph_part (between p.start p.end (splits_of t.line)))) (PartsWith t glyphs) (PartsWith s (map glyph_of r.taken ++ glyphs)) (Unsplit has) (PartsWith u glyphs)
           (read_parts s t r glyphs) (left glyphs) first);
       ends = λ e. cc;

@@ -8,7 +8,7 @@ use Rattle.tui_text.specs.declared.grapheme.StyledGrapheme.{StyledGrapheme}
 use Rattle.std.specs.Prelude.{Option}
 use Rattle.tui_para.specs.Answers.{both}
 use Rattle.tui_para.specs.Given.{MayBe, MayGive, WillBe, WillGive, line_answers, source_answers}
-use Rattle.tui_para.specs.Lines.{GlyphLine, glyph_line, is_left, LinesOfEach, IsFirst, IsFirstOf, PartsThenLines, lines_from, TruncatesLine}
+use Rattle.tui_para.specs.Lines.{GlyphLine, glyph_line, is_left, LinesOfEach, IsTaken, IsTakenOf, PartsThenLines, lines_from, TruncatesLine}
 use Rattle.tui_para.specs.Truncated.{truncate}
 use Rattle.tui_para.specs.Wrapping.{truncator_answers, truncator_lends}
 use Rattle.tui_para.specs.declared.truncator.LineTruncator.{LineTruncator}
@@ -22,16 +22,16 @@ module _ {O I : Type 0} (outer : O → Option (I × Alignment) → O → Type 0)
 
   -- no text line is left
   pub none_left : (u : O) (later : Bool) → Gave (line_answers outer inner s.done s.lines) (λ ts. ts) (line_answers outer inner later u) → later ≡ true →
-      IsFirst None (truncator_lends outer inner s) (lines_from (line_answers outer inner later u) (LinesOfEach truncates) s.width)
+      IsTaken None (truncator_lends outer inner s) (lines_from (line_answers outer inner later u) (LinesOfEach truncates) s.width)
   none_left u later gave over =
       first_from (truncator_answers outer inner s) (line_answers outer inner later u) (λ ts. ts) gave (LinesOfEach truncates) (LinesOfEach truncates) s.width s.width some refl None
-      (λ ts comes. subst (λ k. IsFirstOf None (LinesOfEach truncates k) (LinesOfEach truncates k)) (sym (⊎_elim (λ h. will_stop (MayGive outer (MayBe inner) u) later over ts h) (λ h. will_stop (WillGive outer (WillBe inner) u) later over ts h) comes))
+      (λ ts comes. subst (λ k. IsTakenOf None (LinesOfEach truncates k) (LinesOfEach truncates k)) (sym (⊎_elim (λ h. will_stop (MayGive outer (MayBe inner) u) later over ts h) (λ h. will_stop (WillGive outer (WillBe inner) u) later over ts h) comes))
       (record { lends = refl; takes = λ lines e. (e, refl) }))
       (λ e. ([], inl (over, refl)))
 
   -- one is truncated
   pub line_truncated : (u : O) (i : I) (a : Alignment) (all : List StyledGrapheme) (shown : List Glyph) → s.done ≡ false → outer s.lines (Some (i, a)) u → Drains inner i all → shown ≡ truncate glyph_width s.width (is_left a) s.offset (map glyph_of all) →
-      IsFirst (Some (glyph_line a shown)) (truncator_lends outer inner s) (lines_from (line_answers outer inner s.done u) (LinesOfEach truncates) s.width)
+      IsTaken (Some (glyph_line a shown)) (truncator_lends outer inner s) (lines_from (line_answers outer inner s.done u) (LinesOfEach truncates) s.width)
   line_truncated u i a all shown going step drains shown_is =
       let texts = line_answers outer inner s.done s.lines in
       let rest = line_answers outer inner s.done u in

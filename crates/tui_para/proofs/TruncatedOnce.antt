@@ -7,7 +7,7 @@ use Rattle.std.proofs.lemmas.Bool.{cases_Bool, leb-true, leb-false}
 use Rattle.std.proofs.lemmas.List.{append_cancel_left}
 use Rattle.std.proofs.lemmas.Bool.Decides.{nat_tests}
 use Rattle.tui_text.specs.Grapheme.{Glyph, glyph_width}
-use Rattle.tui_para.specs.Lines.{GlyphLine, is_left, IsFirstOf, TruncatesLine}
+use Rattle.tui_para.specs.Lines.{GlyphLine, is_left, IsTakenOf, TruncatesLine}
 use Rattle.tui_para.specs.Truncated.{IsLongestPrefix, FitsIn, IsPassedBy, Truncated, fitting_prefix, left_by, truncate}
 use Rattle.tui_para.specs.Wrapped.{not_wider, IsTheOne}
 use Rattle.tui_para.proofs.Filled.{no_cons}
@@ -174,7 +174,7 @@ module _ {A : Type 0} (size : A → ℕ) where
   left_by_none (x ∷ xs) = refl
 
 -- the one line of a text line
-pub truncated_first : (w offset : ℕ) (t : GlyphLine) (line : List Glyph) → line ≡ truncate glyph_width w (is_left t.alignment) offset t.glyphs → IsFirstOf (Some line) (TruncatesLine w offset t) (λ parts. parts ≡ [])
+pub truncated_first : (w offset : ℕ) (t : GlyphLine) (line : List Glyph) → line ≡ truncate glyph_width w (is_left t.alignment) offset t.glyphs → IsTakenOf (Some line) (TruncatesLine w offset t) (λ parts. parts ≡ [])
 truncated_first w offset t line is_shown =
     let is = truncates_once glyph_width w (is_left t.alignment) offset t.glyphs in
     record {

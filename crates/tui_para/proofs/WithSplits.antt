@@ -8,7 +8,7 @@ use Rattle.tui_text.specs.Grapheme.{Glyph, glyph_blank, glyph_width}
 use Rattle.tui_para.specs.Counting.{counted, no_lines, steps}
 use Rattle.tui_para.specs.Hyphenation.{after_hyphen, after_letter, at_start, behind, behind_all, behind_hyphen, behind_other, marked_from}
 use Rattle.tui_para.specs.Hyphens.{Unsplit, Wrapped, glyph_rule, is_split, is_hyphen, is_letter, unsplit, with_splits, wrap}
-use Rattle.tui_para.specs.Lines.{IsFirstOf}
+use Rattle.tui_para.specs.Lines.{IsTakenOf}
 use Rattle.tui_para.specs.Places.{wrap_kept}
 use Rattle.tui_para.specs.Wrapped.{IsTheOne, LeavesOutBlanks, WrapsKept, not_wider}
 use Rattle.tui_para.specs.declared.wrap.Wrap.{Wrap}
@@ -194,7 +194,7 @@ wrapping_leaves w way glyphs lines (parts, h, e) =
     subst (LeavesOutBlanks glyph_blank xs) (sym e) (subst (λ ys. LeavesOutBlanks glyph_blank ys (unsplit parts)) (glyphs-with_splits way.hyphens [] xs) out)
 
 -- what is first of lines is first of them without what tells of splits
-pub first_unsplit : (first : Option (List (Glyph × Bool))) (P Q : List (List (Glyph × Bool)) → Type 0) → IsFirstOf first P Q → IsFirstOf (option_map (map glyph_part) first) (Unsplit P) (Unsplit Q)
+pub first_unsplit : (first : Option (List (Glyph × Bool))) (P Q : List (List (Glyph × Bool)) → Type 0) → IsTakenOf first P Q → IsTakenOf (option_map (map glyph_part) first) (Unsplit P) (Unsplit Q)
 first_unsplit None P Q f = record {
   lends = ([], f.lends, refl);
   takes = λ lines (parts, p, e). (let t = f.takes parts p in (e ∙ ap unsplit t.0, ([], t.1, refl)));

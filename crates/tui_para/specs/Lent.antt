@@ -3,7 +3,7 @@ use Rattle.std.specs.Prelude.{◌≡◌, Bool, true, false, List, Option, option
 use Rattle.tui_cells.specs.declared.memory.NoMemory.{NoMemory}
 use Rattle.tui_text.specs.Grapheme.{glyph_of}
 use Rattle.tui_para.specs.Answers.{Answers}
-use Rattle.tui_para.specs.Lines.{GlyphLine, IsFirst}
+use Rattle.tui_para.specs.Lines.{GlyphLine, IsTaken}
 use Rattle.tui_para.specs.declared.composer.WrappedLine.{WrappedLine}
 
 -- a line that is lent, as plain data
@@ -19,5 +19,5 @@ module _ {S : Type 0} (can_lend : S → Type 0) (to_come awaits : S → List Gly
   abbrev pub NextLine : S → Result (Option WrappedLine) NoMemory → S → Type 0
   NextLine old result new = can_lend new × MatchResult result
       (λ found. (has_failed old ≡ false) × (has_failed new ≡ false)
-      × IsFirst (option_map glyph_line_of found) (lends old) (lends new))
+      × IsTaken (option_map glyph_line_of found) (lends old) (lends new))
       (λ _. has_failed new ≡ true)

@@ -77,10 +77,10 @@ EachBegins {A} Before None After = (xs : List A) → Before xs → (xs ≡ []) �
 EachBegins {A} Before (Some x) After = (xs : List A) → Before xs → (rest : List A) × (xs ≡ x ∷ rest) × After rest
 
 -- one is taken from the lists that may come and from those that come in any case, or none is left
-pub record IsFirst {A : Type 0} (first : Option A) (before after : Answers (List A)) : Type 0 where
+pub record IsTaken {A : Type 0} (first : Option A) (before after : Answers (List A)) : Type 0 where
   pub lends : SomeBegin before.may first after.may
   pub takes : EachBegins before.will first after.will
 
 -- the same where these lists come, and no others
-abbrev pub IsFirstOf : {A : Type 0} → Option A → (List A → Type 0) → (List A → Type 0) → Type 0
-IsFirstOf first P Q = IsFirst first (record { may = P; will = P }) (record { may = Q; will = Q })
+abbrev pub IsTakenOf : {A : Type 0} → Option A → (List A → Type 0) → (List A → Type 0) → Type 0
+IsTakenOf first P Q = IsTaken first (record { may = P; will = P }) (record { may = Q; will = Q })

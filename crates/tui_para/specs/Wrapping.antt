@@ -7,7 +7,7 @@ use Rattle.tui_text.specs.declared.alignment.Alignment.{Alignment}
 use Rattle.tui_text.specs.declared.grapheme.StyledGrapheme.{StyledGrapheme}
 use Rattle.tui_para.specs.Answers.{Answers, both}
 use Rattle.tui_para.specs.Given.{AllReady, Ready, SourceReads, line_answers, source_answers}
-use Rattle.tui_para.specs.Lines.{GlyphLine, glyph_line, LinesOfEach, IsFirst, IsFirstOf, PartsThenLines, TruncatesLine, WrapsLine, lines_from}
+use Rattle.tui_para.specs.Lines.{GlyphLine, glyph_line, LinesOfEach, IsTaken, IsTakenOf, PartsThenLines, TruncatesLine, WrapsLine, lines_from}
 use Rattle.tui_para.specs.Marked.{IsPart, splits_of, glyphs_of, part_of}
 use Rattle.tui_para.specs.Hyphenation.{behind_all, marked_from}
 use Rattle.tui_para.specs.Hyphens.{Unsplit, glyph_rule}
@@ -38,7 +38,7 @@ PartsWith s glyphs = Unsplit (SplitPartsWith s glyphs)
 
 -- the first of them is what stands at this place, and those after it begin at the next
 abbrev pub FirstLine : {I : Type 0} → TextLine I → Place → List Glyph → Type 0
-FirstLine s p glyphs = IsFirstOf (Some (between p.start p.end (splits_of s.line))) (SplitPartsWith s glyphs)
+FirstLine s p glyphs = IsTakenOf (Some (between p.start p.end (splits_of s.line))) (SplitPartsWith s glyphs)
     (HasLines (glyph_rule s.width s.wrap) (glyphs_from s p.next glyphs))
 
 -- the place is that of the first line, whatever is still to be read
@@ -66,7 +66,7 @@ pub record FindsPart {I : Type 0} (gives : I → Option StyledGrapheme → I →
   pub taken : List StyledGrapheme
   pub reads : SourceReads gives old.source taken new.source
   pub first : (glyphs : List Glyph) → (new.source ≡ None → glyphs ≡ []) →
-      IsFirstOf (option_map (part_of (glyphs_of new.line)) found) (PartsWith old (map glyph_of taken ++ glyphs)) (PartsWith new glyphs)
+      IsTakenOf (option_map (part_of (glyphs_of new.line)) found) (PartsWith old (map glyph_of taken ++ glyphs)) (PartsWith new glyphs)
   pub ends : found ≡ None → new.source ≡ None
 
 -- the lines of a wrapper, where these are the graphemes and the text lines that its iterators still give
@@ -107,12 +107,12 @@ module _ {O I : Type 0} (outer : O → Option (I × Alignment) → O → Type 0)
   -- a wrapper found its next line, which is a part of the graphemes that it holds, or that there is none
   pub record FindsLine (old new : WordWrapper O I) (found : Option Part) : Type 0 where
     pub is_part : IfSome found (IsPart (glyphs_of new.current.line))
-    pub first : IsFirst (option_map (λ p. glyph_line new.alignment (part_of (glyphs_of new.current.line) p)) found) (wrapper_lends old) (wrapper_lends new)
+    pub first : IsTaken (option_map (λ p. glyph_line new.alignment (part_of (glyphs_of new.current.line) p)) found) (wrapper_lends old) (wrapper_lends new)
 
   -- a truncator found its next line, which is what it keeps and has this many columns, or that there is none
   pub record FindsTruncated (old new : LineTruncator O I) (found : Option ℕ) : Type 0 where
     pub columns : IfSome found (λ n. n ≡ sum_by glyph_width (map glyph_of new.shown.items))
-    pub first : IsFirst (option_map (λ _. glyph_line new.alignment (map glyph_of new.shown.items)) found) (truncator_lends old) (truncator_lends new)
+    pub first : IsTaken (option_map (λ _. glyph_line new.alignment (map glyph_of new.shown.items)) found) (truncator_lends old) (truncator_lends new)
 
 -- their iterators may be called, and end
 module _ {O I : Type 0} (outer : Ghosts O (I × Alignment)) (inner : Ghosts I StyledGrapheme) where

@@ -3,3 +3,4 @@ pub mod Dates
 pub mod Dressing
 pub mod Stored
 pub mod TableWidths
+pub mod Same

@@ -6,11 +6,13 @@ mod error;
 mod field;
 mod items;
 mod kinds;
+mod laws;
 mod reading;
 
 pub use bad_field::BadField;
 pub use error::SceneError;
 pub use field::Field;
 pub use items::{item_of, item_without_area};
+pub use laws::refusal_laws;
 pub use reading::{Reading, read_scene, scene_of};
 pub use tui_json::constraint_of;

@@ -6,3 +6,4 @@ pub mod Ended
 pub mod Endings
 pub mod Laws
 pub mod ByEnding
+pub mod Same

@@ -82,7 +82,14 @@ impl<'a> Rows<'a> {
         ensures found { result ≡ window_of (heights_of (map row_data self.now)) room offset selected 0 }
         ensures order { (result.first ≤ result.end) × (result.end ≤ length self.now) }
     {
-        window_of(&self.heights, u64::from(room), offset, selected, 0)
+        window_of(
+            *self.rows.allocator(),
+            &self.heights,
+            u64::from(room),
+            offset,
+            selected,
+            0,
+        )
     }
 
     /// Equal rows of their own. `NoMemory` where there is none for them.

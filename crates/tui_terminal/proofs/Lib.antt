@@ -8,3 +8,4 @@ mod Styling
 mod SymbolLemmas
 mod Texts
 mod Walking
+pub mod AddedTexts

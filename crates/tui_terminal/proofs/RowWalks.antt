@@ -1,15 +1,17 @@
 -- Along the rows of a screen.
 use Rattle.std.proofs.Common.{◌≡◌, ℕ, ◌+◌, ◌<◌, ◌≤◌, Bool, true, false, List, [], ◌∷◌, ◌++◌, length, map, get_or, drop, flat_map, refl, sym, ap, ◌∙◌, append_assoc, add-one, arith}
-use Rattle.std.specs.Prelude.{if◌then◌else◌}
+use Rattle.std.specs.Prelude.{codes, if◌then◌else◌}
 use Rattle.std.proofs.lemmas.List.{append-nil, drop_all}
 use Rattle.std.proofs.lemmas.Grind.{flat_map-append}
 use Rattle.std.proofs.lemmas.List.Concat.{flat_map-cons}
 use Rattle.std.proofs.lemmas.Bool.{cond-true, cond-false}
 use Rattle.std.proofs.Math.Seq.{drop-cons}
 use Rattle.tui_cells.specs.Cell.{Look}
+use Rattle.tui_cells.specs.declared.rect.Rect.{Rect}
 use Rattle.tui_tty.specs.declared.output.Output.{Output}
-use Rattle.tui_tty.specs.Spelling.{spelling}
-use Rattle.tui_tty.specs.Terminal.{Command}
+use Rattle.tui_tty.specs.Calls.{grave, mend}
+use Rattle.tui_tty.specs.Spelling.{csi, spelling}
+use Rattle.tui_tty.specs.Terminal.{Command, paint, place, print}
 use Rattle.tui_tty_laws.specs.Sending.{nowhere, row_anew, row_changes, rows_sent, send, send_rows}
 use Rattle.tui_terminal.proofs.Texts.{more_text, one_text}
 
@@ -96,7 +98,15 @@ pub frame_text : (before rows behind : List Command) →
     flat_map spelling before ++ (flat_map spelling rows ++ flat_map spelling behind) ≡ flat_map spelling (before ++ (rows ++ behind))
 frame_text before rows behind = more_text spelling before (rows ++ behind) _ (more_text spelling rows behind _ refl)
 
-pub whole_text : (first : Command) (before rows behind : List Command) →
-    spelling first ++ (flat_map spelling before ++ (flat_map spelling rows ++ flat_map spelling behind)) ≡ flat_map spelling (first ∷ (before ++ (rows ++ behind)))
-whole_text first before rows behind =
-    ap (λ (l : List ℕ). spelling first ++ l) (frame_text before rows behind) ∙ sym (flat_map-cons spelling first (before ++ (rows ++ behind)))
+pub whole_text : (first : Command) (mend before rows behind : List Command) →
+    spelling first ++ (flat_map spelling mend ++ (flat_map spelling before ++ (flat_map spelling rows ++ flat_map spelling behind)))
+    ≡ flat_map spelling (first ∷ (mend ++ (before ++ (rows ++ behind))))
+whole_text first mend before rows behind =
+    ap (λ (l : List ℕ). spelling first ++ l) (more_text spelling mend (before ++ (rows ++ behind)) _ (frame_text before rows behind))
+    ∙ sym (flat_map-cons spelling first (mend ++ (before ++ (rows ++ behind))))
+
+pub mend_text : (area : Rect) → spelling (place area.x area.y) ++ (csi ++ (codes "0" ++ (codes "m" ++ grave))) ≡ flat_map spelling (mend area)
+unfolding spelling
+mend_text area =
+    let move = place area.x area.y in
+    ap (λ (l : List ℕ). spelling move ++ l) (two_text (paint []) (print grave)) ∙ sym (flat_map-cons spelling move (paint [] ∷ print grave ∷ []))

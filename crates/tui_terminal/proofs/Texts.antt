@@ -48,11 +48,11 @@ back_rest c e = sym (ap (λ (k : Color). flat_map next_setting_text (back_of k))
 
 -- a colour behind by itself, or none
 pub behind_off : (c : Color) (b : Bool) → b ≡ has_name c → b ≡ true → [] ≡ flat_map spelling (then_back c)
-behind_off c b is on = sym (ap (flat_map spelling) (cond-true (has_name c) [] (add (back c) ∷ []) (sym is ∙ on)))
+behind_off c b is on = sym (ap (flat_map spelling) (cond-true (has_name c) [] (add (back c) [] ∷ []) (sym is ∙ on)))
 
 pub behind_on : (c : Color) (b : Bool) → b ≡ has_name c → b ≡ false → csi ++ (back_text c ++ codes "m") ≡ flat_map spelling (then_back c)
 unfolding spelling
-behind_on c b is off = sym (ap (flat_map spelling) (cond-false (has_name c) [] (add (back c) ∷ []) (sym is ∙ off)) ∙ one_text spelling (add (back c)))
+behind_on c b is off = sym (ap (flat_map spelling) (cond-false (has_name c) [] (add (back c) [] ∷ []) (sym is ∙ off)) ∙ one_text spelling (add (back c) []))
 
 -- a whole paint, and what is behind it
 pub paint_text : (ms fs bs : List Setting) (more : List Command) →
@@ -96,6 +96,13 @@ left_out b cs e = sym (ap (flat_map spelling) (cond-true b [] cs e))
 
 pub not_left_out : (b : Bool) (cs : List Command) → b ≡ false → flat_map spelling cs ≡ flat_map spelling (if b then [] else cs)
 not_left_out b cs e = sym (ap (flat_map spelling) (cond-false b [] cs e))
+
+-- one of two
+pub first_of : (b : Bool) (xs ys : List Command) → b ≡ true → flat_map spelling xs ≡ flat_map spelling (if b then xs else ys)
+first_of b xs ys e = sym (ap (flat_map spelling) (cond-true b xs ys e))
+
+pub second_of : (b : Bool) (xs ys : List Command) → b ≡ false → flat_map spelling ys ≡ flat_map spelling (if b then xs else ys)
+second_of b xs ys e = sym (ap (flat_map spelling) (cond-false b xs ys e))
 
 -- the commands of a cell
 pub piece_text : (ms ps : List Command) (symbol : List ℕ) → flat_map spelling ms ++ (flat_map spelling ps ++ symbol) ≡ flat_map spelling (ms ++ (ps ++ print symbol ∷ []))

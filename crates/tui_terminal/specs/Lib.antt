@@ -1,3 +1,4 @@
+pub mod Adding
 pub mod Depth
 pub mod Marks
 pub mod Risks

@@ -1,5 +1,5 @@
 -- Which cells the writer sends.
-use Rattle.std.specs.Prelude.{ℕ, Bool, false, not, ◌&&◌, ◌==◌, List, [], ◌∷◌, Option, None, Some, if◌then◌else◌}
+use Rattle.std.specs.Prelude.{ℕ, Bool, false, not, ◌&&◌, ◌==◌, nat_lt, List, [], ◌∷◌, Option, None, Some, if◌then◌else◌}
 use Rattle.tui_cells.specs.Attributes.{look_of}
 use Rattle.tui_cells.specs.Cell.{Look}
 use Rattle.tui_cells.specs.contracts.attributes.AttributesPartialEq as attributes
@@ -18,6 +18,10 @@ placed_at column symbol a = record { column = column; cell = look_of symbol a }
 -- whether the cursor is known to stand in a column
 abbrev pub is_there : At → ℕ → Bool
 is_there at column = at.placed && (at.column == column)
+
+-- whether it is known to stand before a column
+abbrev pub is_before : At → ℕ → Bool
+is_before at column = at.placed && nat_lt at.column column
 
 -- whether the pen is known to have these attributes
 abbrev pub is_pen : At → Attributes → Bool

@@ -1,6 +1,7 @@
 //! A buffer on a terminal: the bytes that make any terminal show it, and those that make one that shows a buffer show another.
 #![tactic(auto)]
 
+mod adding;
 mod colours;
 mod depth;
 mod palette;

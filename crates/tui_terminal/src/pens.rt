@@ -4,6 +4,7 @@ ghost use Rattle.std.specs.Prelude.{◌≡◌, ◌↔◌, ◌<◌, ◌++◌, IsT
 ghost use Rattle.tui_cells.specs.declared.color.Color.TheVariants.{Reset};
 ghost use Rattle.tui_outside.specs.Gathers.{Gathers};
 ghost use Rattle.tui_terminal.specs.Marks.{mark_if};
+ghost use Rattle.tui_tty.specs.Colours.{color_at};
 ghost use Rattle.tui_tty.specs.Pens.{back_of, front_of, has_name, marks_from, marks_of, paints_of, pen_of, then_back};
 ghost use Rattle.tui_tty.specs.Spelling.{back_text, front_text, next_setting_text, spelling};
 
@@ -11,6 +12,17 @@ use crate::colours::color_at;
 use tui_cells::{Attributes, Color, Modifier};
 use tui_outside::{Print, Sink};
 use tui_tty::Depth;
+
+/// Attributes as a terminal of this depth has them.
+pub(crate) fn at_depth(depth: Depth, a: Attributes) -> Attributes
+    ensures { result ≡ record { fg = color_at depth a.fg; bg = color_at depth a.bg; modifier = a.modifier } }
+{
+    Attributes {
+        fg: color_at(depth, a.fg),
+        bg: color_at(depth, a.bg),
+        modifier: a.modifier,
+    }
+}
 
 /// Adds what sets the pen to some attributes, as a terminal of this depth has them, whatever it was.
 pub(crate) fn put_pen<K: Sink>(
@@ -55,9 +67,9 @@ fn named_or_reset(color: Color) -> Color
     if has_name(color) { color } else { Color::Reset }
 }
 
-// Whether a colour is the terminal's own or one of the sixteen.
+/// Whether a colour is the terminal's own or one of the sixteen.
 #[tactic(auto, unfolding(tui_tty::specs::Pens::has_name))]
-fn has_name(color: Color) -> bool
+pub(crate) fn has_name(color: Color) -> bool
     ensures { result ≡ has_name color }
 {
     !matches!(color, Color::Rgb(..) | Color::Indexed(_))
@@ -104,8 +116,9 @@ fn put_front<K: Sink>(print: &mut Print, color: Color, sink: &mut K)
     }
 }
 
+/// Adds the number of a colour in front.
 #[tactic(auto, unfolding(tui_tty::specs::Spelling::front_text))]
-fn put_front_text<K: Sink>(print: &mut Print, color: Color, sink: &mut K)
+pub(crate) fn put_front_text<K: Sink>(print: &mut Print, color: Color, sink: &mut K)
     ensures { Gathers (K.told sink.old) (K.told sink.new) print.old print.new (front_text color) }
 {
     match color {
@@ -152,8 +165,9 @@ fn put_behind<K: Sink>(print: &mut Print, color: Color, sink: &mut K)
     }
 }
 
+/// Adds the number of a colour behind.
 #[tactic(auto, unfolding(tui_tty::specs::Spelling::back_text))]
-fn put_back_text<K: Sink>(print: &mut Print, color: Color, sink: &mut K)
+pub(crate) fn put_back_text<K: Sink>(print: &mut Print, color: Color, sink: &mut K)
     ensures { Gathers (K.told sink.old) (K.told sink.new) print.old print.new (back_text color) }
 {
     match color {

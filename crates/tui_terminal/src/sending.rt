@@ -4,14 +4,15 @@ ghost use Rattle.std.specs.Prelude.{◌≡◌, ◌+◌, ◌<◌, ◌≤◌, flat
 ghost use Rattle.tui_cells.specs.Cell.{space};
 ghost use Rattle.tui_outside.specs.Gathers.{Gathers};
 ghost use Rattle.tui_terminal.specs.Seeing.{look_in};
-ghost use Rattle.tui_terminal.specs.Sent.{is_pen, is_there, placed_at, placed_if};
+ghost use Rattle.tui_terminal.specs.Sent.{is_before, is_pen, is_there, placed_at, placed_if};
 ghost use Rattle.tui_text.specs.Visible.{step_of};
 ghost use Rattle.tui_tty.specs.Spelling.{spelling};
-ghost use Rattle.tui_tty_laws.specs.Sending.{at_after, moves, next_at, paints, send, send_one};
+ghost use Rattle.tui_tty_laws.specs.Sending.{at_after, moves, moves_on, next_at, paints, paints_on, send, send_one};
 
+use crate::adding::put_repaint;
 use crate::pens::put_pen;
 use crate::seeing::Seen;
-use crate::spelling::put_place;
+use crate::spelling::{put_across, put_place};
 use crate::symbols::is_trusted;
 use tui_cells::Attributes;
 use tui_outside::{Print, Sink};
@@ -99,8 +100,28 @@ fn put_moves<K: Sink>(print: &mut Print, y: usize, at: At, column: usize, sink: 
         (flat_map spelling (moves y at (placed_at column space at.pen))) }
 {
     if !is_there(at, column) {
+        put_moves_on(print, y, at, column, sink);
+    }
+}
+
+// Moves the cursor from elsewhere: within the row, if it is known to stand before that.
+#[inline]
+fn put_moves_on<K: Sink>(print: &mut Print, y: usize, at: At, column: usize, sink: &mut K)
+    requires { (column < 65536) × (y < 65536) }
+    ensures { Gathers (K.told sink.old) (K.told sink.new) print.old print.new (flat_map spelling (moves_on y at column)) }
+{
+    if is_before(at, column) {
+        put_across(print, column, sink);
+    } else {
         put_place(print, column, y, sink);
     }
+}
+
+#[inline]
+fn is_before(at: At, column: usize) -> bool
+    ensures { result ≡ is_before at column }
+{
+    at.placed && at.column < column
 }
 
 #[inline]
@@ -123,6 +144,23 @@ fn put_paints<K: Sink>(
         (flat_map spelling (paints depth at (placed_at 0 space attributes))) }
 {
     if !is_pen(at, attributes) {
+        put_paints_on(print, depth, at, attributes, sink);
+    }
+}
+
+// Sets the pen from another one, if that is known.
+fn put_paints_on<K: Sink>(
+    print: &mut Print,
+    depth: Depth,
+    at: At,
+    attributes: Attributes,
+    sink: &mut K,
+)
+    ensures { Gathers (K.told sink.old) (K.told sink.new) print.old print.new (flat_map spelling (paints_on depth at attributes)) }
+{
+    if at.painted {
+        put_repaint(print, depth, at.pen, attributes, sink);
+    } else {
         put_pen(print, depth, attributes, sink);
     }
 }

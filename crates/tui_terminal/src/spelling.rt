@@ -3,7 +3,7 @@
 ghost use Rattle.std.specs.Prelude.{◌+◌, ◌<◌, [], ◌∷◌, ◌++◌, false, true};
 ghost use Rattle.tui_outside.specs.Gathers.{Gathers};
 ghost use Rattle.tui_tty.specs.Spelling.{spelling, tame_text};
-ghost use Rattle.tui_tty.specs.Terminal.{held, place, tame, turn, visible};
+ghost use Rattle.tui_tty.specs.Terminal.{across, held, place, tame, turn, visible};
 
 use tui_outside::{Print, Sink};
 
@@ -28,6 +28,16 @@ pub(crate) fn put_place<K: Sink>(print: &mut Print, column: usize, row: usize, s
     print.text(sink, ";");
     print.number(sink, column + 1);
     print.text(sink, "H");
+}
+
+/// Adds what moves the cursor to a column of its row.
+pub(crate) fn put_across<K: Sink>(print: &mut Print, column: usize, sink: &mut K)
+    requires { column < 65536 }
+    ensures { Gathers (K.told sink.old) (K.told sink.new) print.old print.new (spelling (across column)) }
+{
+    print.text(sink, "\x1b[");
+    print.number(sink, column + 1);
+    print.text(sink, "G");
 }
 
 /// Adds what shows the cursor, or hides it.

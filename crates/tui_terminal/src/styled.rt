@@ -5,7 +5,6 @@ ghost use Rattle.tui_outside.specs.Causes.{Writes};
 ghost use Rattle.tui_outside.specs.Gathers.{Gathers};
 ghost use Rattle.tui_terminal.specs.Seeing.{cover_of};
 ghost use Rattle.tui_terminal.specs.StyledCells.{StyledCell, styled_line};
-ghost use Rattle.tui_tty.specs.Colours.{color_at};
 ghost use Rattle.tui_tty.specs.Pens.{pen_of};
 ghost use Rattle.tui_tty.specs.Pieces.{next_cover, pieces, shown, shown_row, uncovered};
 ghost use Rattle.tui_tty.specs.Spelling.{spelling};
@@ -13,8 +12,7 @@ ghost use Rattle.tui_tty.specs.Styled.{AreStyledRows, Becomes, StyledRow};
 ghost use Rattle.tui_tty.specs.Terminal.{Command, rest};
 ghost use Rattle.tui_tty.specs.declared.trust.Trust.TheVariants.{Common};
 
-use crate::colours::color_at;
-use crate::pens::put_pen;
+use crate::pens::{at_depth, put_pen};
 use crate::seeing::{Under, see};
 use tui_cells::{Attributes, Buffer, Cell};
 use tui_outside::{Print, Sink, WriteFault};
@@ -132,14 +130,4 @@ fn is_same(one: Attributes, other: Attributes) -> bool
     ensures { IsTrue result → one ≡ other }
 {
     one == other
-}
-
-fn at_depth(depth: Depth, a: Attributes) -> Attributes
-    ensures { result ≡ record { fg = color_at depth a.fg; bg = color_at depth a.bg; modifier = a.modifier } }
-{
-    Attributes {
-        fg: color_at(depth, a.fg),
-        bg: color_at(depth, a.bg),
-        modifier: a.modifier,
-    }
 }

@@ -1,7 +1,23 @@
 //! Which symbols are sent, and which of them a terminal is trusted with.
 
 ghost use Rattle.std.specs.Prelude.{◌≡◌, ◌<◌, ◌&&◌, [], ◌∷◌, nat_le};
-ghost use Rattle.tui_tty.specs.Symbols.{ascii_trusted, has_columns, is_among, is_ascii, is_common, is_ended, is_led, is_quiet, is_quiet_byte, is_sendable, is_tail, is_trusted, joins_next, three_byte_trusted, two_byte_trusted};
+ghost use Rattle.tui_tty.specs.Symbols.{
+  ascii_trusted,
+  has_columns,
+  is_among,
+  is_ascii,
+  is_common,
+  is_ended,
+  is_led,
+  is_quiet,
+  is_quiet_byte,
+  is_sendable,
+  is_tail,
+  is_trusted,
+  joins_next,
+  three_byte_trusted,
+  two_byte_trusted,
+};
 ghost use Rattle.tui_tty.specs.Terminal.{reach, reach_of};
 
 use tui_text::symbol_columns;

@@ -1,21 +1,26 @@
 //! Whole screens, and their changes.
 
-ghost use Rattle.std.specs.Prelude.{◌≡◌, ℕ, List, [], ◌∷◌, false, flat_map, map, true, if◌then◌else◌};
+ghost use Rattle.std.specs.Prelude.{◌≡◌, ◌&&◌, nat_lt, ℕ, List, [], ◌∷◌, false, flat_map, map, true, if◌then◌else◌};
 ghost use Rattle.tui_cells.specs.Buffer.{IsScreen};
 ghost use Rattle.tui_outside.specs.Causes.{Writes};
 ghost use Rattle.tui_outside.specs.Gathers.{Gathers};
-ghost use Rattle.tui_tty.specs.Calls.{IsChange, IsFull};
+ghost use Rattle.tui_tty.specs.Calls.{IsChange, IsFull, grave, mend, mending};
 ghost use Rattle.tui_tty.specs.Sends.{closing, cursor_commands};
 ghost use Rattle.tui_tty.specs.Shows.{IsPlace};
 ghost use Rattle.tui_tty.specs.Spelling.{spelling};
+ghost use Rattle.tui_tty.specs.Symbols.{is_trusted};
 ghost use Rattle.tui_tty.specs.Terminal.{held, place, turn, visible};
 ghost use Rattle.tui_tty_laws.specs.Sending.{change, full, row_anew, rows_sent, send_rows};
 
 use crate::rows::{put_anew, put_changes};
 use crate::spelling::{put_held, put_place, put_tame, put_visible};
-use tui_cells::{Buffer, Position};
+use crate::symbols::is_trusted;
+use tui_cells::{Buffer, Position, Rect};
 use tui_outside::{Print, Sink, WriteFault};
-use tui_tty::{Cursor, Output};
+use tui_tty::{Cursor, Output, Trust};
+
+/// The symbol of which `mending` in the definitions speaks.
+const GRAVE: &str = "À";
 
 /// Writes what makes any terminal on whose screen the buffer's area lies show the buffer, whatever it showed before, as far as it is a
 /// terminal of that `output`: each symbol that it is trusted with stands right, and each of a row whose symbols it all knows. A symbol that
@@ -53,9 +58,39 @@ fn put_full<K: Sink>(print: &mut Print, buf: &Buffer, output: Output, sink: &mut
     ensures shape { IsScreen buf.now }
 {
     put_tame(print, sink);
+    put_mending(print, output.trust, buf.area(), sink);
     put_hold(print, output.hold, true, sink);
     put_rows(print, output, buf, sink);
     put_closing(print, output, sink);
+}
+
+// Some terminals keep the first part of a character that was cut short until a text beyond ASCII comes.
+fn put_mending<K: Sink>(print: &mut Print, trust: Trust, area: Rect, sink: &mut K)
+    ensures { Gathers (K.told sink.old) (K.told sink.new) print.old print.new (flat_map spelling (mending trust area)) }
+{
+    if is_mended(trust, area) {
+        put_mend(print, area, sink);
+    }
+}
+
+fn is_mended(trust: Trust, area: Rect) -> bool
+    ensures { result ≡ (is_trusted trust grave && (nat_lt 0 area.width && nat_lt 0 area.height)) }
+{
+    is_trusted(trust, GRAVE) && is_some(area)
+}
+
+fn is_some(area: Rect) -> bool
+    ensures { result ≡ (nat_lt 0 area.width && nat_lt 0 area.height) }
+{
+    0 < area.width && 0 < area.height
+}
+
+fn put_mend<K: Sink>(print: &mut Print, area: Rect, sink: &mut K)
+    ensures { Gathers (K.told sink.old) (K.told sink.new) print.old print.new (flat_map spelling (mend area)) }
+{
+    put_place(print, area.x as usize, area.y as usize, sink);
+    print.text(sink, "\x1b[0m");
+    print.text(sink, GRAVE);
 }
 
 fn put_change<K: Sink>(print: &mut Print, old: &Buffer, new: &Buffer, output: Output, sink: &mut K)

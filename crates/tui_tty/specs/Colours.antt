@@ -1,5 +1,5 @@
 -- A colour as far as a terminal has it.
-use Rattle.std.specs.Prelude.{◌≡◌, ℕ, ◌+◌, ◌-◌, ◌*◌, ◌/◌, Bool, nat_le, nat_lt, List, [], ◌∷◌, get_or, map, if◌then◌else◌}
+use Rattle.std.specs.Prelude.{ℕ, ◌+◌, ◌-◌, ◌*◌, ◌/◌, nat_le, nat_lt, List, [], ◌∷◌, get_or, map, if◌then◌else◌}
 use Rattle.tui_cells.specs.declared.color.Color.{Color}
 use Rattle.tui_cells.specs.declared.color.Color.TheVariants as colors
 use Rattle.tui_tty.specs.declared.depth.Depth.{Depth}

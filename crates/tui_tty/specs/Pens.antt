@@ -1,9 +1,10 @@
 -- The pen of a cell, and the commands that set it.
-use Rattle.std.specs.Prelude.{◌≡◌, ℕ, ◌+◌, Bool, true, false, bit_and, ◌==◌, List, [], ◌∷◌, ◌++◌, length, if◌then◌else◌}
+use Rattle.std.specs.Prelude.{◌≡◌, ℕ, ◌+◌, Bool, true, false, not, ◌&&◌, ◌||◌, bit_and, ◌==◌, List, [], ◌∷◌, ◌++◌, length, if◌then◌else◌}
 use Rattle.tui_cells.specs.declared.attributes.Attributes.{Attributes}
 use Rattle.tui_cells.specs.declared.color.Color.{Color}
 use Rattle.tui_cells.specs.declared.color.Color.TheVariants.{Reset, Rgb, Indexed}
 use Rattle.tui_cells.specs.Cell.{Look}
+use Rattle.tui_cells.specs.contracts.color.ColorPartialEq as color
 use Rattle.tui_tty.specs.declared.depth.Depth.{Depth}
 use Rattle.tui_tty.specs.Colours.{color_at}
 use Rattle.tui_tty.specs.Terminal.{Pen, Setting, mark, front, back, Command, paint, add}
@@ -64,7 +65,7 @@ abbrev pub first_pen : Pen → Pen
 first_pen p = record p { bg = if has_name p.bg then p.bg else Reset }
 
 abbrev pub then_back : Color → List Command
-then_back c = if has_name c then [] else add (back c) ∷ []
+then_back c = if has_name c then [] else add (back c) [] ∷ []
 
 -- the commands that set a pen, whatever it was
 abbrev pub paints_of : Pen → List Command
@@ -74,3 +75,48 @@ paints_of p = paint (settings_of (first_pen p)) ∷ then_back p.bg
 pub record IsPen (p : Pen) : Type 0 where
   pub nine : length p.marks ≡ 9
   pub name : has_name p.bg ≡ true
+
+-- ---- what is added to a pen
+
+-- each mark of a pen is one of another
+abbrev pub marks_stay : List Bool → List Bool → Bool
+marks_stay (a ∷ ms) (b ∷ ns) = (not a || b) && marks_stay ms ns
+marks_stay _ _ = true
+
+-- a colour stays, or becomes one that is not the terminal's own
+unfoldable pub is_own : Color → Bool
+is_own Reset = true
+is_own c = false
+
+abbrev pub color_stays : Color → Color → Bool
+color_stays a b = color.TheImpl.ghosts.eq a b || not (is_own b)
+
+-- from one pen to another nothing is taken away
+abbrev pub only_adds : Pen → Pen → Bool
+only_adds p q = marks_stay p.marks q.marks && (color_stays p.fg q.fg && color_stays p.bg q.bg)
+
+-- the marks that are added, and each colour that changes
+abbrev pub marks_added : ℕ → List Bool → List Bool → List Setting
+marks_added k (a ∷ ms) (b ∷ ns) = (if not a && b then mark k ∷ [] else []) ++ marks_added (k + 1) ms ns
+marks_added k _ _ = []
+
+abbrev pub front_added : Color → Color → List Setting
+front_added a b = if color.TheImpl.ghosts.eq a b then [] else front b ∷ []
+
+abbrev pub back_added : Color → Color → List Setting
+back_added a b = if color.TheImpl.ghosts.eq a b then [] else back b ∷ []
+
+abbrev pub added : Pen → Pen → List Setting
+added p q = marks_added 0 p.marks q.marks ++ (front_added p.fg q.fg ++ (if has_name q.bg then back_added p.bg q.bg else []))
+
+-- the commands that set them, if there are any
+abbrev pub add_all : List Setting → List Command
+add_all [] = []
+add_all (s ∷ ss) = add s ss ∷ []
+
+abbrev pub then_back_added : Color → Color → List Command
+then_back_added a b = if has_name b then [] else add_all (back_added a b)
+
+-- the commands that take one pen to another by what is added
+abbrev pub adds_of : Pen → Pen → List Command
+adds_of p q = add_all (added p q) ++ then_back_added p.bg q.bg

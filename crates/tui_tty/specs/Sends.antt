@@ -1,20 +1,20 @@
 -- What is sent, and how: each cell at most once, its move and its pen right before it.
-use Rattle.std.specs.Prelude.{◌≡◌, ℕ, ◌+◌, ◌<◌, Bool, true, false, List, [], ◌∷◌, ◌++◌, All, Contains, length, flat_map, ◌⊎◌, if◌then◌else◌}
+use Rattle.std.specs.Prelude.{◌≡◌, ℕ, ◌+◌, ◌<◌, ◌≤◌, true, false, List, [], ◌∷◌, ◌++◌, All, Contains, length, flat_map, ◌⊎◌, if◌then◌else◌}
 use Rattle.tui_text.specs.Visible.{Placed}
 use Rattle.tui_tty.specs.declared.cursor.Cursor.{Cursor}
 use Rattle.tui_tty.specs.declared.cursor.Cursor.TheVariants.{Keep, Hidden, At}
 use Rattle.tui_tty.specs.declared.depth.Depth.{Depth}
 use Rattle.tui_tty.specs.declared.output.Output.{Output}
 use Rattle.tui_tty.specs.declared.trust.Trust.{Trust}
-use Rattle.tui_tty.specs.Pens.{IsPen, attributes_of, paints_of, pen_of, settings_of}
+use Rattle.tui_tty.specs.Pens.{IsPen, adds_of, attributes_of, only_adds, paints_of, parameters, pen_of, settings_of}
 use Rattle.tui_tty.specs.Spelling.{spelling}
 use Rattle.tui_tty.specs.Symbols.{is_quiet, is_trusted}
-use Rattle.tui_tty.specs.Terminal.{Pen, Setting, mark, front, back, Mode, autowrap, visible, held, bracketed, alternate, Command, tame, place, paint, add, print, turn}
+use Rattle.tui_tty.specs.Terminal.{Pen, Setting, mark, Mode, visible, held, Command, place, across, paint, add, print, turn}
 
 -- ---- a text is commands
 
--- A symbol that is sent is some text without a control character, so no text of a cell begins a command. A paint sets a pen of nine marks, and of the
--- modes a frame turns the cursor and what is held alone.
+-- A symbol that is sent is some text without a control character, so no text of a cell begins a command. A paint sets a pen of nine marks, no sequence
+-- has more than 16 parameters, and of the modes a frame turns the cursor and what is held alone.
 abbrev pub IsSafeSetting : Setting → Type 0
 IsSafeSetting (mark k) = k < 9
 IsSafeSetting _ = Unit {0}
@@ -27,7 +27,7 @@ IsSafeMode _ = ⊥
 abbrev pub IsSafe : Command → Type 0
 IsSafe (print symbol) = (0 < length symbol) × (is_quiet symbol ≡ true)
 IsSafe (paint ss) = (p : Pen) × (IsPen p × (ss ≡ settings_of p))
-IsSafe (add s) = IsSafeSetting s
+IsSafe (add s ss) = All IsSafeSetting (s ∷ ss) × (parameters (s ∷ ss) ≤ 16)
 IsSafe (turn mode on) = IsSafeMode mode
 IsSafe _ = Unit {0}
 
@@ -40,20 +40,31 @@ abbrev pub IsApart : Trust → List Command → Type 0
 IsApart trust [] = Unit {0}
 IsApart trust (c ∷ cs) = Meet trust c cs × IsApart trust cs
 
+-- no symbol comes first, so that none joins what came before
+abbrev pub Begins : List Command → Type 0
+Begins (print symbol ∷ cs) = ⊥
+Begins _ = Unit {0}
+
 pub record IsSpelled (trust : Trust) (commands : List Command) (text : List ℕ) : Type 0 where
   pub spelled : text ≡ flat_map spelling commands
   pub safe : All IsSafe commands
   pub apart : IsApart trust commands
+  pub begins : Begins commands
 
 -- ---- cells that are sent
 
--- the cursor is moved to a cell, or not at all
+-- the cursor is moved to a cell, within its row or to another, or not at all
 abbrev pub IsMove : ℕ → Placed → List Command → Type 0
-IsMove y p cs = (cs ≡ []) ⊎ (cs ≡ place p.column y ∷ [])
+IsMove y p cs = (cs ≡ []) ⊎ ((cs ≡ across p.column ∷ []) ⊎ (cs ≡ place p.column y ∷ []))
 
--- its pen is set, or not at all
+-- a pen is set by what it has more than another one
+abbrev pub IsAdded : Pen → List Command → Type 0
+IsAdded pen cs = (from : Pen) × (only_adds from pen ≡ true) × (cs ≡ adds_of from pen)
+
+-- its pen is set, whole or by what is added, or not at all
 abbrev pub IsPaint : Depth → Placed → List Command → Type 0
-IsPaint depth p cs = (cs ≡ []) ⊎ (cs ≡ paints_of (pen_of depth (attributes_of p.cell)))
+IsPaint depth p cs =
+    let pen = pen_of depth (attributes_of p.cell) in (cs ≡ []) ⊎ ((cs ≡ paints_of pen) ⊎ IsAdded pen cs)
 
 -- commands that send one cell, and then those of others
 pub record SendsFirst (depth : Depth) (y : ℕ) (p : Placed) (others : List Command → Type 0) (cs : List Command) : Type 0 where

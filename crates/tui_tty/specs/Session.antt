@@ -2,7 +2,7 @@
 use Rattle.std.specs.Prelude.{◌≡◌, ℕ, Bool, true, false, List, [], ◌∷◌, ◌++◌, All, Some, flat_map}
 use Rattle.tui_tty.specs.Sends.{IsSafe}
 use Rattle.tui_tty.specs.Spelling.{spelling}
-use Rattle.tui_tty.specs.Terminal.{Tty, nothing, Mode, autowrap, visible, held, bracketed, alternate, Command, tame, paint, turn, rest, run}
+use Rattle.tui_tty.specs.Terminal.{Tty, nothing, autowrap, visible, held, bracketed, alternate, Command, tame, paint, turn, rest, run}
 
 -- the alternate screen, its modes, and brackets round what is pasted
 abbrev pub enter_commands : List Command

@@ -2,7 +2,7 @@
 use Rattle.std.specs.Prelude.{ℕ, ◌+◌, Bool, true, false, List, [], ◌∷◌, ◌++◌, codes, decimal, flat_map}
 use Rattle.tui_cells.specs.declared.color.Color.{Color}
 use Rattle.tui_cells.specs.declared.color.Color.TheVariants as colors
-use Rattle.tui_tty.specs.Terminal.{Setting, mark, front, back, Mode, autowrap, visible, held, bracketed, alternate, Command, tame, place, paint, add, print, turn}
+use Rattle.tui_tty.specs.Terminal.{Setting, mark, front, back, Mode, autowrap, visible, held, bracketed, alternate, Command, tame, place, across, paint, add, print, turn}
 
 -- ESC, and the bytes that begin a control sequence
 abbrev pub esc : List ℕ
@@ -88,7 +88,8 @@ switch_text false = codes "l"
 unfoldable pub spelling : Command → List ℕ
 spelling tame = tame_text
 spelling (place x y) = csi ++ (decimal (y + 1) ++ (codes ";" ++ (decimal (x + 1) ++ codes "H")))
+spelling (across x) = csi ++ (decimal (x + 1) ++ codes "G")
 spelling (paint ss) = csi ++ (codes "0" ++ (flat_map next_setting_text ss ++ codes "m"))
-spelling (add s) = csi ++ (setting_text s ++ codes "m")
+spelling (add s ss) = csi ++ (setting_text s ++ (flat_map next_setting_text ss ++ codes "m"))
 spelling (print symbol) = symbol
 spelling (turn mode on) = csi ++ (codes "?" ++ (mode_text mode ++ switch_text on))

@@ -7,7 +7,7 @@ use Rattle.tui_tty.specs.declared.trust.Trust.TheVariants.{Common}
 use Rattle.tui_tty.specs.Pens.{attributes_of, paints_of, pen_of}
 use Rattle.tui_tty.specs.Pieces.{row_pieces}
 use Rattle.tui_tty.specs.Spelling.{spelling}
-use Rattle.tui_tty.specs.Terminal.{Pen, rest, Command, paint, print}
+use Rattle.tui_tty.specs.Terminal.{Pen, rest, Command, print}
 
 -- one pen becomes another: it is set, or is that one
 abbrev pub Becomes : Pen → Pen → List Command → Type 0

@@ -1,7 +1,6 @@
 -- Which symbols a terminal is trusted with, and which are sent.
-use Rattle.std.specs.Prelude.{ℕ, ◌+◌, ◌-◌, ◌*◌, Bool, true, false, not, ◌&&◌, ◌||◌, ◌==◌, nat_le, nat_lt, List, [], ◌∷◌, chars, unwrap_or, if◌then◌else◌}
+use Rattle.std.specs.Prelude.{ℕ, ◌+◌, ◌-◌, ◌*◌, Bool, true, false, not, ◌&&◌, ◌||◌, ◌==◌, nat_le, nat_lt, List, [], ◌∷◌, chars, unwrap_or}
 use Rattle.unicode_width.specs.Width.{char_width}
-use Rattle.tui_cells.specs.Cell.{space}
 use Rattle.tui_text.specs.Visible.{step_of}
 use Rattle.tui_tty.specs.declared.trust.Trust.{Trust}
 use Rattle.tui_tty.specs.declared.trust.Trust.TheVariants.{Common, Ascii}

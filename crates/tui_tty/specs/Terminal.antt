@@ -113,10 +113,12 @@ pub data Command : Type 0 where
   tame : Command
   -- moves the cursor to a column and a row
   place : ℕ → ℕ → Command
+  -- moves it to a column of its row
+  across : ℕ → Command
   -- takes the pen back to rest, and sets it
   paint : List Setting → Command
-  -- sets the pen further
-  add : Setting → Command
+  -- sets the pen further: one setting, and others
+  add : Setting → List Setting → Command
   -- draws one symbol
   print : List ℕ → Command
   -- turns a mode on or off
@@ -187,13 +189,18 @@ turned held on t = record t { held = Some on }
 turned bracketed on t = record t { bracketed = Some on }
 turned alternate on t = switched on t.screen t
 
+-- the cursor in another column of its row
+abbrev pub shifted : ℕ → Tty → Spot → Option Spot
+shifted x t at = if t.tamed && nat_lt x t.columns then Some (record { column = x; row = at.row }) else None
+
 -- a terminal after a command, where nothing was cut short
 abbrev pub step : (List ℕ → Bool) → Command → Tty → Tty
 step knows tame t = record t { cursor = None; pen = None; tamed = true; autowrap = Some false; held = Some false }
 step knows (place x y) t =
     record t { cursor = if t.tamed && (nat_lt x t.columns && nat_lt y t.height) then Some (record { column = x; row = y }) else None }
+step knows (across x) t = record t { cursor = option_map_or (shifted x t) t.cursor None }
 step knows (paint ss) t = record t { pen = Some (pen_after ss rest) }
-step knows (add s) t = record t { pen = option_map_or (λ p. Some (set_to s p)) t.pen None }
+step knows (add s ss) t = record t { pen = option_map_or (λ p. Some (pen_after (s ∷ ss) p)) t.pen None }
 step knows (print symbol) t = printed knows symbol t t.cursor t.pen
 step knows (turn mode on) t = turned mode on t
 

@@ -1,14 +1,13 @@
 -- Between the beginning of the alternate screen and its end the main screen is kept.
-use Rattle.std.proofs.Common.{◌≡◌, ℕ, ◌+◌, Bool, true, false, not, ◌&&◌, List, [], ◌∷◌, ◌++◌, All, cond, refl, sym, ap, subst, ◌∙◌, arith}
+use Rattle.std.proofs.Common.{◌≡◌, ℕ, ◌+◌, Bool, true, false, not, ◌&&◌, List, [], ◌∷◌, ◌++◌, All, cond, refl, sym, ap, subst, ◌∙◌}
 use Rattle.std.specs.Prelude.{nat_le, nat_lt, if◌then◌else◌, Option, None, Some}
 use Rattle.std.proofs.lemmas.Bool.{cond-true}
 use Rattle.std.proofs.lemmas.List.Elements.{All-head, All-tail}
 use Rattle.tui_text.specs.Visible.{step_of}
 use Rattle.tui_tty.specs.Sends.{IsSafe}
 use Rattle.tui_tty.specs.Session.{GivesBack, IsBack, enter_commands, leave_commands}
-use Rattle.tui_tty.specs.Terminal.{Command, Kept, Mode, Pen, Shown, Spot, Tty, after, add, alternate, autowrap, bracketed, drawn, held, kept, lost, nothing, paint, place, print, printed, reach, rest, run, spoilt, step, switched, tame, turn, turned, unsure, visible, with_row}
-use Rattle.tui_tty_laws.proofs.Pen.{steps}
-use Rattle.tui_tty_laws.proofs.Steps.{run_append}
+use Rattle.tui_tty.specs.Terminal.{Command, Kept, Pen, Shown, Spot, Tty, across, after, add, alternate, autowrap, bracketed, drawn, held, kept, lost, nothing, paint, place, print, printed, reach, rest, run, spoilt, step, switched, tame, turn, unsure, visible, with_row}
+use Rattle.tui_tty_laws.proofs.Pen.{run_append, steps}
 
 -- an alternate screen shows, and the main one keeps this
 pub record IsAway (cells : ℕ → ℕ → Shown) (cursor : Option Spot) (t : Tty) : Type 0 where
@@ -39,7 +38,8 @@ step_away : (cells : ℕ → ℕ → Shown) (cursor : Option Spot) (knows : List
 step_away cells cursor knows tame t safe is = record { whole = is.whole; main = is.main }
 step_away cells cursor knows (place x y) t safe is = record { whole = is.whole; main = is.main }
 step_away cells cursor knows (paint ss) t safe is = record { whole = is.whole; main = is.main }
-step_away cells cursor knows (add s) t safe is = record { whole = is.whole; main = is.main }
+step_away cells cursor knows (across x) t safe is = record { whole = is.whole; main = is.main }
+step_away cells cursor knows (add s ss) t safe is = record { whole = is.whole; main = is.main }
 step_away cells cursor knows (print symbol) t safe is = printed_away cells cursor knows symbol t t.cursor t.pen is
 step_away cells cursor knows (turn visible on) t safe is = record { whole = is.whole; main = is.main }
 step_away cells cursor knows (turn held on) t safe is = record { whole = is.whole; main = is.main }

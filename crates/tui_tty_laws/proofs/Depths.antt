@@ -1,18 +1,17 @@
 -- Colours by depth, and how many parameters a sequence has.
-use Rattle.std.proofs.Common.{◌≡◌, ℕ, zero, suc, ◌+◌, ◌-◌, ◌*◌, ◌≤◌, ◌<◌, Bool, true, false, List, [], ◌∷◌, ◌++◌, length, cond, get_or, refl, sym, ap, subst, ◌∙◌, inl, inr, arith}
+use Rattle.std.proofs.Common.{◌≡◌, ℕ, zero, suc, ◌+◌, ◌*◌, ◌≤◌, ◌<◌, Bool, true, false, List, [], ◌∷◌, ◌++◌, length, cond, get_or, refl, sym, subst, ◌∙◌, inl, inr, arith}
 use Rattle.std.specs.Prelude.{nat_le, nat_lt, if◌then◌else◌}
 use native.Mathlib.Nat.{mul-le-mul}
 use Rattle.std.proofs.lemmas.Bool.{cases_Bool, cond-true, cond-false, leb-true, leb-false, lt-ltb, ltb-true, ltb-false, true≢false}
 use Rattle.tui_cells.specs.declared.color.Color.{Color}
 use Rattle.tui_cells.specs.declared.color.Color.TheVariants as colors
-use Rattle.tui_tty.specs.declared.depth.Depth.{Depth}
 use Rattle.tui_tty.specs.declared.depth.Depth.TheVariants as depths
 use Rattle.tui_tty.specs.Colours.{Light, Named, black, color_at, cube_color, cube_light, distance, gap, grays, level, level_at, light_at, named_at, nearer, nearest_in_cube, nearest_in_palette, nearest_named, nearest_of, other_names, palette_color, sixteen_color, square}
-use Rattle.tui_tty.specs.Pens.{IsPen, back_of, color_parameters, front_of, has_name, marks_from, parameters, settings_of}
+use Rattle.tui_tty.specs.Pens.{back_of, color_parameters, front_of, has_name, marks_from, parameters}
 use Rattle.tui_tty.specs.Symbols.{is_common}
-use Rattle.tui_tty.specs.Terminal.{Pen, Setting, back, front, mark}
+use Rattle.tui_tty.specs.Terminal.{Setting, back, front, mark}
 use Rattle.tui_tty_laws.specs.Laws.{DepthsRest, DrawingIsTrusted, FewParameters, NamesStay, NearestInPalette, NearestName, TrueChangesNothing, drawing_symbols}
-use Rattle.tui_tty_laws.proofs.Lists.{Each, Each-all, Each-in, Each-list_all, In, In-from}
+use Rattle.tui_tty_laws.proofs.Lists.{Each, Each-all, Each-list_all, In, In-from}
 
 -- ---- what depths leave
 
@@ -207,13 +206,13 @@ nearest_in_all c =
 
 -- ---- parameters
 
-parameters_append : (xs ys : List Setting) → parameters (xs ++ ys) ≡ parameters xs + parameters ys
+pub parameters_append : (xs ys : List Setting) → parameters (xs ++ ys) ≡ parameters xs + parameters ys
 parameters_append [] ys = omega arith
 parameters_append (mark k ∷ xs) ys = let more = parameters_append xs ys in omega (arith, more)
 parameters_append (front c ∷ xs) ys = let more = parameters_append xs ys in omega (arith, more)
 parameters_append (back c ∷ xs) ys = let more = parameters_append xs ys in omega (arith, more)
 
-mark_few : (b : Bool) (k : ℕ) → parameters (cond b (mark k ∷ []) []) ≤ 1
+pub mark_few : (b : Bool) (k : ℕ) → parameters (cond b (mark k ∷ []) []) ≤ 1
 mark_few true k = omega arith
 mark_few false k = omega arith
 

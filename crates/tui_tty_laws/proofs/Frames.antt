@@ -1,32 +1,32 @@
 -- The rows of a frame are sent.
-use Rattle.std.proofs.Common.{◌≡◌, ℕ, zero, suc, ◌+◌, ◌<◌, ◌≤◌, Bool, true, false, not, ◌&&◌, ◌==◌, List, [], ◌∷◌, ◌++◌, length, cond, get_or, All, refl, sym, ap, subst, ◌∙◌, inl, inr, ◌⊎◌, arith}
-use Rattle.std.specs.Prelude.{nat_lt, if◌then◌else◌, Option, None, Some}
-use Rattle.std.proofs.lemmas.Bool.{and_from, cases_Bool, cond-true, lt-ltb}
+use Rattle.std.proofs.Common.{◌≡◌, ℕ, zero, suc, ◌+◌, ◌<◌, ◌≤◌, Bool, true, false, ◌&&◌, ◌==◌, List, [], ◌∷◌, ◌++◌, length, cond, get_or, refl, sym, ap, subst, ◌∙◌, inl, inr, ◌⊎◌, arith}
+use Rattle.std.specs.Prelude.{nat_lt, Option, None, Some}
+use Rattle.std.proofs.lemmas.Bool.{and_from, cond-true, lt-ltb}
 use Rattle.tui_cells.specs.Buffer.{IsScreen, Screen}
 use Rattle.tui_cells.specs.Cell.{Look}
-use Rattle.tui_cells.specs.declared.color.Color.{Color}
+use Rattle.tui_cells.specs.declared.attributes.Attributes.{Attributes}
 use Rattle.tui_cells.specs.contracts.attributes.AttributesPartialEq as attributes
 use Rattle.tui_text.specs.Visible.{Placed, step_of}
 use Rattle.tui_tty.specs.declared.cursor.Cursor.{Cursor}
 use Rattle.tui_tty.specs.declared.cursor.Cursor.TheVariants.{Keep, Hidden, At as AtPlace}
 use Rattle.tui_tty.specs.declared.depth.Depth.{Depth}
 use Rattle.tui_tty.specs.declared.output.Output.{Output}
-use Rattle.tui_tty.specs.declared.trust.Trust.{Trust}
 use Rattle.tui_tty.specs.Calls.{Keeps}
 use Rattle.tui_tty.specs.Colours.{color_at}
-use Rattle.tui_tty.specs.Pens.{attributes_of, first_pen, has_name, paints_of, pen_of}
+use Rattle.tui_tty.specs.Pens.{adds_of, attributes_of, only_adds, first_pen, has_name, paints_of, pen_of}
 use Rattle.tui_tty.specs.Pieces.{pieces, row_pieces}
-use Rattle.tui_tty.specs.Sends.{IsFrame, IsMove, IsPaint, IsSafe, Sends, SendsFirst, SendsRow, SendsRows, closing, cursor_commands, opening}
-use Rattle.tui_tty.specs.Shows.{HasCursor, HasRoom, IsBeside, IsPlace, KnowsAll, Stands, Trusts}
-use Rattle.tui_tty.specs.Terminal.{Command, Shown, Spot, Tty, add, back, held, paint, place, print, run, turn, visible}
+use Rattle.tui_tty.specs.Sends.{IsAdded, IsFrame, IsMove, IsPaint, IsSafe, Sends, SendsRows, closing, cursor_commands, opening}
+use Rattle.tui_tty.specs.Shows.{HasCursor, HasRoom, IsPlace, KnowsAll, Stands, Trusts}
+use Rattle.tui_tty.specs.Terminal.{Command, Pen, Shown, Spot, Tty, across, held, place, print, run, turn, visible}
 use Rattle.tui_tty_laws.specs.declared.at.At.{At}
 use Rattle.tui_tty_laws.specs.Sent.{row_shown}
-use Rattle.tui_tty_laws.specs.Sending.{frame, moves, next_at, nowhere, paints, send, send_one, send_rows}
+use Rattle.tui_tty_laws.specs.Sending.{frame, moves, next_at, nowhere, paints, repaints, send, send_one, send_rows}
+use Rattle.tui_tty_laws.proofs.Adding.{adds_safe, back_safe}
 use Rattle.tui_tty_laws.proofs.Apart.{send_split}
 use Rattle.tui_tty_laws.proofs.Lists.{Each, Each-append, Each-weaker, In, In-to}
-use Rattle.tui_tty_laws.proofs.Pen.{first_is, steps}
+use Rattle.tui_tty_laws.proofs.Pen.{first_is, run_append, steps}
 use Rattle.tui_tty_laws.proofs.Rows.{AreSent, Knows, all_sent, in_beside, in_fit, nowhere_at}
-use Rattle.tui_tty_laws.proofs.Steps.{Stays, run_append, stays, stays_on}
+use Rattle.tui_tty_laws.proofs.Steps.{Stays, stays, stays_on}
 use Rattle.tui_tty_laws.proofs.Walks.{IsFit}
 
 -- a row shows what its own cells made of it, whatever was sent before and after
@@ -258,13 +258,21 @@ frame_keeps knows o b pss t u is trusts room len within all = record {
 
 -- ---- each cell, its move and its pen before it
 
-is_move : (b : Bool) (y : ℕ) (p : Placed) → IsMove y p (cond b [] (place p.column y ∷ []))
-is_move true y p = inl refl
-is_move false y p = inr refl
+is_move : (b c : Bool) (y : ℕ) (p : Placed) → IsMove y p (cond b [] (cond c (across p.column ∷ []) (place p.column y ∷ [])))
+is_move true c y p = inl refl
+is_move false true y p = inr (inl refl)
+is_move false false y p = inr (inr refl)
 
-is_paint : (b : Bool) (depth : Depth) (p : Placed) → IsPaint depth p (cond b [] (paints_of (pen_of depth (attributes_of p.cell))))
-is_paint true depth p = inl refl
-is_paint false depth p = inr refl
+is_repaint : (b : Bool) (from pen : Pen) → only_adds from pen ≡ b →
+    (cond b (adds_of from pen) (paints_of pen) ≡ paints_of pen) ⊎ IsAdded pen (cond b (adds_of from pen) (paints_of pen))
+is_repaint true from pen adds = inr (from, adds, refl)
+is_repaint false from pen takes = inl refl
+
+is_paint : (b c : Bool) (depth : Depth) (from : Pen) (p : Placed) →
+    IsPaint depth p (cond b [] (cond c (repaints from (pen_of depth (attributes_of p.cell))) (paints_of (pen_of depth (attributes_of p.cell)))))
+is_paint true c depth from p = inl refl
+is_paint false true depth from p = let pen = pen_of depth (attributes_of p.cell) in inr (is_repaint (only_adds from pen) from pen refl)
+is_paint false false depth from p = inr (inl refl)
 
 sends : (o : Output) (y : ℕ) (at : At) (ps : List Placed) → Sends o.depth y ps (send o y at ps)
 unfolding send
@@ -273,8 +281,8 @@ sends o y at (p ∷ ps) = record {
   moves = moves y at p;
   paints = paints o.depth at p;
   more = send o y (next_at o.trust p) ps;
-  is_move = is_move (at.placed && (at.column == p.column)) y p;
-  is_paint = is_paint (at.painted && attributes.TheImpl.ghosts.eq at.pen (attributes_of p.cell)) o.depth p;
+  is_move = is_move (at.placed && (at.column == p.column)) (at.placed && nat_lt at.column p.column) y p;
+  is_paint = is_paint (at.painted && attributes.TheImpl.ghosts.eq at.pen (attributes_of p.cell)) at.painted o.depth (pen_of o.depth at.pen) p;
   sends_more = sends o y (next_at o.trust p) ps;
   whole = send_split o.depth y at p (send o y (next_at o.trust p) ps);
 }
@@ -295,21 +303,28 @@ is_frame o y pss = record { rows = send_rows o y pss; sends = sends_rows o y pss
 
 -- ---- no control character is sent
 
-move_safe : (b : Bool) (x y : ℕ) → Each IsSafe (cond b [] (place x y ∷ []))
-move_safe true x y = tt
-move_safe false x y = (tt, tt)
+move_safe : (b c : Bool) (x y : ℕ) → Each IsSafe (cond b [] (cond c (across x ∷ []) (place x y ∷ [])))
+move_safe true c x y = tt
+move_safe false true x y = (tt, tt)
+move_safe false false x y = (tt, tt)
 
-back_safe : (b : Bool) (c : Color) → Each IsSafe (cond b [] (add (back c) ∷ []))
-back_safe true c = tt
-back_safe false c = (tt, tt)
-
-paint_safe : (b : Bool) (depth : Depth) (p : Placed) → Each IsSafe (cond b [] (paints_of (pen_of depth (attributes_of p.cell))))
-paint_safe true depth p = tt
-paint_safe false depth p =
-    let a = attributes_of p.cell in
+whole_safe : (depth : Depth) (a : Attributes) → Each IsSafe (paints_of (pen_of depth a))
+whole_safe depth a =
     let f = color_at depth a.fg in
     let b = color_at depth a.bg in
     ((first_pen (pen_of depth a), (first_is f b a.modifier.bits, refl)), back_safe (has_name b) b)
+
+either_safe : (b : Bool) (xs ys : List Command) → Each IsSafe xs → Each IsSafe ys → Each IsSafe (cond b xs ys)
+either_safe true xs ys a b = a
+either_safe false xs ys a b = b
+
+paint_safe : (b c : Bool) (depth : Depth) (from a : Attributes) →
+    Each IsSafe (cond b [] (cond c (repaints (pen_of depth from) (pen_of depth a)) (paints_of (pen_of depth a))))
+paint_safe b c depth from a =
+    let whole = whole_safe depth a in
+    let added = adds_safe (color_at depth from.fg) (color_at depth from.bg) (color_at depth a.fg) (color_at depth a.bg) from.modifier.bits a.modifier.bits in
+    either_safe b [] _ tt (either_safe c _ (paints_of (pen_of depth a))
+    (either_safe (only_adds (pen_of depth from) (pen_of depth a)) (adds_of (pen_of depth from) (pen_of depth a)) (paints_of (pen_of depth a)) added whole) whole)
 
 send_safe : (o : Output) (y : ℕ) (at : At) (ps : List Placed) → Each (λ p. IsSafe (print p.cell.symbol)) ps → Each IsSafe (send o y at ps)
 unfolding send
@@ -317,8 +332,8 @@ send_safe o y at [] quiet = tt
 send_safe o y at (p ∷ ps) quiet =
     let a = attributes_of p.cell in
     Each-append IsSafe (send_one o.depth y at p) _
-    (Each-append IsSafe (moves y at p) _ (move_safe (at.placed && (at.column == p.column)) p.column y)
-    (Each-append IsSafe (paints o.depth at p) _ (paint_safe (at.painted && attributes.TheImpl.ghosts.eq at.pen a) o.depth p)
+    (Each-append IsSafe (moves y at p) _ (move_safe (at.placed && (at.column == p.column)) (at.placed && nat_lt at.column p.column) p.column y)
+    (Each-append IsSafe (paints o.depth at p) _ (paint_safe (at.painted && attributes.TheImpl.ghosts.eq at.pen a) at.painted o.depth at.pen a)
     (quiet.0, tt)))
     (send_safe o y (next_at o.trust p) ps quiet.1)
 

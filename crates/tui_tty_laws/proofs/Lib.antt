@@ -1,14 +1,15 @@
-pub mod Equality
 pub mod Lists
 pub mod Seen
 pub mod Walks
 pub mod Pen
+pub mod Depths
+pub mod Adding
 pub mod Steps
+pub mod Mending
 pub mod Rows
 pub mod Apart
 pub mod Frames
 pub mod Screens
 pub mod Unchanged
 pub mod Between
-pub mod Depths
 pub mod Plain

@@ -1,13 +1,11 @@
 -- The commands of a pen set it, whatever it was.
-use Rattle.std.proofs.Common.{◌≡◌, ℕ, Bool, true, false, List, [], ◌∷◌, ◌++◌, length, refl, sym, ap, ◌∙◌, inl, inr}
-use Rattle.std.specs.Prelude.{if◌then◌else◌, Option, Some}
+use Rattle.std.proofs.Common.{◌≡◌, ℕ, Bool, true, false, List, [], ◌∷◌, ◌++◌, refl, ap, ◌∙◌, inl, inr}
+use Rattle.std.specs.Prelude.{if◌then◌else◌, Some}
 use Rattle.std.proofs.lemmas.Bool.{cases_Bool, cond-true, cond-false}
-use Rattle.tui_cells.specs.declared.attributes.Attributes.{Attributes}
 use Rattle.tui_cells.specs.declared.color.Color.{Color}
 use Rattle.tui_cells.specs.declared.color.Color.TheVariants.{Reset}
-use Rattle.tui_tty.specs.declared.depth.Depth.{Depth}
-use Rattle.tui_tty.specs.Pens.{IsPen, back_of, first_pen, front_of, has, has_name, marks_from, marks_of, paints_of, pen_of, settings_of, then_back}
-use Rattle.tui_tty.specs.Terminal.{Command, Pen, Setting, Tty, add, after, back, mark, mended, paint, pen_after, rest, run, set_to, step}
+use Rattle.tui_tty.specs.Pens.{IsPen, back_of, first_pen, front_of, has, has_name, marks_from, marks_of, paints_of, settings_of, then_back}
+use Rattle.tui_tty.specs.Terminal.{Command, Pen, Setting, Tty, add, after, back, mark, mended, paint, pen_after, rest, run, step}
 
 after_append : (xs ys : List Setting) (p : Pen) → pen_after (xs ++ ys) p ≡ pen_after ys (pen_after xs p)
 after_append [] ys p = refl
@@ -66,7 +64,7 @@ one8 a b c d e f g h true = refl
 one8 a b c d e f g h false = refl
 
 -- a setting more, behind which others follow
-then_more : (xs ys : List Setting) (p q r : Pen) → pen_after xs p ≡ q → pen_after ys q ≡ r → pen_after (xs ++ ys) p ≡ r
+pub then_more : (xs ys : List Setting) (p q r : Pen) → pen_after xs p ≡ q → pen_after ys q ≡ r → pen_after (xs ++ ys) p ≡ r
 then_more xs ys p q r e f = after_append xs ys p ∙ (ap (pen_after ys) e ∙ f)
 
 all_marks : (a b c d e f g h k : Bool) → pen_after (marks_from 0 (a ∷ b ∷ c ∷ d ∷ e ∷ f ∷ g ∷ h ∷ k ∷ [])) rest ≡ plain (a ∷ b ∷ c ∷ d ∷ e ∷ f ∷ g ∷ h ∷ k ∷ [])
@@ -97,6 +95,11 @@ settings_give f b m =
 abbrev pub with_pen : Pen → Tty → Tty
 with_pen pen t = record t { pen = Some pen }
 
+-- commands, and those behind them
+pub run_append : (knows : List ℕ → Bool) (xs ys : List Command) (t : Tty) → run knows (xs ++ ys) t ≡ run knows ys (run knows xs t)
+run_append knows [] ys t = refl
+run_append knows (x ∷ xs) ys t = run_append knows xs ys _
+
 -- a command where nothing was cut short
 pub steps : (knows : List ℕ → Bool) (c : Command) (t : Tty) → t.whole ≡ true → after knows c t ≡ step knows c t
 steps knows c t whole = cond-true t.whole (step knows c t) (mended knows c t) whole
@@ -107,11 +110,11 @@ back_sets knows f b m t whole =
     let start : Tty = with_pen (first_pen (pen_from f b m)) t in
     elim (cases_Bool (has_name b)) [
       | inl named ↦
-          ap (λ (cs : List Command). run knows cs start) (cond-true (has_name b) [] (add (back b) ∷ []) named)
+          ap (λ (cs : List Command). run knows cs start) (cond-true (has_name b) [] (add (back b) [] ∷ []) named)
           ∙ (λ i. with_pen (pen_from f (cond-true (has_name b) b Reset named i) m) t)
       | inr other ↦
-          ap (λ (cs : List Command). run knows cs start) (cond-false (has_name b) [] (add (back b) ∷ []) other)
-          ∙ steps knows (add (back b)) start whole
+          ap (λ (cs : List Command). run knows cs start) (cond-false (has_name b) [] (add (back b) [] ∷ []) other)
+          ∙ steps knows (add (back b) []) start whole
     ]
 
 pub pen_set : (knows : List ℕ → Bool) (f b : Color) (m : ℕ) (t : Tty) → t.whole ≡ true → run knows (paints_of (pen_from f b m)) t ≡ with_pen (pen_from f b m) t

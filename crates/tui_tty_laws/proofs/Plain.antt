@@ -14,15 +14,14 @@ use Rattle.tui_tty.specs.Spelling.{spelling}
 use Rattle.tui_tty.specs.Styled.{Becomes, StyledRow}
 use Rattle.tui_tty.specs.Terminal.{Command, Pen, Spot, Tty, add, after, back, drawn, lost, print, printed, reach, rest, run, spoilt, with_row}
 use Rattle.tui_tty_laws.specs.Plain.{Inked, StyledRowsArePlain, drawn_by, inked, without_paints}
-use Rattle.tui_tty_laws.proofs.Pen.{pen_from, pen_set, steps, with_pen}
-use Rattle.tui_tty_laws.proofs.Steps.{run_append}
+use Rattle.tui_tty_laws.proofs.Pen.{pen_from, pen_set, run_append, steps, with_pen}
 
 -- ---- the text
 
 no_back : (c : Color) (more : List Command) → without_paints (then_back c ++ more) ≡ without_paints more
 no_back c more = elim (cases_Bool (has_name c)) [
-  | inl named ↦ ap (λ (cs : List Command). without_paints (cs ++ more)) (cond-true (has_name c) [] (add (back c) ∷ []) named)
-  | inr other ↦ ap (λ (cs : List Command). without_paints (cs ++ more)) (cond-false (has_name c) [] (add (back c) ∷ []) other)
+  | inl named ↦ ap (λ (cs : List Command). without_paints (cs ++ more)) (cond-true (has_name c) [] (add (back c) [] ∷ []) named)
+  | inr other ↦ ap (λ (cs : List Command). without_paints (cs ++ more)) (cond-false (has_name c) [] (add (back c) [] ∷ []) other)
 ]
 
 no_paints : (pen next : Pen) (cs more : List Command) → Becomes pen next cs → without_paints (cs ++ more) ≡ without_paints more
@@ -78,10 +77,10 @@ back_draws_none : (knows : List ℕ → Bool) (c : Color) (more : List Command) 
     drawn_by knows (then_back c ++ more) t ≡ drawn_by knows more (run knows (then_back c) t)
 back_draws_none knows c more t = elim (cases_Bool (has_name c)) [
   | inl named ↦
-      let e = cond-true (has_name c) [] (add (back c) ∷ []) named in
+      let e = cond-true (has_name c) [] (add (back c) [] ∷ []) named in
       ap (λ (cs : List Command). drawn_by knows (cs ++ more) t) e ∙ sym (ap (λ (cs : List Command). drawn_by knows more (run knows cs t)) e)
   | inr other ↦
-      let e = cond-false (has_name c) [] (add (back c) ∷ []) other in
+      let e = cond-false (has_name c) [] (add (back c) [] ∷ []) other in
       ap (λ (cs : List Command). drawn_by knows (cs ++ more) t) e ∙ sym (ap (λ (cs : List Command). drawn_by knows more (run knows cs t)) e)
 ]
 

@@ -1,14 +1,14 @@
 -- The cells of one row are sent.
 use Rattle.std.proofs.Common.{◌≡◌, ℕ, ◌+◌, ◌<◌, ◌≤◌, Bool, true, false, not, ◌&&◌, List, [], ◌∷◌, ◌++◌, length, refl, sym, ap, subst, ◌∙◌, inl, inr, ◌⊎◌, Contains, arith}
-use Rattle.std.specs.Prelude.{Option, None, Some}
+use Rattle.std.specs.Prelude.{Option, None}
 use Rattle.std.proofs.lemmas.Bool.{and_from, and_parts, cases_Bool, cond-true, cond-false, not-true, true≢false}
 use Rattle.tui_text.specs.Visible.{Placed, step_of}
 use Rattle.tui_cells.specs.Cell.{Look}
 use Rattle.tui_text.proofs.ShownCells.{some_step}
 use Rattle.tui_tty.specs.declared.output.Output.{Output}
 use Rattle.tui_tty.specs.declared.trust.Trust.{Trust}
-use Rattle.tui_tty.specs.Pieces.{pieces, shown_row, uncovered}
-use Rattle.tui_tty.specs.Sends.{AreAll, AreOnce, AreSent as IsSentOf, IsCalm, IsNew}
+use Rattle.tui_tty.specs.Pieces.{pieces}
+use Rattle.tui_tty.specs.Sends.{AreAll, AreOnce, AreSent as IsSentOf, IsNew}
 use Rattle.tui_tty.specs.Shows.{KnowsAll, ShowsRow, Stands, Trusts}
 use Rattle.tui_tty.specs.Symbols.{is_trusted}
 use Rattle.tui_tty.specs.Terminal.{Shown, Tty, run}
@@ -17,7 +17,8 @@ use Rattle.tui_tty_laws.specs.declared.wanted.Wanted.TheVariants.{Changed, Risky
 use Rattle.tui_tty_laws.specs.Sent.{anew, changes, is_calm, row_sent, row_shown, sent}
 use Rattle.tui_tty_laws.specs.Sending.{at_after, next_at, nowhere, send, send_one}
 use Rattle.tui_tty_laws.proofs.Lists.{Each, Each-append, Each-in, Each-list_all, Each-of, Each-weaker, In, In-from, In-left, In-right, In-to, list_all-Each}
-use Rattle.tui_tty_laws.proofs.Steps.{IsAt, IsSent, Stays, drawn_keeps, drawn_stands, run_append, sent_one, stays, stays_on, symbol_sent}
+use Rattle.tui_tty_laws.proofs.Pen.{run_append}
+use Rattle.tui_tty_laws.proofs.Steps.{IsAt, IsSent, Stays, drawn_keeps, drawn_stands, sent_one, stays, stays_on, symbol_sent}
 use Rattle.tui_tty_laws.proofs.Walks.{Apart, IsFit, IsWanted, apart, changed_or_shown, is_fresh, once_append, one_column, pieces_after, pieces_fit, pieces_in_order, sent_always, sent_once, sent_wanted}
 
 -- two cells are one, or share no column

@@ -1,6 +1,6 @@
 -- The rows of a screen are sent.
-use Rattle.std.proofs.Common.{◌≡◌, ℕ, zero, suc, ◌+◌, ◌<◌, ◌≤◌, Bool, true, false, List, [], ◌∷◌, length, map, All, get_or, flat_map, refl, sym, ap, subst, ◌∙◌, inl, inr, ◌⊎◌, arith}
-use Rattle.std.specs.Prelude.{Option, None, Some}
+use Rattle.std.proofs.Common.{◌≡◌, ℕ, zero, suc, ◌+◌, ◌<◌, ◌≤◌, Bool, true, false, List, [], ◌∷◌, length, map, All, get_or, flat_map, refl, sym, ap, subst, ◌∙◌, inl, inr, arith}
+use Rattle.std.specs.Prelude.{Some}
 use Rattle.std.proofs.lemmas.Bool.{cases_Bool, cond-false, true≢false}
 use Rattle.std.proofs.lemmas.List.Elements.{All-head, All-tail}
 use Rattle.tui_cells.specs.Buffer.{IsScreen, Screen}
@@ -9,18 +9,19 @@ use Rattle.tui_cells.specs.declared.rect.Rect.{Rect}
 use Rattle.tui_text.specs.Visible.{Placed}
 use Rattle.tui_tty.specs.declared.output.Output.{Output}
 use Rattle.tui_tty.specs.declared.trust.Trust.{Trust}
-use Rattle.tui_tty.specs.Calls.{IsChange, IsFull, Keeps}
+use Rattle.tui_tty.specs.Calls.{IsChange, IsFull, Keeps, mending}
 use Rattle.tui_tty.specs.Pieces.{Cover, next_cover, pieces, row_pieces, shown_row, uncovered}
 use Rattle.tui_tty.specs.Sends.{AreAll, AreSent, IsSafe}
 use Rattle.tui_tty.specs.Shows.{HasRoom, IsPlace, Shows, ShowsRow, Stands, Trusts}
 use Rattle.tui_tty.specs.Spelling.{spelling}
-use Rattle.tui_tty.specs.Terminal.{Command, Shown, Tty, after, dark, mended, run, step, tame}
-use Rattle.tui_tty_laws.specs.Sent.{anew, row_sent, row_shown}
+use Rattle.tui_tty.specs.Terminal.{Shown, Tty, after, mended as was_cut, run, step, tame}
+use Rattle.tui_tty_laws.specs.Sent.{row_sent, row_shown}
 use Rattle.tui_tty_laws.specs.Sending.{change, frame, full, nowhere, row_anew, row_changes, rows_sent, send}
-use Rattle.tui_tty_laws.proofs.Apart.{change_falling, frame_apart, full_falling}
+use Rattle.tui_tty_laws.proofs.Apart.{apart_append, change_falling, frame_apart, frame_begins, full_falling}
 use Rattle.tui_tty_laws.proofs.Frames.{FrameRun, frame_keeps, frame_run, frame_safe, is_frame, on_terminal}
-use Rattle.tui_tty_laws.proofs.Lists.{Each, Each-all, In}
-use Rattle.tui_tty_laws.proofs.Pen.{steps}
+use Rattle.tui_tty_laws.proofs.Lists.{Each, Each-all, Each-append, In}
+use Rattle.tui_tty_laws.proofs.Mending.{mend_safe, mended}
+use Rattle.tui_tty_laws.proofs.Pen.{run_append, steps}
 use Rattle.tui_tty_laws.proofs.Rows.{anew_all, anew_in, anew_shows, in_fit, row_are_sent, row_in, row_shows}
 use Rattle.tui_tty_laws.proofs.Walks.{IsFit}
 
@@ -96,9 +97,9 @@ is_tamed knows t = elim (cases_Bool t.whole) [
       let done : IsTamed t (step knows tame t) = record { tamed = refl; whole = whole; columns = refl; height = refl; free = refl; cells = λ is. refl } in
       subst (IsTamed t) (sym (steps knows tame t whole)) done
   | inr off ↦
-      let done : IsTamed t (mended knows tame t) =
+      let done : IsTamed t (was_cut knows tame t) =
       record { tamed = refl; whole = refl; columns = refl; height = refl; free = refl; cells = λ is. absurd (true≢false (sym is ∙ off)) } in
-      subst (IsTamed t) (sym (cond-false t.whole (step knows tame t) (mended knows tame t) off)) done
+      subst (IsTamed t) (sym (cond-false t.whole (step knows tame t) (was_cut knows tame t) off)) done
 ]
 
 room_still : (b : Screen) (t u : Tty) → u.columns ≡ t.columns → u.height ≡ t.height → HasRoom t b → HasRoom u b
@@ -107,12 +108,43 @@ room_still b t u columns height room = record {
   high = subst (λ k. b.area.y + b.area.height ≤ k) (sym height) room.high;
 }
 
-kept_from : (knows : List ℕ → Bool) (o : Output) (b : Screen) (v t u : Tty) → v.cells ≡ t.cells → Keeps o knows b v u → Keeps o knows b t u
-kept_from knows o b v t u same kept = record {
-  outside = λ r away. kept.outside r away ∙ ap (λ (c : ℕ → ℕ → Shown). c r) same;
-  beside = λ y lt every p away stood.
-      kept.beside y lt every p away (subst (λ (c : ℕ → ℕ → Shown). Stands o.depth (c (b.area.y + y)) p) (sym same) stood);
+kept_from : (knows : List ℕ → Bool) (o : Output) (b : Screen) (t v : Tty) → v.cells ≡ t.cells → Keeps o knows b t v
+kept_from knows o b t v same = record {
+  outside = λ r away. ap (λ (c : ℕ → ℕ → Shown). c r) same;
+  beside = λ y lt every p away stood. subst (λ (c : ℕ → ℕ → Shown). Stands o.depth (c (b.area.y + y)) p) (sym same) stood;
 }
+
+kept_on : (knows : List ℕ → Bool) (o : Output) (b : Screen) (t v u : Tty) → Keeps o knows b t v → Keeps o knows b v u → Keeps o knows b t u
+kept_on knows o b t v u first then_more = record {
+  outside = λ r away. then_more.outside r away ∙ first.outside r away;
+  beside = λ y lt every p away stood. then_more.beside y lt every p away (first.beside y lt every p away stood);
+}
+
+-- the terminal before the frame, and what it is
+abbrev begun : (List ℕ → Bool) → Output → Screen → Tty → Tty
+begun knows o b t = run knows (mending o.trust b.area) (after knows tame t)
+
+record IsReadyFor (knows : List ℕ → Bool) (o : Output) (b : Screen) (t u : Tty) : Type 0 where
+  pub tamed : u.tamed ≡ true
+  pub whole : u.whole ≡ true
+  pub room : HasRoom u b
+  pub free : u.held ≡ Some false
+  pub keeps : t.whole ≡ true → Keeps o knows b t u
+
+made_ready : (knows : List ℕ → Bool) (o : Output) (b : Screen) (t : Tty) → Trusts o.trust knows → HasRoom t b → IsReadyFor knows o b t (begun knows o b t)
+made_ready knows o b t trusts room =
+    let v : Tty = after knows tame t in
+    let u : Tty = begun knows o b t in
+    let tamed = is_tamed knows t in
+    let room_v : HasRoom v b = room_still b t v tamed.columns tamed.height room in
+    let mend = mended knows o b v trusts room_v tamed.whole tamed.tamed in
+    record {
+      tamed = mend.same.tamed ∙ tamed.tamed;
+      whole = mend.same.whole ∙ tamed.whole;
+      room = room_still b v u mend.same.columns mend.same.height room_v;
+      free = mend.same.held ∙ tamed.free;
+      keeps = λ whole. kept_on knows o b t v u (kept_from knows o b t v (tamed.cells whole)) mend.keeps;
+    }
 
 pub full_law : (o : Output) (b : Screen) → IsScreen b → IsPlace o.cursor b → IsFull o b (flat_map spelling (full o b))
 full_law o b is place_is =
@@ -120,23 +152,32 @@ full_law o b is place_is =
     let pss = map (row_anew o.trust left) b.rows in
     let len = length_map o.trust left b.rows in
     let cs = frame o b.area.y pss in
-    let runs : (knows : List ℕ → Bool) (t : Tty) → Trusts o.trust knows → HasRoom t b → FrameRun knows o pss b.area.y (after knows tame t) (run knows (full o b) t) = λ knows t trusts room.
-    let v : Tty = after knows tame t in
-    let tamed = is_tamed knows t in
-    let room_v : HasRoom v b = room_still b t v tamed.columns tamed.height room in
-    let high : b.area.y + length pss ≤ v.height = omega (arith, room_v.high, is.high, len) in
-    frame_run knows o pss b.area.y v trusts tamed.whole tamed.tamed high (rows_fit o.trust left b.area.width v.columns b.rows room_v.wide is.wide) (on_terminal o.cursor b v place_is room_v) in
+    let ready : (knows : List ℕ → Bool) (t : Tty) → Trusts o.trust knows → HasRoom t b → IsReadyFor knows o b t (begun knows o b t) = λ knows t trusts room.
+    made_ready knows o b t trusts room in
+    let runs : (knows : List ℕ → Bool) (t : Tty) → Trusts o.trust knows → HasRoom t b → FrameRun knows o pss b.area.y (begun knows o b t) (run knows (full o b) t) = λ knows t trusts room.
+    let v : Tty = begun knows o b t in
+    let tamed = ready knows t trusts room in
+    let high : b.area.y + length pss ≤ v.height = omega (arith, tamed.room.high, is.high, len) in
+    subst (FrameRun knows o pss b.area.y v) (sym (run_append knows (mending o.trust b.area) cs (after knows tame t)))
+    (frame_run knows o pss b.area.y v trusts tamed.whole tamed.tamed high (rows_fit o.trust left b.area.width v.columns b.rows tamed.room.wide is.wide)
+    (on_terminal o.cursor b v place_is tamed.room)) in
+    let mend = mend_safe o.trust o b in
     record {
       commands = full o b;
       spelled = record {
         spelled = refl;
-        safe = Each-all IsSafe (full o b) (tt, frame_safe o b.area.y (left + b.area.width) pss (rows_fit o.trust left b.area.width (left + b.area.width) b.rows (omega arith) is.wide));
-        apart = (tt, frame_apart o b.area.y pss (full_falling o.trust left b.rows));
+        safe = Each-all IsSafe (full o b) (
+          tt,
+          Each-append IsSafe (mending o.trust b.area) cs mend.0
+              (frame_safe o b.area.y (left + b.area.width) pss (rows_fit o.trust left b.area.width (left + b.area.width) b.rows (omega arith) is.wide)),
+        );
+        apart = (tt, apart_append o.trust (mending o.trust b.area) cs mend.1 (frame_apart o b.area.y pss (full_falling o.trust left b.rows)) (frame_begins o b.area.y pss));
+        begins = tt;
       };
       shows = λ knows t trusts room.
-          let v : Tty = after knows tame t in
-          let tamed = is_tamed knows t in
-          let room_v : HasRoom v b = room_still b t v tamed.columns tamed.height room in
+          let v : Tty = begun knows o b t in
+          let tamed = ready knows t trusts room in
+          let room_v = tamed.room in
           let all = runs knows t trusts room in
           record {
             ready = record { tamed = all.tamed; whole = all.whole; not_held = all.freed tamed.free };
@@ -155,13 +196,12 @@ full_law o b is place_is =
           };
       cursor = λ knows t trusts room. (runs knows t trusts room).at_cursor;
       keeps = λ knows t trusts room whole.
-          let v : Tty = after knows tame t in
-          let tamed = is_tamed knows t in
-          let room_v : HasRoom v b = room_still b t v tamed.columns tamed.height room in
+          let v : Tty = begun knows o b t in
+          let tamed = ready knows t trusts room in
           let within : (y : ℕ) → y < length b.rows → Each (λ p. In p (row_pieces o.trust b y)) (get_or pss y []) = λ y lt.
           subst (Each (λ p. In p (row_pieces o.trust b y))) (sym (get_map o.trust left b.rows y lt)) (anew_in o.trust left (row_shown o.trust (get_or b.rows y []))) in
-          let kept = frame_keeps knows o b pss v (run knows (full o b) t) is trusts room_v len within (runs knows t trusts room) in
-          kept_from knows o b v t (run knows (full o b) t) (tamed.cells whole) kept;
+          let kept = frame_keeps knows o b pss v (run knows (full o b) t) is trusts tamed.room len within (runs knows t trusts room) in
+          kept_on knows o b t v (run knows (full o b) t) (tamed.keeps whole) kept;
       sent = pss;
       counted = len;
       frame = cs;
@@ -202,6 +242,7 @@ change_law o old new was is area place_is =
         safe = Each-all IsSafe (change o old new)
             (frame_safe o new.area.y (left + new.area.width) pss (sent_fit o.trust left new.area.width (left + new.area.width) old.rows new.rows (omega arith) is.wide));
         apart = frame_apart o new.area.y pss (change_falling o.trust left old.rows new.rows);
+        begins = frame_begins o new.area.y pss;
       };
       shows = λ knows t trusts shown.
           let all = runs knows t trusts shown in

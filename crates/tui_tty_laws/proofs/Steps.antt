@@ -1,27 +1,25 @@
 -- One cell is sent.
 use Rattle.std.proofs.Common.{◌≡◌, ℕ, ◌+◌, ◌-◌, ◌<◌, ◌≤◌, Bool, true, false, not, ◌&&◌, ◌==◌, List, [], ◌∷◌, ◌++◌, refl, sym, ap, subst, ◌∙◌, inl, inr, ◌⊎◌, Option, Some, None, arith}
+use Rattle.std.specs.Option.{option_map_or}
 use Rattle.std.specs.Prelude.{nat_lt, nat_le, if◌then◌else◌}
-use Rattle.std.proofs.lemmas.Bool.{and_parts, and_from, and_left, and_right, cases_Bool, cond-true, cond-false, eqb-true, lt-ltb, le-ltb, le-leb, lt-leb, true≢false}
+use Rattle.std.proofs.lemmas.Bool.{and_parts, and_from, and_left, and_right, cases_Bool, cond-true, cond-false, eqb-true, lt-ltb, ltb-true, le-ltb, le-leb, lt-leb, true≢false}
 use Rattle.std.proofs.lemmas.Bool.Decides.{nat_tests}
 use Rattle.tui_cells.specs.Same.{same_attributes}
 use Rattle.tui_cells.specs.contracts.attributes.AttributesPartialEq as attributes
+use Rattle.tui_cells.specs.declared.attributes.Attributes.{Attributes}
 use Rattle.tui_text.specs.Visible.{Placed, step_of}
 use Rattle.tui_tty.specs.declared.depth.Depth.{Depth}
 use Rattle.tui_tty.specs.declared.output.Output.{Output}
-use Rattle.tui_tty.specs.declared.trust.Trust.{Trust}
 use Rattle.tui_tty.specs.Colours.{color_at}
-use Rattle.tui_tty.specs.Pens.{attributes_of, paints_of, pen_of}
+use Rattle.tui_tty.specs.Pens.{adds_of, attributes_of, only_adds, paints_of, pen_of}
 use Rattle.tui_tty.specs.Symbols.{is_trusted}
 use Rattle.tui_tty.specs.Shows.{Stands, Trusts}
-use Rattle.tui_tty.specs.Terminal.{Command, place, paint, print, Pen, Shown, part, unknown, Spot, Tty, after, cut, drawn, lost, printed, reach, run, spoilt, step, with_row}
+use Rattle.tui_tty.specs.Terminal.{Command, place, across, print, Shown, part, unknown, Spot, Tty, after, cut, drawn, lost, reach, run, shifted, spoilt, with_row}
 use Rattle.tui_tty_laws.specs.declared.at.At.{At}
-use Rattle.tui_tty_laws.specs.Sending.{moves, next_at, paints, send_one}
-use Rattle.tui_tty_laws.proofs.Pen.{pen_set, steps, with_pen}
+use Rattle.tui_tty_laws.specs.Sending.{moves, moves_on, next_at, paints, repaints, send_one}
+use Rattle.tui_tty_laws.proofs.Adding.{pen_added}
+use Rattle.tui_tty_laws.proofs.Pen.{pen_set, run_append, steps, with_pen}
 use Rattle.tui_tty_laws.proofs.Walks.{Apart, IsFit}
-
-pub run_append : (knows : List ℕ → Bool) (xs ys : List Command) (t : Tty) → run knows (xs ++ ys) t ≡ run knows ys (run knows xs t)
-run_append knows [] ys t = refl
-run_append knows (x ∷ xs) ys t = run_append knows xs ys _
 
 -- what is known of the terminal is so
 pub record IsAt (depth : Depth) (y : ℕ) (at : At) (t : Tty) : Type 0 where
@@ -30,8 +28,29 @@ pub record IsAt (depth : Depth) (y : ℕ) (at : At) (t : Tty) : Type 0 where
 
 -- ---- the commands before the symbol
 
-abbrev at_spot : ℕ → ℕ → Tty → Tty
+abbrev pub at_spot : ℕ → ℕ → Tty → Tty
 at_spot x y t = record t { cursor = Some (record { column = x; row = y }) }
+
+moved_on : (knows : List ℕ → Bool) (depth : Depth) (y : ℕ) (at : At) (p : Placed) (t : Tty) → t.whole ≡ true → t.tamed ≡ true → p.column < t.columns → y < t.height →
+    IsAt depth y at t → run knows (moves_on y at p.column) t ≡ at_spot p.column y t
+moved_on knows depth y at p t whole tamed wide high is = elim (cases_Bool (at.placed && nat_lt at.column p.column)) [
+  | inl before ↦
+      let h = and_parts at.placed (nat_lt at.column p.column) before in
+      let lt : at.column < p.column = ltb-true at.column p.column h.1 in
+      let low : at.column < t.columns = omega arith in
+      let stands : t.cursor ≡ Some (record { column = at.column; row = y }) = is.placed_at h.0 low in
+      let on : (t.tamed && nat_lt p.column t.columns) ≡ true = and_from t.tamed _ tamed (lt-ltb p.column t.columns wide) in
+      ap (λ (cs : List Command). run knows cs t) (cond-true _ (across p.column ∷ []) (place p.column y ∷ []) before)
+      ∙ (steps knows (across p.column) t whole
+      ∙ ((λ i. record t { cursor = option_map_or (shifted p.column t) (stands i) None })
+      ∙ ap (λ (c : Option Spot). record t { cursor = c }) (cond-true _ (Some (record { column = p.column; row = y })) None on)))
+  | inr other ↦
+      let on : (t.tamed && (nat_lt p.column t.columns && nat_lt y t.height)) ≡ true =
+      and_from t.tamed _ tamed (and_from (nat_lt p.column t.columns) (nat_lt y t.height) (lt-ltb p.column t.columns wide) (lt-ltb y t.height high)) in
+      ap (λ (cs : List Command). run knows cs t) (cond-false _ (across p.column ∷ []) (place p.column y ∷ []) other)
+      ∙ steps knows (place p.column y) t whole
+      ∙ ap (λ (c : Option Spot). record t { cursor = c }) (cond-true _ (Some (record { column = p.column; row = y })) None on)
+]
 
 moved : (knows : List ℕ → Bool) (depth : Depth) (y : ℕ) (at : At) (p : Placed) (t : Tty) → t.whole ≡ true → t.tamed ≡ true → p.column < t.columns → y < t.height →
     IsAt depth y at t → run knows (moves y at p) t ≡ at_spot p.column y t
@@ -41,31 +60,51 @@ moved knows depth y at p t whole tamed wide high is = elim (cases_Bool (at.place
       let same : at.column ≡ p.column = eqb-true at.column p.column h.1 in
       let low : at.column < t.columns = omega arith in
       let stands : t.cursor ≡ Some (record { column = p.column; row = y }) = is.placed_at h.0 low ∙ ap (λ k. Some (record { column = k; row = y })) same in
-      ap (λ (cs : List Command). run knows cs t) (cond-true _ [] (place p.column y ∷ []) here) ∙ (λ i. record t { cursor = stands i })
-  | inr away ↦
-      let on : (t.tamed && (nat_lt p.column t.columns && nat_lt y t.height)) ≡ true =
-      and_from t.tamed _ tamed (and_from (nat_lt p.column t.columns) (nat_lt y t.height) (lt-ltb p.column t.columns wide) (lt-ltb y t.height high)) in
-      ap (λ (cs : List Command). run knows cs t) (cond-false _ [] (place p.column y ∷ []) away)
-      ∙ steps knows (place p.column y) t whole
-      ∙ ap (λ (c : Option Spot). record t { cursor = c }) (cond-true _ (Some (record { column = p.column; row = y })) None on)
+      ap (λ (cs : List Command). run knows cs t) (cond-true _ [] (moves_on y at p.column) here) ∙ (λ i. record t { cursor = stands i })
+  | inr away ↦ ap (λ (cs : List Command). run knows cs t) (cond-false _ [] (moves_on y at p.column) away) ∙ moved_on knows depth y at p t whole tamed wide high is
 ]
+
+-- a pen that is known becomes another one
+repainted : (knows : List ℕ → Bool) (depth : Depth) (from a : Attributes) (t : Tty) → t.whole ≡ true → t.pen ≡ Some (pen_of depth from) →
+    run knows (repaints (pen_of depth from) (pen_of depth a)) t ≡ with_pen (pen_of depth a) t
+repainted knows depth from a t whole is =
+    let p = pen_of depth from in
+    let q = pen_of depth a in
+    elim (cases_Bool (only_adds p q)) [
+      | inl adds ↦
+          ap (λ (ds : List Command). run knows ds t) (cond-true (only_adds p q) (adds_of p q) (paints_of q) adds)
+          ∙ ((λ i. run knows (adds_of p q) (record t { pen = is i }))
+          ∙ pen_added knows (color_at depth from.fg) (color_at depth from.bg) (color_at depth a.fg) (color_at depth a.bg) from.modifier.bits a.modifier.bits t whole adds)
+      | inr takes ↦
+          ap (λ (ds : List Command). run knows ds t) (cond-false (only_adds p q) (adds_of p q) (paints_of q) takes)
+          ∙ pen_set knows (color_at depth a.fg) (color_at depth a.bg) a.modifier.bits t whole
+    ]
 
 painted : (knows : List ℕ → Bool) (depth : Depth) (at : At) (p : Placed) (t : Tty) → t.whole ≡ true → (at.painted ≡ true → t.pen ≡ Some (pen_of depth at.pen)) →
     run knows (paints depth at p) t ≡ with_pen (pen_of depth (attributes_of p.cell)) t
 painted knows depth at p t whole is =
     let a = attributes_of p.cell in
-    let cs : List Command = paints_of (pen_of depth a) in
+    let whole_pen : List Command = paints_of (pen_of depth a) in
+    let cs : List Command = if at.painted then repaints (pen_of depth at.pen) (pen_of depth a) else whole_pen in
     elim (cases_Bool (at.painted && attributes.TheImpl.ghosts.eq at.pen a)) [
       | inl here ↦
           let h = and_parts at.painted (attributes.TheImpl.ghosts.eq at.pen a) here in
           let stands : t.pen ≡ Some (pen_of depth a) = is h.0 ∙ ap (λ k. Some (pen_of depth k)) (same_attributes at.pen a h.1) in
           ap (λ (ds : List Command). run knows ds t) (cond-true _ [] cs here) ∙ (λ i. record t { pen = stands i })
       | inr other ↦
-          ap (λ (ds : List Command). run knows ds t) (cond-false _ [] cs other) ∙ pen_set knows (color_at depth a.fg) (color_at depth a.bg) a.modifier.bits t whole
+          ap (λ (ds : List Command). run knows ds t) (cond-false _ [] cs other)
+          ∙ elim (cases_Bool at.painted) [
+            | inl known ↦
+                ap (λ (ds : List Command). run knows ds t) (cond-true at.painted (repaints (pen_of depth at.pen) (pen_of depth a)) whole_pen known)
+                ∙ repainted knows depth at.pen a t whole (is known)
+            | inr fresh ↦
+                ap (λ (ds : List Command). run knows ds t) (cond-false at.painted (repaints (pen_of depth at.pen) (pen_of depth a)) whole_pen fresh)
+                ∙ pen_set knows (color_at depth a.fg) (color_at depth a.bg) a.modifier.bits t whole
+          ]
     ]
 
 -- the terminal as the symbol finds it
-abbrev ready : Depth → ℕ → Placed → Tty → Tty
+abbrev pub ready : Depth → ℕ → Placed → Tty → Tty
 ready depth y p t = with_pen (pen_of depth (attributes_of p.cell)) (at_spot p.column y t)
 
 pub sent_one : (knows : List ℕ → Bool) (depth : Depth) (y : ℕ) (at : At) (p : Placed) (t : Tty) → t.whole ≡ true → t.tamed ≡ true → p.column < t.columns → y < t.height →

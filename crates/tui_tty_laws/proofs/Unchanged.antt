@@ -1,22 +1,18 @@
 -- Where nothing has changed, nothing is sent; and frames follow one another.
-use Rattle.std.proofs.Common.{◌≡◌, ℕ, zero, suc, ◌+◌, ◌<◌, Bool, true, false, List, [], ◌∷◌, ◌++◌, length, cond, flat_map, get_or, refl, sym, ap, subst, ◌∙◌, inl, inr, Contains, arith}
-use Rattle.std.proofs.lemmas.Bool.{cond-false}
-use Rattle.tui_cells.specs.Buffer.{Screen}
+use Rattle.std.proofs.Common.{◌≡◌, ℕ, suc, ◌+◌, ◌<◌, Bool, true, false, List, [], ◌∷◌, ◌++◌, length, cond, flat_map, get_or, refl, sym, ap, subst, ◌∙◌, inl, inr, arith}
 use Rattle.tui_text.specs.Visible.{Placed}
 use Rattle.tui_tty.specs.declared.cursor.Cursor.{Cursor}
 use Rattle.tui_tty.specs.declared.cursor.Cursor.TheVariants.{Keep}
 use Rattle.tui_tty.specs.declared.depth.Depth.{Depth}
-use Rattle.tui_tty.specs.declared.output.Output.{Output}
 use Rattle.tui_tty.specs.declared.trust.Trust.{Trust}
-use Rattle.tui_tty.specs.Calls.{IsChange, IsFull}
 use Rattle.tui_tty.specs.Pieces.{row_pieces}
-use Rattle.tui_tty.specs.Sends.{AreSent, IsCalm, Sends, SendsRow, SendsRows, closing, cursor_commands, opening}
-use Rattle.tui_tty.specs.Shows.{HasRoom, Shows, Trusts}
+use Rattle.tui_tty.specs.Sends.{AreSent, IsCalm, Sends, SendsRows, cursor_commands}
+use Rattle.tui_tty.specs.Shows.{Shows}
 use Rattle.tui_tty.specs.Spelling.{spelling}
 use Rattle.tui_tty.specs.Terminal.{Command, Tty, held, run, turn}
 use Rattle.tui_tty_laws.specs.Laws.{FramesFollow, SendsNothing}
 use Rattle.tui_tty_laws.proofs.Lists.{In-to}
-use Rattle.tui_tty_laws.proofs.Steps.{run_append}
+use Rattle.tui_tty_laws.proofs.Pen.{run_append}
 
 -- a row that shows what it showed
 none_sent : (trust : Trust) (qs ps : List Placed) → AreSent trust qs qs ps → ps ≡ []

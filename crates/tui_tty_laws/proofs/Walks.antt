@@ -1,12 +1,11 @@
 -- The cells of a row that show, and those that are sent.
-use Rattle.std.proofs.Common.{◌≡◌, ℕ, zero, suc, ◌+◌, ◌-◌, ◌<◌, ◌≤◌, Bool, true, false, not, ◌&&◌, ◌==◌, List, [], ◌∷◌, ◌++◌, length, refl, sym, ap, subst, ◌∙◌, inl, inr, ◌⊎◌, Contains, arith}
+use Rattle.std.proofs.Common.{◌≡◌, ℕ, zero, suc, ◌+◌, ◌-◌, ◌<◌, ◌≤◌, Bool, true, false, not, ◌==◌, List, [], ◌∷◌, ◌++◌, length, refl, sym, ap, subst, ◌∙◌, inl, inr, ◌⊎◌, arith}
 use Rattle.std.specs.Prelude.{nat_eq, min, Option, None, Some}
 use Rattle.std.specs.Cmp.Lexicographic.{pointwise}
 use Rattle.std.proofs.lemmas.Bool.{and_from, and_parts, cases_Bool, cond-true, cond-false, true≢false}
 use Rattle.std.proofs.lemmas.Bool.Decides.{nat_tests}
 use Rattle.tui_cells.specs.Cell.{Look, space}
-use Rattle.tui_cells.specs.Same.{same_attributes}
-use Rattle.tui_cells.specs.contracts.attributes.AttributesPartialEq as attributes
+use Rattle.tui_cells.specs.Same.{attributes_self, same_attributes}
 use Rattle.tui_text.specs.Visible.{Placed, step_of}
 use Rattle.tui_text.proofs.ShownCells.{some_step}
 use Rattle.tui_tty.specs.declared.trust.Trust.{Trust}
@@ -18,9 +17,8 @@ use Rattle.tui_tty.specs.Terminal.{reach}
 use Rattle.tui_tty_laws.specs.declared.wanted.Wanted.{Wanted}
 use Rattle.tui_tty_laws.specs.declared.wanted.Wanted.TheVariants.{Changed}
 use Rattle.tui_tty_laws.specs.Sent.{is_same, is_shown, is_wanted, sent, sent_here}
-use Rattle.tui_tty_laws.proofs.Equality.{attributes_self}
 use Rattle.tui_tty_laws.proofs.Lists.{Each, In, Each-append, Each-in, Each-weaker, In-cases, In-from, In-left, In-right, In-to}
-use Rattle.tui_tty_laws.proofs.Seen.{Sendable, blank_quiet, blank_step, blank_trusted, covered_false, covered_true, parts_of, seen_false, seen_true, under}
+use Rattle.tui_tty_laws.proofs.Seen.{blank_quiet, blank_step, blank_trusted, covered_false, covered_true, parts_of, seen_false, seen_true, under}
 
 abbrev pub at_column : ℕ → Look → Placed
 at_column column c = record { column = column; cell = c }

@@ -1,5 +1,5 @@
 -- Laws of terminals, as statements.
-use Rattle.std.specs.Prelude.{◌≡◌, ℕ, ◌+◌, ◌<◌, ◌≤◌, Bool, true, false, List, [], ◌∷◌, ◌++◌, length, All, Contains, flat_map}
+use Rattle.std.specs.Prelude.{◌≡◌, ℕ, ◌+◌, ◌≤◌, Bool, true, false, List, [], ◌∷◌, ◌++◌, All, Contains, flat_map}
 use Rattle.tui_cells.specs.Buffer.{IsScreen, Screen}
 use Rattle.tui_cells.specs.Symbols.{BarData, BorderData, LineData, ScrollbarData, bar_sets, block_symbols, border_sets, line_sets, line_symbols, scrollbar_sets, shade_symbols}
 use Rattle.tui_cells.specs.declared.color.Color.{Color}
@@ -7,7 +7,6 @@ use Rattle.tui_tty.specs.declared.cursor.Cursor.TheVariants.{Keep}
 use Rattle.tui_tty.specs.declared.depth.Depth.{Depth}
 use Rattle.tui_tty.specs.declared.depth.Depth.TheVariants as depths
 use Rattle.tui_tty.specs.declared.output.Output.{Output}
-use Rattle.tui_tty.specs.declared.trust.Trust.{Trust}
 use Rattle.tui_tty.specs.declared.trust.Trust.TheVariants.{Common}
 use Rattle.tui_tty.specs.Calls.{IsChange, IsFull}
 use Rattle.tui_tty.specs.Colours.{Light, Named, black, color_at, cube_light, distance, grays, nearest_in_palette, nearest_of, other_names}

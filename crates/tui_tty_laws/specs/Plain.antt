@@ -14,7 +14,7 @@ use Rattle.tui_tty.specs.Terminal.{Command, Pen, Tty, add, after, paint, print, 
 abbrev pub without_paints : List Command → List Command
 without_paints [] = []
 without_paints (paint ss ∷ cs) = without_paints cs
-without_paints (add s ∷ cs) = without_paints cs
+without_paints (add s ss ∷ cs) = without_paints cs
 without_paints (c ∷ cs) = c ∷ without_paints cs
 
 -- a symbol, and the pen that draws it, as far as it is known

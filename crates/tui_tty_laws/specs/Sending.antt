@@ -1,16 +1,18 @@
 -- The commands that send cells.
-use Rattle.std.specs.Prelude.{ℕ, ◌+◌, true, false, ◌&&◌, ◌==◌, List, [], ◌∷◌, ◌++◌, map, if◌then◌else◌}
+use Rattle.std.specs.Prelude.{ℕ, ◌+◌, true, false, ◌&&◌, ◌==◌, nat_lt, List, [], ◌∷◌, ◌++◌, map, if◌then◌else◌}
 use Rattle.tui_cells.specs.Buffer.{Screen}
 use Rattle.tui_cells.specs.Cell.{Look, blank}
 use Rattle.tui_cells.specs.contracts.attributes.AttributesPartialEq as attributes
+use Rattle.tui_cells.specs.declared.attributes.Attributes.{Attributes}
 use Rattle.tui_text.specs.Visible.{Placed, step_of}
 use Rattle.tui_tty.specs.declared.depth.Depth.{Depth}
 use Rattle.tui_tty.specs.declared.output.Output.{Output}
 use Rattle.tui_tty.specs.declared.trust.Trust.{Trust}
-use Rattle.tui_tty.specs.Pens.{attributes_of, paints_of, pen_of}
+use Rattle.tui_tty.specs.Calls.{mending}
+use Rattle.tui_tty.specs.Pens.{adds_of, attributes_of, only_adds, paints_of, pen_of}
 use Rattle.tui_tty.specs.Sends.{closing, opening}
 use Rattle.tui_tty.specs.Symbols.{is_trusted}
-use Rattle.tui_tty.specs.Terminal.{Command, tame, place, print}
+use Rattle.tui_tty.specs.Terminal.{Command, Pen, tame, place, across, print}
 use Rattle.tui_tty_laws.specs.declared.at.At.{At}
 use Rattle.tui_tty_laws.specs.Sent.{anew, row_sent, row_shown}
 
@@ -18,14 +20,25 @@ use Rattle.tui_tty_laws.specs.Sent.{anew, row_sent, row_shown}
 abbrev pub nowhere : At
 nowhere = record { column = 0; placed = false; pen = attributes_of blank; painted = false }
 
+-- the cursor is moved from elsewhere: within the row, if it is known to stand before that
+abbrev pub moves_on : ℕ → At → ℕ → List Command
+moves_on y at column = if at.placed && nat_lt at.column column then across column ∷ [] else place column y ∷ []
+
 -- the cursor is moved, unless it is known to stand there
 abbrev pub moves : ℕ → At → Placed → List Command
-moves y at p = if at.placed && (at.column == p.column) then [] else place p.column y ∷ []
+moves y at p = if at.placed && (at.column == p.column) then [] else moves_on y at p.column
+
+-- the commands that take a pen to another one: those of what is added, if nothing is taken away
+abbrev pub repaints : Pen → Pen → List Command
+repaints from pen = if only_adds from pen then adds_of from pen else paints_of pen
+
+abbrev pub paints_on : Depth → At → Attributes → List Command
+paints_on depth at a = if at.painted then repaints (pen_of depth at.pen) (pen_of depth a) else paints_of (pen_of depth a)
 
 -- the pen is set, unless it is known to be this one
 abbrev pub paints : Depth → At → Placed → List Command
 paints depth at p =
-    if at.painted && attributes.TheImpl.ghosts.eq at.pen (attributes_of p.cell) then [] else paints_of (pen_of depth (attributes_of p.cell))
+    if at.painted && attributes.TheImpl.ghosts.eq at.pen (attributes_of p.cell) then [] else paints_on depth at (attributes_of p.cell)
 
 -- the commands that send a cell in a row
 abbrev pub send_one : Depth → ℕ → At → Placed → List Command
@@ -67,7 +80,7 @@ abbrev pub frame : Output → ℕ → List (List Placed) → List Command
 frame o y rows = opening o ++ (send_rows o y rows ++ closing o)
 
 abbrev pub full : Output → Screen → List Command
-full o b = tame ∷ frame o b.area.y (map (row_anew o.trust b.area.x) b.rows)
+full o b = tame ∷ (mending o.trust b.area ++ frame o b.area.y (map (row_anew o.trust b.area.x) b.rows))
 
 -- the commands of what has changed from one screen to another
 abbrev pub change : Output → Screen → Screen → List Command

@@ -60,7 +60,14 @@ impl<'a> Items<'a> {
         ensures order { (result.first ≤ result.end) × (result.end ≤ length (items_data self.now)) }
         ensures first { 0 < length (items_data self.now) → result.first < length (items_data self.now) }
     {
-        window_of(&self.heights, u64::from(room), offset, selected, padding)
+        window_of(
+            *self.items.allocator(),
+            &self.heights,
+            u64::from(room),
+            offset,
+            selected,
+            padding,
+        )
     }
 
     /// Equal items of their own. `NoMemory` where there is none for them or for the sums.

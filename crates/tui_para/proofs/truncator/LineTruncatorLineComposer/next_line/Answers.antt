@@ -1,7 +1,7 @@
 use Rattle.std.proofs.Common.{◌≡◌, map, ap, refl, sym, subst, Some}
 use Rattle.std.specs.Prelude.{sum_by}
 use Rattle.tui_text.specs.Grapheme.{glyph_of, glyph_width}
-use Rattle.tui_para.specs.Lines.{IsFirst, glyph_line}
+use Rattle.tui_para.specs.Lines.{IsTaken, glyph_line}
 use Rattle.tui_para.specs.Wrapping.{truncator_lends}
 use Rattle.tui_para.proofs.truncator.LineTruncatorLineComposer.next_line.Goals as goal
 
@@ -18,7 +18,7 @@ returns-in-Some g c =
         λ _. tt,
         (
           c.advance.ensures.ready,
-          (failed.0, failed.1, subst (λ gs. IsFirst (Some (glyph_line new.alignment gs)) (lends s) (lends new)) lent found.first),
+          (failed.0, failed.1, subst (λ gs. IsTaken (Some (glyph_line new.alignment gs)) (lends s) (lends new)) lent found.first),
         ),
       ),
       record { width = subst (λ gs. c.in-Some.width ≡ sum_by glyph_width gs) lent found.columns; after = tt },

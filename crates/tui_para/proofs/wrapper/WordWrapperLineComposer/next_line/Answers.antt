@@ -1,7 +1,7 @@
 use Rattle.std.proofs.Common.{◌≡◌, refl, sym, subst, Some}
 use Rattle.std.specs.Prelude.{sum_by}
 use Rattle.tui_text.specs.Grapheme.{glyph_width}
-use Rattle.tui_para.specs.Lines.{IsFirst, glyph_line}
+use Rattle.tui_para.specs.Lines.{IsTaken, glyph_line}
 use Rattle.tui_para.specs.Wrapping.{wrapper_lends}
 use Rattle.tui_para.proofs.wrapper.WordWrapperLineComposer.next_line.Goals as goal
 
@@ -18,7 +18,7 @@ returns-in-Some g c =
         λ _. tt,
         (
           c.advance.ensures.ready,
-          (failed.0, failed.1, subst (λ gs. IsFirst (Some (glyph_line new.alignment gs)) (lends s) (lends new)) lent found.first),
+          (failed.0, failed.1, subst (λ gs. IsTaken (Some (glyph_line new.alignment gs)) (lends s) (lends new)) lent found.first),
         ),
       ),
       record { width = subst (λ gs. c.in-Some.part.width ≡ sum_by glyph_width gs) lent found.is_part.columns; after = tt },

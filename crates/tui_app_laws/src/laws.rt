@@ -1,0 +1,13 @@
+//! Laws of sessions, each a function that does nothing.
+
+ghost use Rattle.tui_app_laws.specs.Showing.{WaitingShows};
+
+use tui_app::App;
+use tui_tty::Output;
+
+/// Whenever a session waits for input, any terminal that has read what was put shows the screen that the app draws after the events of all that was
+/// read, whatever it showed before, and has the cursor where the app wants it. What was put is commands, also where one text follows another: no
+/// text of a cell begins one. What leaves it then gives the main screen back.
+pub fn waiting_law<A: App>(output: Output)
+    ensures { WaitingShows A.behaviour output }
+{}

@@ -1,0 +1,6 @@
+//! What a terminal shows while an app lives on it.
+#![tactic(auto)]
+
+mod laws;
+
+pub use laws::waiting_law;
