@@ -66,7 +66,14 @@ fn run_args<S: Source, K: Sink>(
     match args {
         Ok(all) => {
             let words = first_words(alloc, all);
-            run_words(alloc, depth, words.as_slice(), source, sink, Leftovers::Left)
+            run_words(
+                alloc,
+                depth,
+                words.as_slice(),
+                source,
+                sink,
+                Leftovers::Left,
+            )
         }
         Err(error) if error.kind() == ErrorKind::OutOfMemory => Ending::Broken(Broken::NoMemory),
         Err(_) => run_refused_word(alloc, depth, source, sink),
