@@ -10,4 +10,4 @@ returns-in-Ok-clause-some c =
 pub returns-in-Ok-clause-none : goal.returns-in-Ok-clause-none
 returns-in-Ok-clause-none c =
     λ none file. rw c.in-Ok.is (λ are. c.file_in.ensures.none none
-        (begins_with (drop 1 (into_iter_items c.in-Ok.all)) c.first_words.result.items file (codes "rows") c.first_words.ensures are))
+    (begins_with (drop 1 (into_iter_items c.in-Ok.all)) c.first_words.result.items file (codes "rows") c.first_words.ensures are))
