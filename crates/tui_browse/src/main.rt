@@ -1,11 +1,19 @@
 //! The program `tui_browse`: a pager of a file's entries, on the terminal that `./live` gives it.
 #![tactic(auto)]
 
+mod command;
+mod ended;
+mod entries;
+mod program;
+mod setting;
+
+use crate::command::file_of;
+use crate::program::{browse, refuse_usage};
+use crate::setting::{Setting, side_in};
 use std::fs::File;
 use std::process::ExitCode;
 use std::{env, io};
 use tui_app::Port;
-use tui_browse_run::{Setting, browse, named_by, refuse_usage, side_in};
 use tui_outside::{StdSink, StdSource};
 use tui_program::FileSource;
 use tui_terminal::depth_of;
@@ -13,12 +21,12 @@ use tui_tty::{Cursor, Output, Trust};
 
 fn main(rt: HostRuntime) -> ExitCode {
     let alloc = rt.alloc();
-    let setting = setting(&rt);
+    let setting = said_by(&rt);
     let mut terminal = Port::new(StdSource::new(rt.reader()), StdSink::new(io::writer(&rt)));
-    let ended = match named_by(alloc, env::args(&rt)) {
-        Some(named) => {
-            let mut source = FileSource::new(File::open(&rt, named.file.as_str()));
-            browse(alloc, named.command, setting, &mut source, &mut terminal)
+    let ended = match file_of(alloc, env::args(&rt)) {
+        Some(file) => {
+            let mut source = FileSource::new(File::open(&rt, file.as_str()));
+            browse(alloc, setting, &mut source, &mut terminal)
         }
         None => refuse_usage(&mut terminal),
     };
@@ -26,7 +34,7 @@ fn main(rt: HostRuntime) -> ExitCode {
 }
 
 /// What the environment says of the terminal.
-fn setting(rt: &HostRuntime) -> Setting {
+fn said_by(rt: &HostRuntime) -> Setting {
     let depth = depth_of(
         variable(rt, "NO_COLOR").as_str(),
         variable(rt, "COLORTERM").as_str(),

@@ -1,12 +1,10 @@
 //! A whole run, from the bytes that are read to the session.
 
-use crate::command::BrowseCommand;
 use crate::ended::BrowseEnded;
 use crate::entries::read_entries;
-use crate::pieces::{entries_of, pieces_of, titles_of};
 use crate::setting::Setting;
 use serde_json::Value;
-use std::alloc::{AllocError, Global};
+use std::alloc::Global;
 use tui_app::{Terminal, run};
 use tui_browse_lib::PagerApp;
 use tui_cells::NoMemory;
@@ -15,13 +13,9 @@ use tui_outside::{ReadEnd, Sink, Source, WriteFault, put_all, read_all};
 use tui_pager_lib::Entry;
 use tui_program::put_refused_field;
 
-/// The most entries of a text.
-const MOST_ENTRIES: usize = 1000;
-
 /// Reads a file, and shows its entries in a pager until the user quits.
-pub fn browse<S: Source, T: Terminal>(
+pub(crate) fn browse<S: Source, T: Terminal>(
     alloc: Global,
-    command: BrowseCommand,
     setting: Setting,
     source: &mut S,
     terminal: &mut T,
@@ -32,14 +26,11 @@ pub fn browse<S: Source, T: Terminal>(
         Err(ReadEnd::TooLong) => return refuse_long(terminal),
         Err(ReadEnd::NoMemory) => return BrowseEnded::NoMemory,
     };
-    match command {
-        BrowseCommand::Entries => browse_json(alloc, setting, bytes, terminal),
-        BrowseCommand::Text => browse_text(alloc, setting, bytes, terminal),
-    }
+    browse_json(alloc, setting, bytes, terminal)
 }
 
 /// Writes that the words are not those of a command.
-pub fn refuse_usage<K: Sink>(sink: &mut K) -> BrowseEnded {
+pub(crate) fn refuse_usage<K: Sink>(sink: &mut K) -> BrowseEnded {
     if_put(BrowseEnded::Usage, put_all(sink, b"refused: usage\n"))
 }
 
@@ -76,36 +67,6 @@ fn browse_json<T: Terminal>(
         ),
         Err(InputError::NoMemory) => BrowseEnded::NoMemory,
     }
-}
-
-fn browse_text<T: Terminal>(
-    alloc: Global,
-    setting: Setting,
-    bytes: Vec<u8>,
-    terminal: &mut T,
-) -> BrowseEnded {
-    let Ok(text) = String::from_utf8_lossy(alloc, bytes.as_slice()) else {
-        return BrowseEnded::NoMemory;
-    };
-    match show_text(alloc, setting, text.as_str(), terminal) {
-        Ok(ended) => ended,
-        Err(NoMemory) => BrowseEnded::NoMemory,
-    }
-}
-
-fn show_text<T: Terminal>(
-    alloc: Global,
-    setting: Setting,
-    text: &str,
-    terminal: &mut T,
-) -> Result<BrowseEnded, NoMemory> {
-    let pieces = pieces_of(alloc, text)?;
-    if pieces.len() > MOST_ENTRIES {
-        return Ok(refuse_long(terminal));
-    }
-    let titles = titles_of(alloc, pieces.as_slice())?;
-    let entries = entries_of(alloc, pieces.as_slice(), titles.as_slice())?;
-    Ok(show(alloc, setting, entries, terminal))
 }
 
 fn show<T: Terminal>(

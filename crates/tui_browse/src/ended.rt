@@ -6,14 +6,14 @@ use tui_pager_run::{BadInput, PagerField};
 
 /// How a run ends. The endings from `Usage` to `BadInput` have written one line that says so, and the terminal was not entered.
 #[derive(Clone, Copy, Debug, PartialEq, Eq)]
-pub enum BrowseEnded {
+pub(crate) enum BrowseEnded {
     /// The user quit.
     Quit,
     /// No byte is left of the keys.
     Ended,
     /// The words are not those of a command.
     Usage,
-    /// The file has more than 1,048,576 bytes, or its text more than 1,000 entries.
+    /// The file has more than 1,048,576 bytes.
     TooLong,
     /// The file is no JSON in UTF-8.
     NotJson,
@@ -56,7 +56,7 @@ impl From<BadInput> for BrowseEnded {
 
 impl BrowseEnded {
     /// The exit status of the program.
-    pub fn status(&self) -> u8 {
+    pub(crate) fn status(&self) -> u8 {
         match self {
             BrowseEnded::Quit | BrowseEnded::Ended => 0,
             BrowseEnded::Usage => 2,
@@ -70,7 +70,7 @@ impl BrowseEnded {
     }
 
     /// The exit status, as `main` answers it.
-    pub fn exit_code(&self) -> ExitCode {
+    pub(crate) fn exit_code(&self) -> ExitCode {
         ExitCode::from(self.status())
     }
 }
