@@ -66,9 +66,6 @@ fn run_args<S: Source, K: Sink>(
     match args {
         Ok(all) => {
             let words = first_words(alloc, all);
-<<<<<<< HEAD
-            run_words(alloc, depth, words.as_slice(), source, sink, Leftovers::Left)
-=======
             run_words(
                 alloc,
                 depth,
@@ -77,7 +74,6 @@ fn run_args<S: Source, K: Sink>(
                 sink,
                 Leftovers::Left,
             )
->>>>>>> B
         }
         Err(error) if error.kind() == ErrorKind::OutOfMemory => Ending::Broken(Broken::NoMemory),
         Err(_) => run_refused_word(alloc, depth, source, sink),
