@@ -1,6 +1,30 @@
 //! Terminals in memory.
 
-ghost use Rattle.std.specs.Prelude.{◌≡◌, ◌+◌, ◌-◌, ◌<◌, ◌≤◌, ◌↔◌, ◌⊎◌, [], ◌∷◌, ◌++◌, Contains, IfOk, IsErr, MatchResult, OnOk, Some, drop, length, map, min, take, vec_len, vec_capacity};
+ghost use Rattle.std.specs.Prelude.{
+  ◌≡◌,
+  ◌+◌,
+  ◌-◌,
+  ◌<◌,
+  ◌≤◌,
+  ◌↔◌,
+  ◌⊎◌,
+  [],
+  ◌∷◌,
+  ◌++◌,
+  Contains,
+  IfOk,
+  IsErr,
+  MatchResult,
+  OnOk,
+  Some,
+  drop,
+  length,
+  map,
+  min,
+  take,
+  vec_len,
+  vec_capacity,
+};
 ghost use Rattle.std.specs.Io.{ReadsAtMost, WritesAtMost};
 ghost use Rattle.std.specs.Io.KnownBytes.{WriteAppends};
 ghost use Rattle.tui_app.specs.Memory.{given_next};

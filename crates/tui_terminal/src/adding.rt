@@ -61,10 +61,16 @@ pub(crate) fn put_repaint<K: Sink>(
 fn only_adds(was: Attributes, is: Attributes) -> bool
     ensures { result ≡ only_adds (sent_pen was) (sent_pen is) }
 {
-    !is_bright(was.fg) && stays(was, is)
+    !is_any_bright(was) && stays(was, is)
 }
 
-// Whether some terminals show a colour in front by bold, which they don't take back with the next one.
+fn is_any_bright(pen: Attributes) -> bool
+    ensures { result ≡ (is_bright pen.fg || is_bright pen.bg) }
+{
+    is_bright(pen.fg) || is_bright(pen.bg)
+}
+
+// Whether some terminals show a colour by bold, which they don't take back with the next one.
 #[tactic(auto, unfolding(tui_tty::specs::Pens::is_bright))]
 fn is_bright(color: Color) -> bool
     ensures { result ≡ is_bright color }

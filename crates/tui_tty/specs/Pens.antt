@@ -91,7 +91,7 @@ is_own c = false
 abbrev pub color_stays : Color → Color → Bool
 color_stays a b = color.TheImpl.ghosts.eq a b || not (is_own b)
 
--- a colour in front which some terminals show by bold, and don't take that back with the next one
+-- a colour which some terminals show by bold, and don't take that back with the next one
 unfoldable pub is_bright : Color → Bool
 is_bright DarkGray = true
 is_bright LightRed = true
@@ -105,7 +105,7 @@ is_bright c = false
 
 -- from one pen to another nothing is taken away
 abbrev pub only_adds : Pen → Pen → Bool
-only_adds p q = not (is_bright p.fg) && (marks_stay p.marks q.marks && (color_stays p.fg q.fg && color_stays p.bg q.bg))
+only_adds p q = not (is_bright p.fg || is_bright p.bg) && (marks_stay p.marks q.marks && (color_stays p.fg q.fg && color_stays p.bg q.bg))
 
 -- the marks that are added, and each colour that changes
 abbrev pub marks_added : ℕ → List Bool → List Bool → List Setting

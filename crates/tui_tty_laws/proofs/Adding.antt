@@ -90,7 +90,7 @@ with_back knows false ms fs bs p q r t whole first second u third =
 pub pen_added : (knows : List ℕ → Bool) (f g h k : Color) (m n : ℕ) (t : Tty) → t.whole ≡ true → only_adds (pen_from f g m) (pen_from h k n) ≡ true →
     run knows (adds_of (pen_from f g m) (pen_from h k n)) (with_pen (pen_from f g m) t) ≡ with_pen (pen_from h k n) t
 pen_added knows f g h k m n t whole adds =
-    let dull = and_parts (not (is_bright f)) _ adds in
+    let dull = and_parts (not (is_bright f || is_bright g)) _ adds in
     let both = and_parts (marks_stay (marks_of m) (marks_of n)) _ dull.1 in
     with_back knows (has_name k) (marks_added 0 (marks_of m) (marks_of n)) (front_added f h) (back_added g k)
     (pen_from f g m) (inked f g (marks_of n)) (inked h g (marks_of n)) t whole
