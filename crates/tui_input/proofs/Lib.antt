@@ -1,0 +1,4 @@
+pub mod Splitting
+pub mod Trimming
+pub mod Kept
+pub mod Typing
