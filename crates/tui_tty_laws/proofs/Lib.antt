@@ -13,3 +13,9 @@ pub mod Screens
 pub mod Unchanged
 pub mod Between
 pub mod Plain
+pub mod Splitting
+pub mod Numbers
+pub mod Settings
+pub mod Controls
+pub mod Readings
+pub mod TrustedTexts

@@ -2,3 +2,4 @@ pub mod Sent
 pub mod Sending
 pub mod Laws
 pub mod Plain
+pub mod Reading

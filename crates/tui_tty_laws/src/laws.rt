@@ -15,6 +15,7 @@ ghost use Rattle.tui_tty_laws.specs.Laws.{
   TrueChangesNothing,
 };
 ghost use Rattle.tui_tty_laws.specs.Plain.{StyledRowsArePlain};
+ghost use Rattle.tui_tty_laws.specs.Reading.{HasOneReading, TrustedHaveOneReading};
 
 /// The commands of a full screen show it on any terminal, and those of a change show the new screen where the old one showed; so
 /// they follow one another. Where nothing has changed, nothing is sent.
@@ -51,4 +52,11 @@ pub fn colour_laws()
 /// symbol is drawn by the pen of its own cell, and the pen is at rest at each newline.
 pub fn styled_law()
     ensures plain { StyledRowsArePlain }
+{}
+
+/// A text is spelled by one list of safe commands alone, but for where one of two neighbouring prints ends and the next begins; where a terminal
+/// is trusted with each symbol, by one list.
+pub fn reading_law()
+    ensures one { HasOneReading }
+    ensures trusted { TrustedHaveOneReading }
 {}

@@ -6,5 +6,5 @@ mod laws;
 mod wanted;
 
 pub use at::At;
-pub use laws::{colour_laws, screen_laws, session_law, styled_law, symbol_law};
+pub use laws::{colour_laws, reading_law, screen_laws, session_law, styled_law, symbol_law};
 pub use wanted::Wanted;
