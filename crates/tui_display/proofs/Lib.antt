@@ -1,0 +1,5 @@
+pub mod Cutting
+pub mod Taking
+pub mod Puts
+pub mod Stopping
+pub mod Present
