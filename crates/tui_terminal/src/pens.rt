@@ -13,8 +13,18 @@ use tui_cells::{Attributes, Color, Modifier};
 use tui_outside::{Print, Sink};
 use tui_tty::Depth;
 
-/// Attributes as a terminal of this depth has them.
+/// Attributes as a terminal of this depth has them. One that has all colours has them as they are.
+#[tactic(auto, unfolding(tui_tty::specs::Colours::color_at))]
 pub(crate) fn at_depth(depth: Depth, a: Attributes) -> Attributes
+    ensures { result ≡ record { fg = color_at depth a.fg; bg = color_at depth a.bg; modifier = a.modifier } }
+{
+    match depth {
+        Depth::True => a,
+        _ => at_less(depth, a),
+    }
+}
+
+fn at_less(depth: Depth, a: Attributes) -> Attributes
     ensures { result ≡ record { fg = color_at depth a.fg; bg = color_at depth a.bg; modifier = a.modifier } }
 {
     Attributes {

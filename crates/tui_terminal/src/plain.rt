@@ -2,6 +2,7 @@
 
 ghost use Rattle.std.specs.Prelude.{◌≡◌, ◌+◌, ◌<◌, ◌≤◌, flat_map, length, not, true};
 ghost use Rattle.std.specs.List.{list_all};
+ghost use Rattle.tui_cells.specs.Attributes.{look_of};
 ghost use Rattle.tui_outside.specs.Gathers.{Gathers};
 ghost use Rattle.tui_terminal.specs.Sent.{placed_if};
 ghost use Rattle.tui_tty.specs.Spelling.{spelling};
@@ -10,8 +11,8 @@ ghost use Rattle.tui_tty_laws.specs.Sending.{at_after, nowhere, row_anew, send};
 ghost use Rattle.tui_tty_laws.specs.Sent.{changes, is_same, row_shown};
 
 use crate::sending::put_piece;
-use crate::symbols::is_ascii;
-use tui_cells::Cell;
+use crate::symbols::{is_ascii, is_same_text};
+use tui_cells::{Attributes, Cell};
 use tui_outside::{Print, Sink};
 use tui_tty::Output;
 use tui_tty_laws::At;
@@ -73,11 +74,23 @@ pub(crate) fn put_new_plain<K: Sink>(
     }
 }
 
+// Most cells that change have another symbol, and these cost less to compare than colours.
 #[inline(always)]
 fn is_changed(old: &Cell, new: &Cell) -> bool
     ensures { result ≡ not (is_same old.now new.now) }
 {
-    !old.is_same(new)
+    let was = old.symbol();
+    let pen_was = old.attributes();
+    let is = new.symbol();
+    let pen = new.attributes();
+    !is_same_look(was, pen_was, is, pen)
+}
+
+#[inline(always)]
+fn is_same_look(was: &str, pen_was: Attributes, is: &str, pen: Attributes) -> bool
+    ensures { result ≡ is_same (look_of was.now pen_was) (look_of is.now pen) }
+{
+    is_same_text(was, is) && pen_was == pen
 }
 
 // Adds what sends a printable byte in a column, if it is wanted, and answers what is known then.

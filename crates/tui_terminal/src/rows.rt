@@ -1,7 +1,6 @@
 //! The rows of a buffer.
 
-ghost use Rattle.std.specs.Prelude.{◌≡◌, ◌+◌, ◌<◌, ◌≤◌, ◌&&◌, ◌||◌, ℕ, IsTrue, flat_map, length, nat_eq, not};
-ghost use Rattle.std.specs.Cmp.Lexicographic.{pointwise};
+ghost use Rattle.std.specs.Prelude.{◌≡◌, ◌+◌, ◌<◌, ◌≤◌, ◌&&◌, ◌||◌, ℕ, IsTrue, flat_map, length, not};
 ghost use Rattle.std.specs.List.{list_all};
 ghost use Rattle.tui_outside.specs.Gathers.{Gathers};
 ghost use Rattle.tui_terminal.specs.Seeing.{look_in, shown_in};
@@ -15,7 +14,7 @@ ghost use Rattle.tui_tty_laws.specs.Sent.{changes, is_same, row_shown, sent};
 use crate::plain::{is_plain_row, put_all_plain, put_new_plain};
 use crate::seeing::{Seen, Under, see};
 use crate::sending::put_if;
-use crate::symbols::is_trusted;
+use crate::symbols::{is_same_text, is_trusted};
 use tui_cells::Cell;
 use tui_outside::{Print, Sink};
 use tui_tty::{Output, Trust};
@@ -103,17 +102,6 @@ fn put_mixed_changes<K: Sink>(
         put_new(print, output, y, left, old, new, sink);
     } else {
         put_anew(print, output, y, left, new, sink);
-    }
-}
-
-// A comparison of texts is a call, which a single byte needs not.
-#[inline]
-fn is_same_text(one: &str, other: &str) -> bool
-    ensures { result ≡ pointwise nat_eq one.now other.now }
-{
-    match (one.as_bytes(), other.as_bytes()) {
-        ([a], [b]) => a == b,
-        _ => one == other,
     }
 }
 

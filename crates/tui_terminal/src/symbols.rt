@@ -1,6 +1,7 @@
 //! Which symbols are sent, and which of them a terminal is trusted with.
 
-ghost use Rattle.std.specs.Prelude.{◌≡◌, ◌<◌, ◌&&◌, ◌||◌, [], ◌∷◌, nat_le};
+ghost use Rattle.std.specs.Prelude.{◌≡◌, ◌<◌, ◌&&◌, ◌||◌, [], ◌∷◌, nat_eq, nat_le};
+ghost use Rattle.std.specs.Cmp.Lexicographic.{pointwise};
 ghost use Rattle.tui_text.specs.Visible.{step_of};
 ghost use Rattle.tui_tty.specs.Symbols.{
   ascii_trusted,
@@ -197,8 +198,25 @@ fn is_within(code: u32, low: u32, high: u32) -> bool
     low <= code && code <= high
 }
 
-// Whether a symbol holds no control character, so that it begins no command.
+// Whether a symbol holds no control character, so that it begins no command. Most that are asked for have three bytes.
 fn is_quiet(symbol: &str) -> bool
+    ensures { result ≡ is_quiet symbol.now }
+{
+    match symbol.as_bytes() {
+        [a, b, c] => is_quiet_three(*a, *b, *c),
+        _ => is_quiet_text(symbol),
+    }
+}
+
+#[inline]
+#[tactic(auto, unfolding(tui_tty::specs::Symbols::is_quiet))]
+fn is_quiet_three(a: u8, b: u8, c: u8) -> bool
+    ensures { result ≡ is_quiet (a ∷ b ∷ c ∷ []) }
+{
+    is_quiet_byte(false, a) & is_quiet_byte(a == 0xc2, b) & is_quiet_byte(b == 0xc2, c)
+}
+
+fn is_quiet_text(symbol: &str) -> bool
     ensures { result ≡ is_quiet symbol.now }
 {
     let bytes = symbol.as_bytes();
@@ -267,5 +285,16 @@ fn reach_of(c: char) -> usize
         1
     } else {
         2
+    }
+}
+
+/// Whether two symbols are the same. A comparison of texts is a call, which a single byte needs not.
+#[inline]
+pub(crate) fn is_same_text(one: &str, other: &str) -> bool
+    ensures { result ≡ pointwise nat_eq one.now other.now }
+{
+    match (one.as_bytes(), other.as_bytes()) {
+        ([a], [b]) => a == b,
+        _ => one == other,
     }
 }

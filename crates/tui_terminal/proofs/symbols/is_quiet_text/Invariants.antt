@@ -1,6 +1,6 @@
 use Rattle.std.proofs.Common.{◌≡◌, drop, false}
 use Rattle.tui_tty.specs.Symbols.{is_quiet_from}
-use Rattle.tui_terminal.proofs.symbols.is_quiet.Given as goal
+use Rattle.tui_terminal.proofs.symbols.is_quiet_text.Given as goal
 
 -- the bytes that are still to come decide
 abbrev pub invariant-bytes : goal.invariant-bytes

@@ -2,7 +2,7 @@ use Rattle.std.proofs.Common.{◌≡◌, ◌+◌, ◌<◌, ◌≤◌, ◌==◌, 
 use Rattle.std.proofs.lemmas.Bool.{and_left}
 use Rattle.tui_tty.specs.Symbols.{is_quiet, is_quiet_byte, is_quiet_from}
 use Rattle.tui_terminal.proofs.SymbolLemmas.{quiet_end, quiet_step}
-use Rattle.tui_terminal.proofs.symbols.is_quiet.Goals as goal
+use Rattle.tui_terminal.proofs.symbols.is_quiet_text.Goals as goal
 
 pub returns-then-not-is_quiet_byte : goal.returns-then-not-is_quiet_byte
 unfolding is_quiet
