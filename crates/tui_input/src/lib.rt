@@ -2,7 +2,10 @@
 #![tactic(auto)]
 
 mod ends;
+pub mod input;
+mod scroll;
 pub mod state;
 mod taking;
 
+pub use input::Input;
 pub use state::InputState;

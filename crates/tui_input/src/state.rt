@@ -1,6 +1,6 @@
 //! The state of a text input.
 
-ghost use Rattle.std.specs.Prelude.{◌≤◌, ◌≡◌, ◌++◌, ◌||◌, [], chars, false, length, nat_lt, true, IfOk, OnOk, OnErr};
+ghost use Rattle.std.specs.Prelude.{◌≤◌, ◌≡◌, ◌==◌, ◌++◌, ◌||◌, [], chars, false, length, nat_lt, true, IfOk, OnOk, OnErr};
 ghost use Rattle.std.specs.Str.{IsCharBoundary, IsUtf8};
 ghost use Rattle.tui_clusters.specs.Shown.{has_control};
 ghost use Rattle.tui_input.specs.State.{
@@ -25,6 +25,7 @@ ghost use Rattle.tui_input.specs.State.{
   without_after,
   without_before,
 };
+ghost use Rattle.tui_input.specs.Scroll.{shown_from};
 ghost use Rattle.tui_input.specs.Taking.{with_pasting};
 
 use crate::ends::{split_first, split_last, word_start};
@@ -102,6 +103,13 @@ impl InputState {
         ensures few { length (chars (text_of self.now)) ≤ self.now.most }
     {
         self.text.as_str()
+    }
+
+    /// Whether there is no text.
+    pub fn is_empty(&self) -> bool
+        ensures { result ≡ (length (text_of self.now) == 0) }
+    {
+        self.text().len() == 0
     }
 
     /// The text left of the cursor, and the one right of it.
@@ -270,6 +278,19 @@ impl InputState {
         let from = word_start(before);
         let to = before.len();
         self.cut(from, to);
+    }
+
+    /// The first grapheme of the text left of the cursor that the last drawing has shown.
+    pub fn first(&self) -> usize
+        ensures { result ≡ self.now.first }
+    {
+        self.first
+    }
+
+    pub(crate) fn show_from(&mut self, first: usize)
+        ensures { self.new ≡ shown_from self.old first }
+    {
+        self.first = first;
     }
 
     pub(crate) fn is_pasting(&self) -> bool
