@@ -1,0 +1,20 @@
+use Rattle.std.proofs.Common.{map}
+use Rattle.serde_json.specs.View.{view}
+use Rattle.tui_browse_run.proofs.Saying.{over_value, unput}
+use Rattle.tui_browse_run.proofs.texts.browse_value.Goals as goal
+use Rattle.tui_browse_run.specs.Ends.{refused, wanting}
+use Rattle.tui_browse_run.specs.declared.refusal.Refusal.TheVariants.{BadInput}
+use Rattle.tui_pager_lib.specs.Entry.{entry_data}
+
+pub returns-in-Ok : goal.returns-in-Ok
+returns-in-Ok g c =
+    over_value c.args.setting (view c.args.value.now) (map entry_data c.in-Ok.entries.items) _ _ c.browse_entries.result c.in-Ok.ensures c.browse_entries.ensures
+
+pub returns-in-Err-Refused : goal.returns-in-Err-Refused
+returns-in-Err-Refused g c =
+    let says = rw c.in-Err-Refused.field-0-is at c.in-Err-Refused.ensures in
+    let line = rw c.in-Err-Refused.field-0-is at c.refuse.ensures in
+    refused (BadInput c.in-Err-Refused.bad) c.refuse.result says line
+
+pub returns-in-Err-NoMemory : goal.returns-in-Err-NoMemory
+returns-in-Err-NoMemory g c = wanting (unput _)

@@ -1,0 +1,11 @@
+pub mod Pieces
+pub mod Cuts
+pub mod TextEntry
+pub mod Refusals
+pub mod Input
+pub mod Setting
+pub mod Words
+pub mod Shown
+pub mod Ended
+pub mod Ends
+pub mod Laws

@@ -1,0 +1,55 @@
+//! The pieces of a text.
+
+ghost use Rattle.std.specs.Prelude.{◌≡◌, IfOk, IsErrOf, map};
+ghost use Rattle.tui_browse_run.specs.Pieces.{AreAllPieces, HasMorePieces, piece_data};
+
+use crate::cutting::first_piece;
+use crate::piece::Piece;
+use std::alloc::{AllocFailed, Global};
+
+/// The most pieces of a text.
+const MOST_PIECES: usize = 1000;
+
+/// Why a text is not cut into pieces.
+#[derive(Clone, Copy, Debug, PartialEq, Eq)]
+pub enum PiecesError {
+    /// There would be more than 1,000.
+    TooMany,
+    NoMemory,
+}
+
+impl<T: Drop> From<AllocFailed<T>> for PiecesError {
+    ghost use Rattle.std.specs.Prelude.{◌≡◌};
+    ghost use Rattle.tui_browse_run.specs.declared.pieces.PiecesError.TheVariants.{NoMemory};
+
+    ghost from_gives = { λ _ e. e ≡ NoMemory };
+
+    fn from(_error: AllocFailed<T>) -> PiecesError {
+        PiecesError::NoMemory
+    }
+}
+
+/// The pieces of a text, of which there are at most 1,000.
+pub fn pieces_of(alloc: Global, text: &str) -> Result<Vec<Piece<'_>>, PiecesError>
+    ensures ok { IfOk result (λ pieces. AreAllPieces text.now (map piece_data pieces.items)) }
+    ensures many { IsErrOf result PiecesError.TooMany → HasMorePieces text.now }
+{
+    let mut pieces = Vec::new(alloc);
+    let mut rest = text;
+    let mut line = 1;
+    'pieces: for _i in 0..MOST_PIECES {
+        if rest.is_empty() {
+            return Ok(pieces);
+        }
+        let cut = first_piece(rest);
+        let (body, behind) = rest.split_at(cut.len);
+        pieces.push(Piece { line, body })?;
+        rest = behind;
+        line += cut.feeds;
+    }
+    if rest.is_empty() {
+        Ok(pieces)
+    } else {
+        Err(PiecesError::TooMany)
+    }
+}

@@ -1,0 +1,33 @@
+//! A session.
+
+ghost use Rattle.std.specs.Prelude.{map};
+ghost use Rattle.tui_browse_run.specs.Shown.{IsShown};
+ghost use Rattle.tui_pager_lib.specs.Entry.{entry_data};
+
+use std::alloc::Global;
+use tui_app::{AppEnd, Terminal, run};
+use tui_browse_lib::PagerApp;
+use tui_cells::NoMemory;
+use tui_pager_lib::Entry;
+use tui_tty::Output;
+
+/// Shows entries in a pager on a terminal of `width` columns and `height` rows, until the user quits or the session ends otherwise, as `run` of an app does.
+/// At `NoMemory` nothing is put where there was none for the pager or its first screen.
+pub fn show<T: Terminal>(
+    alloc: Global,
+    entries: Vec<Entry<'_>>,
+    output: Output,
+    width: u16,
+    height: u16,
+    terminal: &mut T,
+) -> AppEnd
+    ensures { IsShown output (map entry_data entries.entry.items) width height (T.told terminal.old) (T.told terminal.new) result }
+{
+    match PagerApp::new(alloc, width, height, entries) {
+        Ok(app) => {
+            let mut app = app;
+            run(alloc, &mut app, output, width, height, terminal)
+        }
+        Err(NoMemory) => AppEnd::NoMemory,
+    }
+}
