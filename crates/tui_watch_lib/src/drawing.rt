@@ -1,0 +1,179 @@
+//! The headline and the gauges.
+
+ghost use Rattle.std.specs.Prelude.{◌≡◌, OnOk};
+
+use crate::load::Load;
+use crate::memory::Memory;
+use crate::processors::Processors;
+use crate::reading::Reading;
+use std::alloc::Global;
+use tui_bars::Gauge;
+use tui_cells::{Buffer, Color, Mem, Position, Rect, Style, Widget};
+use tui_layout::{Fraction, Segment};
+use tui_text::{Span, set_stringn};
+
+/// The rows of an area that a part has.
+pub(crate) fn rows_of(area: Rect, part: Option<&Segment>) -> Rect {
+    match part {
+        Some(part) => area.rows_from(part.start, part.width),
+        None => Rect::ZERO,
+    }
+}
+
+/// Draws a text into the first row of an area.
+pub(crate) fn draw_text(text: &str, area: Rect, buf: &mut Buffer) -> Mem<()>
+    ensures area { OnOk result (buf.new.area ≡ buf.old.area) }
+{
+    let at = Position {
+        x: area.x,
+        y: area.y,
+    };
+    set_stringn(buf, area, at, text, usize::from(area.width), Style::new())?;
+    Ok(())
+}
+
+/// Draws the load, for how long the machine is up, and what keys do.
+pub(crate) fn draw_headline(
+    alloc: Global,
+    reading: &Reading,
+    paused: bool,
+    area: Rect,
+    buf: &mut Buffer,
+) -> Mem<()>
+    ensures area { OnOk result (buf.new.area ≡ buf.old.area) }
+{
+    let load = load_text(alloc, reading.load)?;
+    let uptime = uptime_text(alloc, reading.uptime)?;
+    let keys = if paused {
+        "paused: p goes on, q quits"
+    } else {
+        "p pauses, q quits"
+    };
+    let text = format!(in alloc; "{load}   {uptime}   {keys}")?;
+    draw_text(text.as_str(), area, buf)
+}
+
+fn load_text(alloc: Global, load: Option<Load>) -> Mem<String> {
+    match load {
+        Some(load) => {
+            let one = decimal(alloc, load.one)?;
+            let five = decimal(alloc, load.five)?;
+            let fifteen = decimal(alloc, load.fifteen)?;
+            Ok(format!(in alloc; "load {one} {five} {fifteen}")?)
+        }
+        None => Ok(String::from_str(alloc, "no loadavg")?),
+    }
+}
+
+// A number of hundredths.
+fn decimal(alloc: Global, hundredths: u64) -> Mem<String> {
+    let whole = hundredths / 100;
+    let part = hundredths % 100;
+    Ok(format!(in alloc; "{whole}.{part:02}")?)
+}
+
+fn uptime_text(alloc: Global, uptime: Option<u64>) -> Mem<String> {
+    match uptime {
+        Some(seconds) => {
+            let days = seconds / 86400;
+            let hours = seconds / 3600 % 24;
+            let minutes = seconds / 60 % 60;
+            Ok(format!(in alloc; "up {days} d {hours:02}:{minutes:02}")?)
+        }
+        None => Ok(String::from_str(alloc, "no uptime")?),
+    }
+}
+
+/// Draws a gauge a row: the processors since the reading before, the memory and the swap.
+pub(crate) fn draw_meters(alloc: Global, reading: &Reading, area: Rect, buf: &mut Buffer) -> Mem<()>
+    ensures area { OnOk result (buf.new.area ≡ buf.old.area) }
+{
+    draw_processors(alloc, reading.passed, area.rows_from(0, 1), buf)?;
+    draw_memory(alloc, reading.memory, area.rows_from(1, 1), buf)?;
+    draw_swap(alloc, reading.memory, area.rows_from(2, 1), buf)
+}
+
+fn draw_processors(
+    alloc: Global,
+    passed: Option<Processors>,
+    area: Rect,
+    buf: &mut Buffer,
+) -> Mem<()>
+    ensures area { OnOk result (buf.new.area ≡ buf.old.area) }
+{
+    match passed {
+        Some(passed) => {
+            let count = passed.count;
+            let percent = passed.per_mille() / 10;
+            let label = format!(in alloc; "{count} processors {percent}%")?;
+            let share = Fraction::new(passed.busy, passed.all());
+            draw_gauge(alloc, label.as_str(), share, Color::Green, area, buf)
+        }
+        None => draw_text("no stat", area, buf),
+    }
+}
+
+fn draw_memory(alloc: Global, memory: Option<Memory>, area: Rect, buf: &mut Buffer) -> Mem<()>
+    ensures area { OnOk result (buf.new.area ≡ buf.old.area) }
+{
+    match memory {
+        Some(memory) => {
+            let label = share_text(alloc, "memory", memory.used(), memory.total)?;
+            let share = Fraction::new(memory.used(), memory.total);
+            draw_gauge(alloc, label.as_str(), share, Color::Cyan, area, buf)
+        }
+        None => draw_text("no meminfo", area, buf),
+    }
+}
+
+fn draw_swap(alloc: Global, memory: Option<Memory>, area: Rect, buf: &mut Buffer) -> Mem<()>
+    ensures area { OnOk result (buf.new.area ≡ buf.old.area) }
+{
+    match memory {
+        Some(memory) => {
+            let label = share_text(alloc, "swap", memory.swap_used(), memory.swap_total)?;
+            let share = Fraction::new(memory.swap_used(), memory.swap_total);
+            draw_gauge(alloc, label.as_str(), share, Color::Yellow, area, buf)
+        }
+        None => draw_text("no meminfo", area, buf),
+    }
+}
+
+// What is used of all, in GiB.
+fn share_text(alloc: Global, name: &str, used: u64, all: u64) -> Mem<String> {
+    let used = tenths_text(alloc, gibibyte_tenths(used))?;
+    let all = tenths_text(alloc, gibibyte_tenths(all))?;
+    Ok(format!(in alloc; "{name} {used} of {all} GiB")?)
+}
+
+fn gibibyte_tenths(kilobytes: u64) -> u64 {
+    kilobytes.saturating_mul(10) / 1_048_576
+}
+
+/// A number of tenths.
+pub(crate) fn tenths_text(alloc: Global, tenths: u64) -> Mem<String> {
+    let whole = tenths / 10;
+    let part = tenths % 10;
+    Ok(format!(in alloc; "{whole}.{part}")?)
+}
+
+// A gauge with a label; the label alone where there is nothing to have a share of.
+fn draw_gauge(
+    alloc: Global,
+    label: &str,
+    share: Fraction,
+    color: Color,
+    area: Rect,
+    buf: &mut Buffer,
+) -> Mem<()>
+    ensures area { OnOk result (buf.new.area ≡ buf.old.area) }
+{
+    match Gauge::default().ratio(share) {
+        Ok(gauge) => gauge
+            .label(Span::raw(label))
+            .use_unicode(true)
+            .gauge_style(Style::new().fg(color))
+            .render(alloc, area, buf),
+        Err(_) => draw_text(label, area, buf),
+    }
+}

@@ -1,0 +1,45 @@
+//! The memory of a machine.
+
+ghost use Rattle.std.specs.Prelude.{◌≡◌, ◌-◌};
+
+use crate::numbers::{number_after, per_mille};
+
+/// Memory in kB (1024 bytes): all of it, what programs can still have, and the same of swap.
+#[derive(Clone, Copy, Debug, PartialEq, Eq)]
+pub struct Memory {
+    pub total: u64,
+    pub available: u64,
+    pub swap_total: u64,
+    pub swap_free: u64,
+}
+
+impl Memory {
+    /// What `meminfo` says; None where one of the four has no line or no number.
+    pub fn parse(text: &str) -> Option<Memory> {
+        Some(Memory {
+            total: number_after(text, "MemTotal:")?,
+            available: number_after(text, "MemAvailable:")?,
+            swap_total: number_after(text, "SwapTotal:")?,
+            swap_free: number_after(text, "SwapFree:")?,
+        })
+    }
+
+    /// What is used of the memory.
+    pub fn used(&self) -> u64
+        ensures { result ≡ self.now.total - self.now.available }
+    {
+        self.total.saturating_sub(self.available)
+    }
+
+    /// What is used of the swap.
+    pub fn swap_used(&self) -> u64
+        ensures { result ≡ self.now.swap_total - self.now.swap_free }
+    {
+        self.swap_total.saturating_sub(self.swap_free)
+    }
+
+    /// The thousandths of the memory that are used.
+    pub fn per_mille(&self) -> u64 {
+        per_mille(self.used(), self.total)
+    }
+}

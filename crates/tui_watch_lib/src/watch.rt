@@ -1,0 +1,95 @@
+//! The app.
+
+ghost use Rattle.std.specs.Prelude.{◌≡◌, ◌↔◌, ⊤};
+ghost use Rattle.tui_app.specs.declared.app.Flow.TheVariants.{Quit};
+ghost use Rattle.tui_keys.specs.declared.event.Event.TheVariants.{Char};
+
+use crate::drawing::{draw_headline, draw_meters, rows_of};
+use crate::history::History;
+use crate::machine::Machine;
+use crate::reading::Reading;
+use crate::table::draw_processes;
+use crate::trends::{Trends, draw_trends};
+use std::alloc::Global;
+use std::mem;
+use tui_app::{App, Flow};
+use tui_cells::{Buffer, Mem, Position};
+use tui_keys::Event;
+use tui_layout::{Constraint, Flex, split};
+
+/// The rows of the headline, the gauges, the sparklines and the processes. Where there are not so many, the first of them are shown.
+const ROWS: [Constraint; 4] = [
+    Constraint::Length(1),
+    Constraint::Length(3),
+    Constraint::Length(4),
+    Constraint::Fill(1),
+];
+
+/// A dashboard of a machine, which it reads at each tick.
+#[derive(Drop)]
+pub struct Watch<M> {
+    machine: M,
+    paused: bool,
+    reading: Reading,
+    trends: Trends,
+}
+
+impl<M: Machine + Drop> Watch<M> {
+    /// A dashboard of a machine, with a first reading. `NoMemory` where there is none for that.
+    pub fn new(alloc: Global, machine: M) -> Mem<Watch<M>> {
+        let mut watch = Watch {
+            machine,
+            paused: false,
+            reading: Reading::none(alloc),
+            trends: Trends {
+                load: History::new(),
+                processors: History::new(),
+                memory: History::new(),
+            },
+        };
+        watch.look(alloc)?;
+        Ok(watch)
+    }
+
+    // Reads the machine.
+    fn look(&mut self, alloc: Global) -> Mem<()> {
+        let reading = Reading::take(alloc, &self.machine, &mut self.reading)?;
+        self.trends.push(&reading);
+        drop(mem::replace(&mut self.reading, reading));
+        Ok(())
+    }
+}
+
+impl<M: Machine + Drop> App for Watch<M> {
+    // What is proved of it: q quits (113 is its code), and nothing else does.
+    ghost behaviour = { record {
+      steps = λ old event new flow. (flow ≡ Quit) ↔ (event ≡ Char 113);
+      draws = λ old screen place new. ⊤;
+    } };
+
+    /// A tick has the machine read, p pauses that and goes on with it, Ctrl-L draws anew, and q quits.
+    fn step(&mut self, alloc: Global, event: Event) -> Mem<Flow> {
+        match event {
+            Event::Char('q') => return Ok(Flow::Quit),
+            Event::Ctrl('l') => return Ok(Flow::Redraw),
+            Event::Char('p') => self.paused = !self.paused,
+            Event::Tick if !self.paused => self.look(alloc)?,
+            _ => {}
+        }
+        Ok(Flow::Go)
+    }
+
+    fn draw(&mut self, alloc: Global, buf: &mut Buffer) -> Mem<Option<Position>> {
+        let area = buf.area();
+        let parts = split(alloc, area.height, 0, &ROWS, Flex::Start)?;
+        let headline = rows_of(area, parts.get(0));
+        let meters = rows_of(area, parts.get(1));
+        let trends = rows_of(area, parts.get(2));
+        let processes = rows_of(area, parts.get(3));
+        draw_headline(alloc, &self.reading, self.paused, headline, buf)?;
+        draw_meters(alloc, &self.reading, meters, buf)?;
+        draw_trends(alloc, &self.trends, trends, buf)?;
+        draw_processes(alloc, &self.reading, processes, buf)?;
+        Ok(None)
+    }
+}
