@@ -3,6 +3,7 @@
 
 pub mod app;
 pub mod buffer;
+pub mod display;
 pub mod input;
 pub mod layout;
 pub mod pager;

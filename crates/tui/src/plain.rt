@@ -14,6 +14,7 @@ ghost use Rattle.tui_pages_lib.specs.declared.column.Column.{Column};
 
 use crate::app::{AppEnd, Flow};
 use crate::buffer::{Attributes, NoMemory};
+use crate::display::DisplayEnd;
 use crate::layout::{
     Alignment, Constraint, Direction, Flex, Fraction, Offset, Position, Rect, Segment, Window,
 };
@@ -58,6 +59,12 @@ pub fn padding_laws()
 {}
 
 impl Plain for AppEnd {
+    ghost same = { Prim.search rules };
+
+    ghost cloned = { Prim.search rules };
+}
+
+impl Plain for DisplayEnd {
     ghost same = { Prim.search rules };
 
     ghost cloned = { Prim.search rules };
