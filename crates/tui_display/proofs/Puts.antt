@@ -1,5 +1,5 @@
 -- Two texts, one after the other.
-use Rattle.std.proofs.Common.{◌≡◌, ◌≢◌, ℕ, List, ◌++◌, flat_map, Result, Ok, Err, refl, ◌∙◌}
+use Rattle.std.proofs.Common.{◌≡◌, ◌≢◌, ℕ, List, ◌++◌, flat_map, Result, Ok, Err, refl}
 use Rattle.std.specs.Io.KnownBytes.{Appends}
 use Rattle.tui_app.specs.Tape.{Broke, Took}
 use Rattle.tui_cells.specs.Buffer.{IsFilled, IsScreen, Screen}

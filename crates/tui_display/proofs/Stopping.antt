@@ -1,5 +1,5 @@
 -- Reads, one after the other, and the end.
-use Rattle.std.proofs.Common.{◌≡◌, ◌⊎◌, inl, inr, ℕ, ◌+◌, List, [], ◌∷◌, ◌++◌, length, Option, None, Some, Result, Ok, Err, refl, sym, ap, subst, ◌∙◌, append_assoc, arith}
+use Rattle.std.proofs.Common.{◌≡◌, ◌⊎◌, inl, inr, ℕ, ◌+◌, List, [], ◌∷◌, ◌++◌, Option, None, Some, Result, Ok, Err, refl, sym, ap, subst, ◌∙◌, append_assoc, arith}
 use Rattle.std.proofs.lemmas.List.{append-nil, length-append}
 use Rattle.std.proofs.lemmas.List.Folds.{concat-append}
 use Rattle.std.specs.Io.KnownBytes.{Appends}
@@ -9,13 +9,13 @@ use Rattle.tui_cells.specs.Buffer.{IsFilled, Screen}
 use Rattle.tui_cells.specs.Cell.{blank}
 use Rattle.tui_display.proofs.Cutting.{cut_first}
 use Rattle.tui_display.proofs.Taking.{Broke-after, Calls, Took-then, part_after}
-use Rattle.tui_display.specs.Parts.{Ends, Feeds, Goes, GoesOn, HasBeen, HasBroken, HasEnded, HasRead, IsClosed, IsFinished, IsOpened, IsShown, IsTurned}
+use Rattle.tui_display.specs.Parts.{Ends, Feeds, Goes, GoesOn, HasBeen, HasEnded, HasRead, IsClosed, IsFinished, IsOpened, IsShown, IsTurned}
 use Rattle.tui_display.specs.Run.{Counts, HasStopped, IsRun, cut, enters, last_text, leaves, whole}
 use Rattle.tui_display.specs.Run as runs
-use Rattle.tui_display.specs.Session.{Session, Shows, begins, ends, first_area, reads, shown_by}
+use Rattle.tui_display.specs.Session.{begins, ends, first_area, reads, shown_by}
 use Rattle.tui_display.specs.declared.ending.DisplayEnd.{DisplayEnd}
 use Rattle.tui_display.specs.declared.ending.DisplayEnd.TheVariants as last
-use Rattle.tui_outside.proofs.Outside.{Appends-keeps, Appends-none, Appends-then}
+use Rattle.tui_outside.proofs.Outside.{Appends-keeps, Appends-then}
 use Rattle.tui_outside.specs.Causes.{Rose, TakesPart, Told, Writes}
 use Rattle.tui_tty.specs.Calls.{IsFull}
 use Rattle.tui_tty.specs.Session.{enter_text}

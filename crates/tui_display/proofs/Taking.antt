@@ -1,21 +1,18 @@
 -- Lines of a read, one after the other.
-use Rattle.std.proofs.Common.{◌≡◌, ◌⊎◌, inl, inr, ℕ, ◌+◌, ◌<◌, ◌≤◌, Bool, false, ◌==◌, List, [], ◌∷◌, ◌++◌, length, take, drop, get_or, suc, zero, Option, None, Some, Result, Ok, Err, refl, sym, ap, subst, ◌∙◌, append_assoc, arith}
+use Rattle.std.proofs.Common.{◌≡◌, inl, ℕ, ◌+◌, ◌<◌, ◌≤◌, false, ◌==◌, List, [], ◌∷◌, ◌++◌, length, take, drop, get_or, suc, zero, Option, None, Some, refl, sym, ap, subst, ◌∙◌, append_assoc, arith}
 use Rattle.std.proofs.lemmas.Bool.{true≢false}
 use Rattle.std.proofs.lemmas.List.{append-nil, length-append, take-append-drop, take-append-le, take_all, take_more}
 use Rattle.std.proofs.Math.Seq.{drop-cons, take-append-add}
 use Rattle.std.specs.Io.KnownBytes.{Appends}
-use Rattle.std.specs.List.{concat}
-use Rattle.tui_app.specs.Tape.{Broke, Took, gave}
+use Rattle.tui_app.specs.Tape.{Broke, Took}
 use Rattle.tui_cells.specs.Buffer.{Screen}
 use Rattle.tui_display.proofs.Cutting.{cut_added, cut_ended}
-use Rattle.tui_display.specs.Lines.{IsCut}
-use Rattle.tui_display.specs.Parts.{Ends, Feeds, Goes, HasBeen, HasBroken, HasEnded, IsAdded, IsPut, IsShown}
-use Rattle.tui_display.specs.Run.{Sending}
+use Rattle.tui_display.specs.Parts.{Feeds, Goes, HasBeen, HasEnded, IsAdded, IsPut, IsShown}
 use Rattle.tui_display.specs.Run as runs
 use Rattle.tui_display.specs.Session.{IsNext, Session, Shows, shows}
 use Rattle.tui_display.specs.declared.ending.DisplayEnd.{DisplayEnd}
 use Rattle.tui_display.specs.declared.ending.DisplayEnd.TheVariants as ends
-use Rattle.tui_outside.proofs.Outside.{Appends-none, Appends-then}
+use Rattle.tui_outside.proofs.Outside.{Appends-then}
 use Rattle.tui_outside.specs.Causes.{Rose, TakesPart, Told}
 use Rattle.tui_outside.specs.Limits.{limit}
 use Rattle.tui_tty.specs.declared.output.Output.{Output}

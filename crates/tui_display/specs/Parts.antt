@@ -2,7 +2,7 @@
 use Rattle.std.specs.Prelude.{◌≡◌, ◌⊎◌, ℕ, ◌≤◌, List, [], ◌∷◌, ◌++◌, length, Option, None, Some, Result, Ok, Err}
 use Rattle.std.specs.Io.KnownBytes.{Appends}
 use Rattle.std.specs.List.{concat}
-use Rattle.tui_app.specs.Tape.{Broke, IsRead, Took, gave}
+use Rattle.tui_app.specs.Tape.{Broke, Took, gave}
 use Rattle.tui_cells.specs.Buffer.{IsFilled, Screen}
 use Rattle.tui_cells.specs.Cell.{blank}
 use Rattle.tui_display.specs.Lines.{IsCut}
@@ -11,7 +11,7 @@ use Rattle.tui_display.specs.Session.{Session, Shows, first_area, shown_by}
 use Rattle.tui_display.specs.declared.display.Display.{Display}
 use Rattle.tui_display.specs.declared.ending.DisplayEnd.{DisplayEnd}
 use Rattle.tui_display.specs.declared.ending.DisplayEnd.TheVariants as ends
-use Rattle.tui_outside.specs.Causes.{Rose, TakesPart, Told}
+use Rattle.tui_outside.specs.Causes.{Told}
 use Rattle.tui_outside.specs.Limits.{limit}
 use Rattle.tui_tty.specs.Calls.{IsFull}
 use Rattle.tui_tty.specs.Session.{enter_text}

@@ -1,6 +1,5 @@
 //! Whole runs.
 
-ghost use Rattle.std.specs.Prelude.{ℕ, List};
 ghost use Rattle.tui_display.specs.Parts.{IsClosed, IsOpened};
 ghost use Rattle.tui_display.specs.Run.{IsRun, last_text};
 ghost use Rattle.tui_outside.specs.Causes.{Writes};
