@@ -1,0 +1,85 @@
+-- What a browser draws.
+use Rattle.std.specs.Prelude.{◌≡◌, ℕ, ◌-◌, ◌/◌, ◌&&◌, Bool, true, false, nat_lt, List, [], ◌∷◌, map, None, Some, codes, string_bytes, unwrap_or}
+use Rattle.tui_cells.specs.Buffer.{IsFilled, Screen, cell_at}
+use Rattle.tui_cells.specs.Cell.{blank}
+use Rattle.tui_cells.specs.Layers.{Painted, layers_at}
+use Rattle.tui_cells.specs.Rect.{columns_from, covers, rows_from}
+use Rattle.tui_cells.specs.Style.{no_style}
+use Rattle.tui_cells.specs.declared.rect.Rect.{Rect}
+use Rattle.tui_frames.specs.Block.{BlockData, block_of}
+use Rattle.tui_frames.specs.InBlock.{inner_of}
+use Rattle.tui_files_lib.specs.declared.browser.Browser.{Browser}
+use Rattle.tui_files_lib.specs.declared.rows.Row.{Row}
+use Rattle.tui_lists.specs.List.{ListData, ListMoves, list_of}
+use Rattle.tui_lists.specs.ListItem.{ListItemData}
+use Rattle.tui_lists.specs.ListStrokes.{list_layers}
+use Rattle.tui_lists.specs.Tabs.{reversed}
+use Rattle.tui_lists.specs.declared.list.state.ListState.{ListState}
+use Rattle.tui_text.specs.Line.{raw_line}
+use Rattle.tui_text.specs.Setting.{set_layers, styled_text}
+use Rattle.tui_text.specs.Text.{empty_text}
+
+-- what a row shows
+abbrev pub row_label : Row → List ℕ
+row_label row = string_bytes row.label
+
+-- a row as an item of the list: one line
+abbrev pub row_item : List ℕ → ListItemData
+row_item label = record { content = record empty_text { lines = raw_line label ∷ [] }; style = no_style }
+
+-- borders on all sides, and a title
+abbrev pub titled_block : List ℕ → BlockData
+titled_block title = record (block_of 15) { titles = record { line = raw_line title; position = None } ∷ [] }
+
+-- the list of items in a block with a title
+abbrev pub list_over : List ListItemData → List ℕ → ListData
+list_over items title = record (list_of items) {
+  block = Some (titled_block title);
+  symbol = Some (raw_line (codes ">"));
+  highlight_style = reversed;
+}
+
+-- the list of the names that a browser shows
+abbrev pub names_list : Browser → ListData
+names_list b = list_over (map row_item (map row_label b.rows.items)) (string_bytes b.title)
+
+-- where it stands: in the left half of all rows but the last
+abbrev pub names_area : Rect → Rect
+names_area area = columns_from (rows_from area 0 (area.height - 1)) 0 (area.width / 2)
+
+-- the beginning of a file stands in the other half, and what is told of the names in the last row
+abbrev pub head_area : Rect → Rect
+head_area area = columns_from (rows_from area 0 (area.height - 1)) (area.width / 2) (area.width - area.width / 2)
+
+abbrev pub status_area : Rect → Rect
+status_area area = rows_from area (area.height - 1) 1
+
+-- whether a screen has room for a browser
+abbrev pub has_room : Rect → Bool
+has_room area = nat_lt 11 area.width && nat_lt 4 area.height
+
+-- the selected row, the first one where none is
+abbrev pub selected_row : ListState → ℕ
+selected_row s = unwrap_or s.selected 0
+
+-- a list's state with that row selected
+abbrev pub selecting : ListState → ListState
+selecting s = record s { selected = Some (selected_row s) }
+
+-- On a screen stands a list, drawn on blank cells by the state that it has: the one that moved least from the state before for the selected name to be seen.
+pub record ShowsNames (l : ListData) (was is : ListState) (screen : Screen) : Type 0 where
+  pub moves : ListMoves l (inner_of l.block (names_area screen.area)) was is
+  pub cells : (x y : ℕ) → covers (names_area screen.area) x y ≡ true →
+      cell_at screen x y ≡ Some (layers_at (list_layers l is (names_area screen.area)) x y blank)
+
+-- a blank screen on which, from its first cell on, stands that it is too small
+pub record SaysTooSmall (screen : Screen) : Type 0 where
+  pub before : Screen
+  pub filled : IsFilled before.area blank before
+  pub painted : Painted (set_layers before.area (record { x = before.area.x; y = before.area.y }) (styled_text (codes "too small") no_style) 9) before screen
+
+-- The names, where there is room, and else that the screen is too small. Of the browser the list's state alone changes, and how far a page goes.
+pub record Draws (old : Browser) (screen : Screen) (new : Browser) : Type 0 where
+  pub stays : new ≡ record old { state = new.state; page = new.page }
+  pub names : has_room screen.area ≡ true → ShowsNames (names_list new) (selecting old.state) new.state screen
+  pub other : has_room screen.area ≡ false → SaysTooSmall screen

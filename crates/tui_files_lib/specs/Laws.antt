@@ -1,0 +1,45 @@
+-- What a session of a browser shows.
+use Rattle.std.specs.Prelude.{⊤, ◌≡◌, ℕ, ◌<◌, true, false, List, length, None, Some}
+use Rattle.tui_app.specs.Behaviour.{Behaviour}
+use Rattle.tui_app.specs.Lives.{Stand}
+use Rattle.tui_app.specs.Session.{Session}
+use Rattle.tui_app_laws.specs.Showing.{IsPresent}
+use Rattle.tui_cells.specs.Buffer.{Screen, cell_at}
+use Rattle.tui_cells.specs.Cell.{blank}
+use Rattle.tui_cells.specs.Layers.{layers_at}
+use Rattle.tui_cells.specs.Rect.{covers}
+use Rattle.tui_cells.specs.declared.rect.Rect.{Rect}
+use Rattle.tui_files_lib.specs.Drawing.{Draws, SaysTooSmall, has_room, names_area, names_list}
+use Rattle.tui_files_lib.specs.declared.browser.Browser.{Browser}
+use Rattle.tui_files_lib.specs.declared.files.FilesApp.{FilesApp}
+use Rattle.tui_frames.specs.InBlock.{inner_of}
+use Rattle.tui_lists.specs.List.{IsSeen}
+use Rattle.tui_lists.specs.ListItem.{heights_of}
+use Rattle.tui_lists.specs.ListStrokes.{list_layers}
+use Rattle.tui_tty.specs.declared.output.Output.{Output}
+
+-- what a browser draws; the cursor is hidden
+abbrev pub files : (F : Type 0) → Behaviour (FilesApp F)
+files F = record {
+  steps = λ old event new flow. ⊤;
+  draws = λ old screen place new. (place ≡ None) × Draws old.browser screen new.browser;
+}
+
+-- In the left half of the screen stands the list of the names on blank cells. Where there are names one is selected, and it is one of those that the list draws
+-- from its offset on, which fit its rows together.
+pub record NamesAreSeen (b : Browser) (screen : Screen) : Type 0 where
+  pub cells : (x y : ℕ) → covers (names_area screen.area) x y ≡ true →
+      cell_at screen x y ≡ Some (layers_at (list_layers (names_list b) b.state (names_area screen.area)) x y blank)
+  pub selected : 0 < length b.rows.items → (place : ℕ) × (b.state.selected ≡ Some place)
+      × IsSeen (heights_of (names_list b).items) (inner_of (names_list b).block (names_area screen.area)).height b.state.offset place
+
+-- the terminal shows the screen that was drawn last; if that has room for the names they are seen, and else it says that it is too small
+pub record IsOnScreen {F : Type 0} (o : Output) (begin : FilesApp F) (area : Rect) (stand : Stand (FilesApp F)) (reads : List (List ℕ)) (sent : List ℕ) : Type 0 where
+  pub present : IsPresent (files F) o begin area stand reads sent
+  pub names : has_room stand.screen.area ≡ true → NamesAreSeen stand.app.browser stand.screen
+  pub other : has_room stand.screen.area ≡ false → SaysTooSmall stand.screen
+
+-- whenever a session of a browser waits for input
+abbrev pub NamesAreShown : Type 0 → Output → Type 0
+NamesAreShown F o = (begin : FilesApp F) (area : Rect) (stand : Stand (FilesApp F)) (reads : List (List ℕ)) (tape sent : List ℕ) →
+    Session (files F) o begin area stand reads tape sent → IsOnScreen o begin area stand reads sent

@@ -1,0 +1,17 @@
+//! What holds of all sessions of a browser.
+
+ghost use Rattle.tui_files_lib.specs.Laws.{NamesAreShown};
+
+use crate::files::FilesApp;
+use crate::folders::Folders;
+use tui_app_laws::waiting_law;
+use tui_tty::Output;
+
+/// Whenever a session of a browser waits for input, any terminal that has read what was put shows its screen, whatever it showed before. If that has
+/// room, the list of the names stands in its left half, and where there are names the selected one is among those that are drawn. On a screen that is
+/// too small that is said instead.
+pub fn files_law<F: Folders + Drop>(output: Output)
+    ensures { NamesAreShown F output }
+{
+    waiting_law::<FilesApp<F>>(output);
+}

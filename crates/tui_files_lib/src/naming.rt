@@ -1,0 +1,69 @@
+//! Paths, and texts as they are shown.
+
+use crate::folders::{HEAD_BYTES, Kind, Name};
+use std::alloc::Global;
+use tui_cells::Mem;
+
+/// What stands for a control character.
+const REPLACEMENT: char = '\u{FFFD}';
+
+/// A name in a list: a slash stands behind a folder's.
+pub(crate) fn label_of(alloc: Global, name: &Name) -> Mem<String> {
+    let mut label = without_controls(alloc, name.text.as_str())?;
+    if name.kind == Kind::Folder {
+        label.push('/')?;
+    }
+    Ok(label)
+}
+
+/// A text with U+FFFD for each control character.
+pub(crate) fn without_controls(alloc: Global, text: &str) -> Mem<String> {
+    let mut shown = String::with_capacity(alloc, text.len())?;
+    for character in text.chars() {
+        if character.is_control() {
+            shown.push(REPLACEMENT)?;
+        } else {
+            shown.push(character)?;
+        }
+    }
+    Ok(shown)
+}
+
+/// The path of a name in a folder.
+pub(crate) fn path_of(alloc: Global, folder: &str, name: &str) -> Mem<String> {
+    let mut path = String::from_str(alloc, folder)?;
+    if !folder.ends_with('/') {
+        path.push('/')?;
+    }
+    path.push_str(name)?;
+    Ok(path)
+}
+
+/// What is shown of a file that begins with these bytes. The last character may have been cut.
+pub(crate) fn head_text(alloc: Global, bytes: &[u8]) -> Mem<String> {
+    match str::from_utf8(bytes) {
+        Ok(text) => shown_text(alloc, text),
+        Err(error) if error.error_len().is_none() && bytes.len() == HEAD_BYTES => {
+            match str::from_utf8(&bytes[..error.valid_up_to()]) {
+                Ok(text) => shown_text(alloc, text),
+                Err(_) => Ok(String::from_str(alloc, "binary")?),
+            }
+        }
+        Err(_) => Ok(String::from_str(alloc, "binary")?),
+    }
+}
+
+/// The lines of a text: four blanks for a tab, no carriage returns, and U+FFFD for any other control character.
+fn shown_text(alloc: Global, text: &str) -> Mem<String> {
+    let mut shown = String::with_capacity(alloc, text.len())?;
+    for character in text.chars() {
+        match character {
+            '\n' => shown.push('\n')?,
+            '\t' => shown.push_str("    ")?,
+            '\r' => {}
+            _ if character.is_control() => shown.push(REPLACEMENT)?,
+            _ => shown.push(character)?,
+        }
+    }
+    Ok(shown)
+}

@@ -1,0 +1,52 @@
+//! The rows of the list.
+
+use crate::folders::Name;
+use crate::naming::label_of;
+use std::alloc::Global;
+use tui_cells::Mem;
+
+/// A name as the list shows it, and its place in the listing.
+#[derive(Drop)]
+pub(crate) struct Row {
+    pub(crate) label: String,
+    pub(crate) place: usize,
+}
+
+/// Which names are wanted: hidden ones, which begin with a dot, only if these are; and those with this part.
+#[derive(Drop)]
+pub(crate) struct Wish {
+    pub(crate) hidden: bool,
+    pub(crate) part: String,
+}
+
+impl Wish {
+    fn takes(&self, name: &str) -> bool {
+        (self.hidden || !name.starts_with('.')) && name.contains(self.part.as_str())
+    }
+}
+
+/// The rows of the names that are wanted, in the names' order.
+pub(crate) fn rows_of(alloc: Global, names: &[Name], wish: &Wish) -> Mem<Vec<Row>> {
+    let mut rows = Vec::new(alloc);
+    for place in 0..names.len() {
+        let name = &names[place];
+        if wish.takes(name.text.as_str()) {
+            let label = label_of(alloc, name)?;
+            rows.push(Row { label, place })?;
+        }
+    }
+    Ok(rows)
+}
+
+/// The row of the name at a place, else the first one.
+pub(crate) fn row_at(rows: &[Row], place: usize) -> usize {
+    rows.iter().position(|row| row.place == place).unwrap_or(0)
+}
+
+/// The place of a name in a listing, else the first one.
+pub(crate) fn place_of(names: &[Name], text: &str) -> usize {
+    names
+        .iter()
+        .position(|name| name.text.as_str() == text)
+        .unwrap_or(0)
+}
