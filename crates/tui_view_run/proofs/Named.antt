@@ -50,3 +50,12 @@ pub file_of : (all first : List (String Global)) (r : Option (String Global)) (w
     IfSome r (λ file. AreTexts (word ∷ string_bytes file ∷ []) first) → IfSome r (λ file. AreTexts (word ∷ string_bytes file ∷ []) all)
 file_of all first (Some file) word is are = named_of_all all first file word is are
 file_of all first None word is are = tt
+
+-- and so is one word
+pub word_of_all : (all first : List (String Global)) (word : List ℕ) → first ≡ take 4 all → AreTexts (word ∷ []) first ↔ AreTexts (word ∷ []) all
+word_of_all all first word is = (λ are. two_of all first (word ∷ []) is are (omega arith), λ are. back are)
+  where
+    back : AreTexts (word ∷ []) all → AreTexts (word ∷ []) first
+    back are =
+        let one : length all ≡ 1 = sym (length-map all string_bytes) ∙ ap length are in
+        subst (AreTexts (word ∷ [])) (sym (is ∙ take_all 4 all (omega arith))) are

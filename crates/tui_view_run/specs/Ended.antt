@@ -1,5 +1,7 @@
 -- The ending of a run, as every program's, and its exit status.
 use Rattle.std.specs.Prelude.{ℕ}
+use Rattle.tui_display.specs.declared.ending.DisplayEnd.{DisplayEnd}
+use Rattle.tui_display.specs.declared.ending.DisplayEnd.TheVariants as stopped
 use Rattle.tui_program.specs.Status as frame
 use Rattle.tui_program.specs.declared.broken.Broken.TheVariants as broken
 use Rattle.tui_program.specs.declared.ending.Ending.{Ending}
@@ -23,3 +25,12 @@ ending_of ended.NoMemory = ending.Broken broken.NoMemory
 -- 5 for a refused field, and for the others the status that every program has
 abbrev pub status_of : ViewEnded → ℕ
 status_of e = frame.status_of (λ refused. 5) (ending_of e)
+
+-- the exit status of `frames`
+abbrev pub stopped_status : DisplayEnd → ℕ
+stopped_status stopped.Ended = 0
+stopped_status stopped.TooLong = 3
+stopped_status stopped.ReadFault = 6
+stopped_status stopped.ManyReads = 6
+stopped_status stopped.WriteFault = 7
+stopped_status stopped.NoMemory = 8

@@ -1,3 +1,4 @@
 pub mod Shown
 pub mod Rules
 pub mod Ended
+pub mod Frames

@@ -24,6 +24,11 @@ abbrev pub NameFile : Result (IntoIter (String Global) Global) Error → String 
 NameFile (Ok all) file = AreTexts (codes "rows" ∷ string_bytes file ∷ []) (drop 1 (into_iter_items all))
 NameFile (Err e) file = ⊥
 
+-- the words that the system gives are the word `frames` alone
+abbrev pub AreFrames : Result (IntoIter (String Global) Global) Error → Type 0
+AreFrames (Ok all) = AreTexts (codes "frames" ∷ []) (drop 1 (into_iter_items all))
+AreFrames (Err e) = ⊥
+
 abbrev pub Names : ViewCommand → List (String Global) → Type 0
 Names c words = AreRows words
 

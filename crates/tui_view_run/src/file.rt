@@ -1,15 +1,15 @@
-//! The file that words name.
+//! What words of the system name.
 
-ghost use Rattle.std.specs.Prelude.{[], ◌∷◌, String, IfSome, IsNone, codes, string_bytes};
+ghost use Rattle.std.specs.Prelude.{[], ◌∷◌, ◌↔◌, String, IfSome, IsNone, IsTrue, codes, string_bytes};
 ghost use Rattle.std.specs.declared.alloc.Global.{Global};
 ghost use Rattle.tui_program.specs.Words.{AreTexts, Begin};
-ghost use Rattle.tui_view_run.specs.Rules.{NameFile};
+ghost use Rattle.tui_view_run.specs.Rules.{AreFrames, NameFile};
 
 use arrayvec::ArrayVec;
 use std::alloc::Global;
 use std::env::Args;
 use std::io;
-use tui_program::{begin, first_words};
+use tui_program::{begin, first_words, is_word};
 
 /// The FILE that the words of the system name, which are `rows` and FILE then. Takes no memory.
 pub fn file_named(alloc: Global, args: io::Result<Args>) -> Option<String>
@@ -19,6 +19,19 @@ pub fn file_named(alloc: Global, args: io::Result<Args>) -> Option<String>
     match args {
         Ok(all) => file_in(first_words(alloc, all)),
         Err(_) => None,
+    }
+}
+
+/// Whether the words of the system are `frames` alone. Takes no memory.
+pub fn are_frames(alloc: Global, args: io::Result<Args>) -> bool
+    ensures { IsTrue result ↔ AreFrames args }
+{
+    match args {
+        Ok(all) => {
+            let words = first_words(alloc, all);
+            is_word(words.as_slice(), "frames")
+        }
+        Err(_) => false,
     }
 }
 

@@ -3,9 +3,16 @@
 ghost use Rattle.std.proofs.Common.{rules};
 
 use crate::command::ViewCommand;
+use crate::frames::Frames;
 use tui_program::Plain;
 
 impl Plain for ViewCommand {
+    ghost same = { Prim.search rules };
+
+    ghost cloned = { Prim.search rules };
+}
+
+impl Plain for Frames {
     ghost same = { Prim.search rules };
 
     ghost cloned = { Prim.search rules };
