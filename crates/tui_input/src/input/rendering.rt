@@ -1,16 +1,16 @@
 //! How a text input is drawn.
 
 ghost use Rattle.std.specs.Option.{option_copied};
-ghost use Rattle.std.specs.Prelude.{◌≡◌, ◌+◌, ◌-◌, ◌≤◌, ◌<◌, [], ◌∷◌, All, IfOk, IsOk, IsTrue, OnOk, map, true, unwrap_or};
+ghost use Rattle.std.specs.Prelude.{◌≡◌, ◌+◌, ◌-◌, ◌≤◌, ◌<◌, [], ◌∷◌, All, IfOk, IsOk, IsTrue, OnErr, OnOk, map, true, unwrap_or};
 ghost use Rattle.tui_cells.specs.Cell.{IsLight, wipe};
 ghost use Rattle.tui_cells.specs.Layers.{KeptOutside, Painted, stroke};
-ghost use Rattle.tui_cells.specs.Rect.{covers, farthest_edge, is_empty};
+ghost use Rattle.tui_cells.specs.Rect.{covers, farthest_edge, intersection_of, is_empty};
 ghost use Rattle.tui_cells.specs.Style.{no_style};
 ghost use Rattle.tui_clusters.specs.Width.{width_of};
 ghost use Rattle.tui_frames.specs.Footprint.{footprint_if};
 ghost use Rattle.tui_frames.specs.InBlock.{inner_of};
-ghost use Rattle.tui_input.specs.Input.{content_layers, has_cell, input_after, input_data, input_layers, room_of, shown_pieces, text_layers};
-ghost use Rattle.tui_input.specs.InputDrawing.{IsLightAround, IsLightText, input_moving};
+ghost use Rattle.tui_input.specs.Input.{InputMoves, content_layers, has_cell, input_after, input_data, input_layers, room_of, shown_pieces, text_layers};
+ghost use Rattle.tui_input.specs.InputDrawing.{IsLightAround, IsLightInput, IsLightText, input_moving};
 ghost use Rattle.tui_input.specs.Scroll.{columns_from, shown, shown_from};
 ghost use Rattle.tui_text.specs.Painting.{cells_at};
 ghost use Rattle.tui_text.specs.Setting.{AreLight, corner, set_cluster, set_clusters, set_end, set_layers};
@@ -217,13 +217,19 @@ impl<'a> StatefulWidget for Input<'a> {
     ghost moving = { λ input. input_moving (input_data input) };
 
     #[tactic(auto, using(crate::proofs::InputMoved::input_moves))]
-    fn render(
-        &self,
-        alloc: Global,
-        area: Rect,
-        buf: &mut Buffer,
-        state: &mut InputState,
-    ) -> Mem<()> {
+    fn render(&self, alloc: Global, area: Rect, buf: &mut Buffer, state: &mut InputState) -> Mem<()>
+        ensures ok { OnOk result (Painted (input_layers (input_data self.now) state.old (intersection_of area buf.old.area)) buf.old buf.new) }
+        ensures state { let i = input_data self.now in
+            OnOk result (state.new ≡ input_after i (inner_of i.block (intersection_of area buf.old.area)) state.old) }
+        ensures shows { OnOk result (InputMoves (input_data self.now) (intersection_of area buf.old.area) state.old state.new) }
+        ensures err { OnErr result (KeptOutside (footprint_if (input_data self.now).block (intersection_of area buf.old.area)) buf.old buf.new) }
+        ensures err_state { OnErr result (state.new ≡ state.old) }
+        ensures empty { IsTrue (is_empty (intersection_of area buf.old.area)) → IsOk result }
+        ensures light { IsLightInput (input_data self.now) → IsOk result }
+
+        // A text whose graphemes are kept in place takes none either.
+        ensures light_text { IsLightAround (input_data self.now) → IsLightText (input_data self.now).mask state.old → IsOk result }
+    {
         let clip = area.intersection(buf.area());
         let first = self.paint_in(alloc, buf, clip, state)?;
         state.show_from(first);
