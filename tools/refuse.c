@@ -1,7 +1,8 @@
 /* Loaded before a program (LD_PRELOAD), it refuses requests for memory: with REFUSE_AT the one of that number, from 1, and no
    other (0: none); else every one once REFUSE_COUNT pieces of REFUSE_SIZE bytes were given. At the end it tells on standard error
    how many requests were met and how many were refused, and with REFUSE_AT who made the refused one: the C library itself, or the
-   program; or whether the program asked once more at once, for as much or for less. */
+   program; or whether the program asked once more at once, for as much or for less. With FAIL_PUT_AT the write to standard output of
+   that number fails, from 1, and no other. */
 #define _GNU_SOURCE
 #include <dlfcn.h>
 #include <errno.h>
@@ -9,6 +10,7 @@
 #include <stdio.h>
 #include <stdlib.h>
 #include <string.h>
+#include <sys/syscall.h>
 #include <unistd.h>
 
 extern void *__libc_malloc(size_t);
@@ -17,6 +19,7 @@ extern void *__libc_realloc(void *, size_t);
 extern void *__libc_memalign(size_t, size_t);
 
 static size_t size, left = 1, at, met, refused;
+static size_t put_at, puts_made;
 static size_t wanted, next_wanted;
 static int one;
 static const void *asker;
@@ -26,6 +29,8 @@ __attribute__((constructor)) static void begin(void)
     const char *text = getenv("REFUSE_AT");
     one = text != NULL;
     at = text ? strtoul(text, NULL, 10) : 0;
+    text = getenv("FAIL_PUT_AT");
+    put_at = text ? strtoul(text, NULL, 10) : 0;
     text = getenv("REFUSE_SIZE");
     size = text ? strtoul(text, NULL, 10) : 0;
     text = getenv("REFUSE_COUNT");
@@ -89,4 +94,13 @@ int posix_memalign(void **place, size_t step, size_t bytes)
         return ENOMEM;
     *place = given;
     return 0;
+}
+
+ssize_t write(int file, const void *bytes, size_t count)
+{
+    if (file == 1 && put_at && ++puts_made == put_at) {
+        errno = EIO;
+        return -1;
+    }
+    return syscall(SYS_write, file, bytes, count);
 }
