@@ -57,3 +57,8 @@ IsFrameOf d old new = ((s : SceneData) × (scene_of d ≡ Ok s) × IsSceneShown 
 abbrev pub IsFrame : List ℕ → Screen → Screen → Type 0
 IsFrame line old new = ((d : Data) × IsUtf8 line × (read line ≡ Some d) × IsFrameOf d old new)
     ⊎ ((IsUtf8 line → read line ≡ None) × Painted (told_layers old.area (codes "refused: not JSON")) old new)
+
+-- what is told behind another told line stands on the screen before both, so on the last good one
+abbrev pub TellsOnTheLast : Type 0
+TellsOnTheLast = (a b c : Screen) (first next : List ℕ) → Painted (told_layers a.area first) a b → Painted (told_layers b.area next) b c →
+    Painted (told_layers a.area next) a c
