@@ -1,0 +1,185 @@
+//! Keys, the screen that they lead to, and the path that is selected then.
+
+use crate::memory::MemFolders;
+use std::alloc::Global;
+use tui_app::run_over;
+use tui_cells::{Buffer, Mem, Position};
+use tui_files_lib::FilesApp;
+
+struct Session {
+    width: u16,
+    reads: &'static [&'static [u8]],
+    rows: [&'static str; 6],
+    chosen: &'static str,
+}
+
+/// In a folder with a hidden folder, one that can't be read, and a name with a control character.
+const SESSIONS: [Session; 9] = [
+    Session {
+        width: 24,
+        reads: &[],
+        rows: [
+            "┌/home─────┐┌docs/─────┐",
+            "│>docs/    ││          │",
+            "│ locked/  ││          │",
+            "│ a.txt    ││          │",
+            "└──────────┘└──────────┘",
+            "1/5, 5 more, 2 not UTF-8",
+        ],
+        chosen: "/home/docs",
+    },
+    // The list scrolls for the selected name; its file can't be read.
+    Session {
+        width: 24,
+        reads: &[b"jj", b"\x1b[B"],
+        rows: [
+            "┌/home─────┐┌b�────────┐",
+            "│ locked/  ││cannot be │",
+            "│ a.txt    ││read      │",
+            "│>b�       ││          │",
+            "└──────────┘└──────────┘",
+            "4/5, 5 more, 2 not UTF-8",
+        ],
+        chosen: "/home/b\u{1}",
+    },
+    // Into a folder.
+    Session {
+        width: 24,
+        reads: &[b"\r"],
+        rows: [
+            "┌/home/docs┐┌list.txt──┐",
+            "│>list.txt ││milk      │",
+            "│ todo     ││    eggs  │",
+            "│          ││          │",
+            "└──────────┘└──────────┘",
+            "1/2                     ",
+        ],
+        chosen: "/home/docs/list.txt",
+    },
+    // Out of two folders, each of which is selected then; there is none above the root.
+    Session {
+        width: 24,
+        reads: &[b"\r", b"\x1b[D\x7f\x7f"],
+        rows: [
+            "┌/─────────┐┌home/─────┐",
+            "│>home/    ││          │",
+            "│          ││          │",
+            "│          ││          │",
+            "└──────────┘└──────────┘",
+            "1/1                     ",
+        ],
+        chosen: "/home",
+    },
+    // A folder that can't be read is told, and not entered.
+    Session {
+        width: 24,
+        reads: &[b"j\r"],
+        rows: [
+            "┌/home─────┐┌locked/───┐",
+            "│ docs/    ││          │",
+            "│>locked/  ││          │",
+            "│ a.txt    ││          │",
+            "└──────────┘└──────────┘",
+            "/home/locked cannot be r",
+        ],
+        chosen: "/home/locked",
+    },
+    // With hidden names the selected one stays.
+    Session {
+        width: 24,
+        reads: &[b"."],
+        rows: [
+            "┌/home─────┐┌docs/─────┐",
+            "│ .git/    ││          │",
+            "│>docs/    ││          │",
+            "│ locked/  ││          │",
+            "└──────────┘└──────────┘",
+            "2/6, 5 more, 2 not UTF-8",
+        ],
+        chosen: "/home/docs",
+    },
+    // A part is typed, in which j and q are characters, and the last ones are taken back.
+    Session {
+        width: 24,
+        reads: &[b"/ra", b"jq\x7f\x7f"],
+        rows: [
+            "┌/home─────┐┌raw───────┐",
+            "│>raw      ││binary    │",
+            "│          ││          │",
+            "│          ││          │",
+            "└──────────┘└──────────┘",
+            "/ra                     ",
+        ],
+        chosen: "/home/raw",
+    },
+    // A file ends the session, and what is read behind it is not looked at.
+    Session {
+        width: 24,
+        reads: &[b"/tx\r", b"\r", b"k"],
+        rows: [
+            "┌/home─────┐┌a.txt─────┐",
+            "│>a.txt    ││a word    │",
+            "│          ││          │",
+            "│          ││          │",
+            "└──────────┘└──────────┘",
+            "1/1, 5 more, 2 not UTF-8",
+        ],
+        chosen: "/home/a.txt",
+    },
+    Session {
+        width: 11,
+        reads: &[b"j"],
+        rows: [
+            "too small  ",
+            "           ",
+            "           ",
+            "           ",
+            "           ",
+            "           ",
+        ],
+        chosen: "/home/locked",
+    },
+];
+
+// The symbols of a row.
+fn row_text(alloc: Global, screen: &Buffer, y: u16) -> Mem<String> {
+    let mut text = String::new(alloc);
+    for x in 0..screen.area().width {
+        if let Some(cell) = screen.cell(Position { x, y }) {
+            text.push_str(cell.symbol())?;
+        }
+    }
+    Ok(text)
+}
+
+fn has_rows(alloc: Global, screen: &Buffer, rows: &[&str]) -> Mem<bool> {
+    for y in 0..6u16 {
+        let text = row_text(alloc, screen, y)?;
+        if rows.get(usize::from(y)).copied() != Some(text.as_str()) {
+            return Ok(false);
+        }
+    }
+    Ok(true)
+}
+
+fn goes_as_said(alloc: Global, session: &Session) -> Mem<bool> {
+    let Some(mut app) = FilesApp::new(alloc, MemFolders {}, "/home")? else {
+        return Ok(false);
+    };
+    let screens = run_over(alloc, &mut app, session.width, 6, session.reads)?;
+    let chosen = app.chosen(alloc)?;
+    match screens.as_slice().last() {
+        Some(screen) => {
+            Ok(has_rows(alloc, screen, &session.rows)? && chosen.as_str() == session.chosen)
+        }
+        None => Ok(false),
+    }
+}
+
+#[test]
+fn sessions(rt: HostRuntime) -> Mem<()> {
+    for session in SESSIONS.iter() {
+        assert!(&rt; goes_as_said(rt.alloc(), session)?);
+    }
+    Ok(())
+}
