@@ -3,8 +3,8 @@
 use crate::typing::send;
 use std::alloc::Global;
 use std::test::Fail;
-use test_help::shows;
-use tui_cells::{Buffer, Mem, Position, Rect, StatefulWidget};
+use test_help::{attributes_at, shows};
+use tui_cells::{Buffer, Color, Mem, Position, Rect, StatefulWidget, Style};
 use tui_frames::Block;
 use tui_input::{Input, InputState};
 use tui_text::Span;
@@ -49,16 +49,20 @@ fn the_cursor_is_seen(rt: HostRuntime) -> Result<(), Fail> {
 #[test]
 fn a_masked_input_in_a_block(rt: HostRuntime) -> Result<(), Fail> {
     let alloc = rt.alloc();
-    let input = Input::new().mask("*").block(Block::bordered(alloc));
+    let input = Input::new()
+        .mask("*")
+        .style(Style::new().fg(Color::Red))
+        .block(Block::bordered(alloc));
     let mut state = InputState::with_text(alloc, 10, "日e\u{301}b")?;
     let area = Rect::new(0, 0, 6, 3);
-    let buffer = draw(alloc, &input, area, &mut state)?;
+    let buffer = draw(alloc, &input.clone()?, area, &mut state)?;
     let rows = "\
 ┌────┐
 │*** │
 └────┘
 ";
     assert!(rt; shows(alloc, &buffer, rows)?);
+    assert!(rt; attributes_at(&buffer, 4, 1).is_some_and(|cell| cell.fg == Color::Red));
     assert!(rt; input.cursor(area, &state) == Some(Position::new(4, 1)));
     assert!(rt; input.cursor(Rect::new(0, 0, 2, 3), &state).is_none());
     Ok(())
