@@ -10,6 +10,7 @@ mod program;
 mod report;
 mod row;
 mod run;
+mod sessions;
 mod tally;
 
 use crate::cases::cases;
@@ -61,10 +62,11 @@ fn check_file<W: Write>(alloc: Global, text: &str, tally: &mut Tally, out: &mut 
 
 /// Writes what a row's run ends with and has written.
 fn run_row<W: Write>(alloc: Global, row: &Row, out: &mut W) -> Result<()> {
-    match (&row.frames, row.each) {
-        (Some(frames), _) => frames.show(alloc, out),
-        (None, Some(each)) => run_each(alloc, row, each, out),
-        (None, None) => run_once(alloc, row, out),
+    match (&row.frames, &row.session, row.each) {
+        (Some(frames), _, _) => frames.show(alloc, out),
+        (None, Some(session), _) => session.show(alloc, out),
+        (None, None, Some(each)) => run_each(alloc, row, each, out),
+        (None, None, None) => run_once(alloc, row, out),
     }
 }
 

@@ -2,6 +2,7 @@
 
 use crate::frames::Frames;
 use crate::program::Program;
+use crate::sessions::Session;
 use anyhow::{Result, bail};
 use serde::Deserialize;
 use std::alloc::{AllocError, Global};
@@ -36,6 +37,8 @@ pub(crate) struct Row {
     pub(crate) each: Option<Each>,
     /// Scenes that a terminal is to show, where no program runs.
     pub(crate) frames: Option<Frames>,
+    /// A pager that a terminal's reads move, where no program runs.
+    pub(crate) session: Option<Session>,
 }
 
 /// What changes from run to run.
