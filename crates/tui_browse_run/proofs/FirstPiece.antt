@@ -1,16 +1,16 @@
 -- The first piece of a text.
-use Rattle.std.proofs.Common.{◌≡◌, ◌≢◌, ◌==◌, ℕ, zero, suc, ◌+◌, ◌-◌, ◌<◌, ◌≤◌, Bool, true, false, List, [], ◌∷◌, ◌++◌, length, take, drop, get_or, refl, sym, ap, subst, ◌∙◌, arith, inl, inr}
+use Rattle.std.proofs.Common.{◌≡◌, ◌≢◌, ℕ, zero, suc, ◌+◌, ◌-◌, ◌<◌, ◌≤◌, Bool, true, false, List, [], ◌∷◌, length, take, get_or, refl, sym, ap, subst, ◌∙◌, arith, inl, inr}
 use Rattle.std.specs.Prelude.{slice_index, min}
 use Rattle.std.specs.Char.{len_utf8}
 use Rattle.std.specs.Str.{IsCharBoundary, IsUtf8}
 use Rattle.std.proofs.lemmas.Bool.{cases_lt}
 use Rattle.std.proofs.Math.Utf8.{encodes}
-use Rattle.std.proofs.lemmas.List.{get_or-take, length-take-le, take_all}
+use Rattle.std.proofs.lemmas.List.{get_or-take, length-take-le}
 use Rattle.std.proofs.lemmas.List.Sums.{count_by_more_yes, count_by_more_no}
-use Rattle.std.proofs.lemmas.Str.{IsCharBoundary-after_ascii, IsCharBoundary-end, IsCharBoundary-past_char, len_utf8_bounds}
+use Rattle.std.proofs.lemmas.Str.{IsCharBoundary-after_ascii, IsCharBoundary-past_char, len_utf8_bounds}
 use Rattle.tui_browse_run.proofs.Counting.{feeds_yes}
 use Rattle.tui_browse_run.specs.Cuts.{AreWholeLines}
-use Rattle.tui_browse_run.specs.Pieces.{EndsPiece, Fits, FitsChars, FitsLines, IsGreatest, feeds, is_feed}
+use Rattle.tui_browse_run.specs.Pieces.{EndsPiece, Fits, FitsChars, FitsLines, feeds, is_feed}
 
 -- more bytes have more line feeds
 one_more : (text : List ℕ) (n : ℕ) (b : Bool) → is_feed (get_or text n 0) ≡ b → n < length text → feeds (take n text) ≤ feeds (take (n + 1) text)

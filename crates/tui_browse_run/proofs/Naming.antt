@@ -1,9 +1,9 @@
 -- What the first words name.
-use Rattle.std.proofs.Common.{◌≡◌, ◌<◌, ℕ, List, [], ◌∷◌, length, take, map, codes, String, Global, string_bytes, sym, ap, subst, ◌∙◌, arith, inl, inr}
+use Rattle.std.proofs.Common.{◌≡◌, ◌<◌, ℕ, List, [], ◌∷◌, length, take, codes, String, Global, string_bytes, sym, ap, subst, ◌∙◌, arith, inl, inr}
 use Rattle.std.proofs.lemmas.Bool.{cases_lt}
 use Rattle.std.proofs.lemmas.List.{length-map, length-take-le, take_all}
 use Rattle.tui_browse_run.specs.Ends.{EndsBy}
-use Rattle.tui_browse_run.specs.Words.{NameNone, Names, NamesFile}
+use Rattle.tui_browse_run.specs.Words.{Names, NamesFile}
 use Rattle.tui_browse_run.specs.declared.ended.BrowseEnded.{BrowseEnded}
 use Rattle.tui_browse_run.specs.declared.form.Form.{Form}
 use Rattle.tui_browse_run.specs.declared.form.Form.TheVariants.{Entries, Text}

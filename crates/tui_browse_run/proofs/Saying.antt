@@ -1,5 +1,5 @@
 -- What a run over a file that says one thing is over a file that says another.
-use Rattle.std.proofs.Common.{◌≡◌, ℕ, List, [], ◌∷◌, map, Result, Ok, Err, refl, sym, ap, subst, ◌∙◌, inl, inr}
+use Rattle.std.proofs.Common.{◌≡◌, ℕ, List, [], ◌∷◌, map, Ok, Err, refl, sym, ap, subst}
 use Rattle.std.specs.Prelude.{Some, IsUtf8}
 use Rattle.serde_json.specs.Data.{Data}
 use Rattle.serde_json.specs.Read.{read}
@@ -9,13 +9,12 @@ use Rattle.tui_app.specs.declared.ending.AppEnd.{AppEnd}
 use Rattle.tui_app.specs.declared.ending.AppEnd.TheVariants as ends
 use Rattle.tui_browse_lib.specs.Paging.{first_of, paging}
 use Rattle.tui_browse_lib.specs.declared.paging.PagerApp.{PagerApp}
-use Rattle.tui_browse_run.specs.Ends.{EndsOver, Refuses, refused, shown, wanting}
+use Rattle.tui_browse_run.specs.Ends.{EndsOver, refused, shown, wanting}
 use Rattle.tui_browse_run.specs.Input.{Said, SaysEntries, SaysPieces, SaysText, SaysValue, entries_of}
 use Rattle.tui_browse_run.specs.Pieces.{AreAllPieces, entry_of, piece_data}
 use Rattle.tui_browse_run.specs.Shown.{IsShown, app_of}
 use Rattle.tui_browse_run.specs.declared.ended.BrowseEnded.{BrowseEnded}
 use Rattle.tui_browse_run.specs.declared.piece.Piece.{Piece}
-use Rattle.tui_browse_run.specs.declared.refusal.Refusal.{Refusal}
 use Rattle.tui_browse_run.specs.declared.refusal.Refusal.TheVariants.{TooLong, NotJson, NotText, BadInput}
 use Rattle.tui_browse_run.specs.declared.setting.Setting.{Setting}
 use Rattle.tui_cells.specs.Rect.{area_of}

@@ -1,6 +1,7 @@
 //! The program that browses: a file in a pager that keys move, from the words, the file and what the terminal gives to what the terminal is sent.
 #![tactic(auto)]
 
+mod browsing;
 mod cutting;
 mod ended;
 mod entries;
@@ -15,7 +16,6 @@ mod refusal;
 mod session;
 mod setting;
 mod text_entry;
-mod texts;
 mod words;
 
 pub use ended::BrowseEnded;

@@ -3,11 +3,11 @@
 ghost use Rattle.tui_browse_run.specs.Ends.{EndsBy, EndsFrom, EndsReading, EndsUsage};
 ghost use Rattle.tui_program.specs.Transcript.{transcript_of};
 
+use crate::browsing::browse_bytes;
 use crate::ended::{BrowseEnded, refuse};
 use crate::form::Form;
 use crate::refusal::Refusal;
 use crate::setting::Setting;
-use crate::texts::browse_bytes;
 use crate::words::form_of;
 use std::alloc::Global;
 use std::env::Args;

@@ -1,5 +1,5 @@
 use Rattle.tui_browse_run.proofs.Saying.{over_text}
-use Rattle.tui_browse_run.proofs.texts.browse_text.Goals as goal
+use Rattle.tui_browse_run.proofs.browsing.browse_text.Goals as goal
 use Rattle.tui_browse_run.specs.Ends.{refused}
 use Rattle.tui_browse_run.specs.declared.refusal.Refusal.TheVariants.{NotText}
 

@@ -1,5 +1,5 @@
 use Rattle.tui_browse_run.proofs.Saying.{over_entries, unput}
-use Rattle.tui_browse_run.proofs.texts.browse_lent.Goals as goal
+use Rattle.tui_browse_run.proofs.browsing.browse_lent.Goals as goal
 use Rattle.tui_browse_run.specs.Ends.{wanting}
 
 pub returns-in-Ok : goal.returns-in-Ok

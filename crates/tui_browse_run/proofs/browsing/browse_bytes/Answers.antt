@@ -1,4 +1,4 @@
-use Rattle.tui_browse_run.proofs.texts.browse_bytes.Goals as goal
+use Rattle.tui_browse_run.proofs.browsing.browse_bytes.Goals as goal
 
 pub returns-in-Entries : goal.returns-in-Entries
 returns-in-Entries g c = rw c.in-Entries.is c.browse_json.ensures

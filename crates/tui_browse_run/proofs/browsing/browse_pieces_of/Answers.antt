@@ -1,6 +1,6 @@
 use Rattle.std.proofs.Common.{Err, ap}
 use Rattle.tui_browse_run.proofs.Saying.{over_pieces, unput}
-use Rattle.tui_browse_run.proofs.texts.browse_pieces_of.Goals as goal
+use Rattle.tui_browse_run.proofs.browsing.browse_pieces_of.Goals as goal
 use Rattle.tui_browse_run.specs.Ends.{refused, wanting}
 use Rattle.tui_browse_run.specs.declared.refusal.Refusal.TheVariants.{TooLong}
 

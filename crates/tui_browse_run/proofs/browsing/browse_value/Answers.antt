@@ -1,7 +1,7 @@
 use Rattle.std.proofs.Common.{map}
 use Rattle.serde_json.specs.View.{view}
 use Rattle.tui_browse_run.proofs.Saying.{over_value, unput}
-use Rattle.tui_browse_run.proofs.texts.browse_value.Goals as goal
+use Rattle.tui_browse_run.proofs.browsing.browse_value.Goals as goal
 use Rattle.tui_browse_run.specs.Ends.{refused, wanting}
 use Rattle.tui_browse_run.specs.declared.refusal.Refusal.TheVariants.{BadInput}
 use Rattle.tui_pager_lib.specs.Entry.{entry_data}

@@ -1,7 +1,7 @@
 use Rattle.std.proofs.Common.{Err, ap}
 use Rattle.serde_json.specs.View.{view}
 use Rattle.tui_browse_run.proofs.Saying.{over_json, unput}
-use Rattle.tui_browse_run.proofs.texts.browse_json.Goals as goal
+use Rattle.tui_browse_run.proofs.browsing.browse_json.Goals as goal
 use Rattle.tui_browse_run.specs.Ends.{refused, wanting}
 use Rattle.tui_browse_run.specs.declared.refusal.Refusal.TheVariants.{NotJson}
 

@@ -1,5 +1,5 @@
 use Rattle.std.proofs.Common.{map, refl}
-use Rattle.tui_browse_run.proofs.texts.browse_entries.Goals as goal
+use Rattle.tui_browse_run.proofs.browsing.browse_entries.Goals as goal
 use Rattle.tui_browse_run.specs.Ends.{shown}
 use Rattle.tui_pager_lib.specs.Entry.{entry_data}
 
