@@ -1,5 +1,5 @@
 -- Two cells that show the same, and rows of them.
-use Rattle.std.proofs.Common.{◌≡◌, sym, ◌∙◌}
+use Rattle.std.proofs.Common.{◌≡◌, ℕ, List, ap, sym, ◌∙◌}
 use Rattle.tui_cells.specs.Attributes.{look_of}
 use Rattle.tui_cells.specs.Cell.{Look}
 use Rattle.tui_cells.specs.declared.attributes.Attributes.{Attributes}
@@ -11,3 +11,6 @@ pub attributes_told : (a b : Look) (x y : Attributes) → look_of a.symbol x ≡
 attributes_told a b x y ex ey e =
     let looks : look_of a.symbol x ≡ look_of b.symbol y = ex ∙ (e ∙ sym ey) in
     λ i. record { fg = (looks i).fg; bg = (looks i).bg; modifier = record { bits = (looks i).modifier } }
+
+pub told_of_parts : (a : Look) (symbol : List ℕ) (x : Attributes) → a ≡ look_of symbol x → look_of a.symbol x ≡ a
+told_of_parts a symbol x e = ap (λ k. look_of k.symbol x) e ∙ sym e

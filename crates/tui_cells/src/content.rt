@@ -89,9 +89,17 @@ fn shared(attributes: Attributes, symbol: &Rc<String>) -> Mem<Content>
     }
 }
 
-// A comparison of texts is a call, which a single byte needs not.
+// Lengths first: most symbols have one.
 #[inline]
 fn is_same_text(one: &str, other: &str) -> bool
+    ensures { IsTrue result ↔ (one.now ≡ other.now) }
+{
+    one.len() == other.len() && are_equal(one, other)
+}
+
+// A comparison of texts is a call, which a single byte needs not.
+#[inline]
+fn are_equal(one: &str, other: &str) -> bool
     ensures { IsTrue result ↔ (one.now ≡ other.now) }
 {
     match (one.as_bytes(), other.as_bytes()) {
@@ -169,9 +177,20 @@ impl Content {
         }
     }
 
-    /// Whether both show the same.
+    /// Whether both show the same. Two short ones are compared in place.
     #[inline]
     pub(crate) fn is_same(&self, other: &Content) -> bool
+        ensures { IsTrue result ↔ (content_look self.now ≡ content_look other.now) }
+    {
+        match (self, other) {
+            (Content::Short(a, one), Content::Short(b, two)) => {
+                *a == *b && is_same_text(one.as_str(), two.as_str())
+            }
+            _ => self.is_same_look(other),
+        }
+    }
+
+    fn is_same_look(&self, other: &Content) -> bool
         ensures { IsTrue result ↔ (content_look self.now ≡ content_look other.now) }
     {
         self.attributes() == other.attributes() && is_same_text(self.symbol(), other.symbol())

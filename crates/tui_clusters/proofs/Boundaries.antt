@@ -1,10 +1,10 @@
 -- Behind a boundary the clusters of a text are those of the rest alone: no rule looks past it.
-use Rattle.std.proofs.Common.{◌≡◌, ◌≢◌, ℕ, zero, suc, Bool, true, false, not, ◌&&◌, ◌||◌, List, [], ◌∷◌, ◌++◌, map, take, drop, unwrap_or, refl, sym, ap, ap₂, ◌∙◌, arith, append-nil, append_assoc}
+use Rattle.std.proofs.Common.{◌≡◌, ◌≢◌, ℕ, zero, suc, Bool, true, false, not, ◌&&◌, ◌||◌, List, [], ◌∷◌, ◌++◌, map, take, drop, reverse, unwrap_or, refl, sym, ap, ap₂, ◌∙◌, arith, append-nil, append_assoc}
 use Rattle.std.specs.List.{concat}
 use Rattle.std.specs.Prelude.{if◌then◌else◌, encode_utf8_all}
 use Rattle.std.specs.Str.{IsUtf8, chars, all_scalars}
 use Rattle.std.proofs.lemmas.Bool.{and_parts}
-use Rattle.std.proofs.lemmas.List.{drop-map, map-append, take-append-drop}
+use Rattle.std.proofs.lemmas.List.{drop-map, map-append, reverse-append, take-append-drop}
 use Rattle.std.proofs.lemmas.List.Folds.{concat-append}
 use Rattle.std.proofs.lemmas.Str.{chars-append, chars-encodes, encodes-append, encodes-chars, scalars-chars}
 use Rattle.ucd_breaks.specs.GraphemeClusterBreak.{grapheme_cluster_break}
@@ -150,12 +150,21 @@ module _ (n : ℕ) (before : List ℕ) (a : Apart before n) where
       ap₂ (λ b rest. if b then (y ∷ []) ∷ rest else prepend (y ∷ []) rest) (break_same (y ∷ zs) (ys ++ [])) (cut_same (y ∷ zs) ys)
 
 -- what stands before a boundary doesn't matter to the pieces behind it
-cut-fresh : (before ys : List ℕ) → is_grapheme_break true before ys ≡ true → cut (is_grapheme_break true) before ys [] ≡ cut (is_grapheme_break true) [] ys []
+pub cut-fresh : (before ys : List ℕ) → is_grapheme_break true before ys ≡ true → cut (is_grapheme_break true) before ys [] ≡ cut (is_grapheme_break true) [] ys []
 unfolding cut
 cut-fresh before [] e = refl
 cut-fresh before (n ∷ ys) e =
     let a = apart before n ys e in
     ap₂ (λ b rest. if b then (n ∷ []) ∷ rest else prepend (n ∷ []) rest) (break_same n before a [] (ys ++ [])) (cut_same n before a [] ys)
+
+-- the characters that are read, the last one first
+abbrev onto : List ℕ → List ℕ → List ℕ
+onto [] before = before
+onto (c ∷ cs) before = onto cs (c ∷ before)
+
+onto-reverse : (cs before : List ℕ) → onto cs before ≡ reverse cs ++ before
+onto-reverse [] before = refl
+onto-reverse (c ∷ cs) before = onto-reverse cs (c ∷ before) ∙ sym (ap (λ r. r ++ before) (reverse-append (c ∷ []) cs) ∙ append_assoc (reverse cs) (c ∷ []) before)
 
 cut_some : (before : List ℕ) (x : ℕ) (xs : List ℕ) → cut (is_grapheme_break true) before (x ∷ xs) [] ≢ []
 unfolding cut
@@ -171,31 +180,43 @@ picked-append true part ps qs some = refl
 picked-append false part [] qs some = absurd (some refl)
 picked-append false part (p ∷ ps) qs some = refl
 
-ahead : (x : ℕ) (before xs : List ℕ) (b : ℕ) (ys zs : List ℕ) → is_grapheme_break true (x ∷ before) ((xs ++ b ∷ ys) ++ []) ≡ is_grapheme_break true (x ∷ before) ((xs ++ b ∷ zs) ++ [])
+-- no rule looks further ahead than at one character
+one_ahead : (before : List ℕ) (x : ℕ) (ys zs : List ℕ) → is_grapheme_break true before (x ∷ ys) ≡ is_grapheme_break true before (x ∷ zs)
 unfolding is_grapheme_break
-ahead x before [] b ys zs = refl
-ahead x before (y ∷ xs) b ys zs = refl
+one_ahead [] x ys zs = refl
+one_ahead (c ∷ before) x ys zs = refl
 
 last_one : (x : ℕ) (before : List ℕ) → (x ∷ []) ∷ [] ≡ (if is_grapheme_break true (x ∷ before) [] then (x ∷ []) ∷ [] else prepend (x ∷ []) [])
 unfolding is_grapheme_break
 last_one x before = refl
 
--- at a boundary the pieces are those on both sides
-cut-apart : (before front : List ℕ) (last : ℕ) (ys : List ℕ) → ((others : List ℕ) → is_grapheme_break true (last ∷ others) ys ≡ true)
-    → cut (is_grapheme_break true) before (front ++ last ∷ ys) [] ≡ cut (is_grapheme_break true) before (front ++ last ∷ []) [] ++ cut (is_grapheme_break true) [] ys []
+-- at a boundary the pieces are those on both sides, and those behind it are cut with the characters before it in mind
+cut-seam : (cs before ds : List ℕ) → is_grapheme_break true (onto cs before) ds ≡ true
+    → cut (is_grapheme_break true) before (cs ++ ds) [] ≡ cut (is_grapheme_break true) before cs [] ++ cut (is_grapheme_break true) (onto cs before) ds []
 unfolding cut
-cut-apart before [] last ys e =
-    ap₂ (λ b rest. if b then (last ∷ []) ∷ rest else prepend (last ∷ []) rest)
-    (ap (is_grapheme_break true (last ∷ before)) (append-nil ys) ∙ e before) (cut-fresh (last ∷ before) ys (e before))
-    ∙ ap (λ p. p ++ cut (is_grapheme_break true) [] ys []) (last_one last before)
-cut-apart before (x ∷ xs) last ys e =
+cut-seam [] before ds e = refl
+cut-seam (x ∷ []) before ds e =
+    let rest = cut (is_grapheme_break true) (x ∷ before) ds [] in
+    ap (λ b. if b then (x ∷ []) ∷ rest else prepend (x ∷ []) rest) (ap (is_grapheme_break true (x ∷ before)) (append-nil ds) ∙ e)
+    ∙ ap (λ p. p ++ rest) (last_one x before)
+cut-seam (x ∷ y ∷ xs) before ds e =
     let rule = is_grapheme_break true in
-    ap₂ (λ b rest. if b then (x ∷ []) ∷ rest else prepend (x ∷ []) rest) (ahead x before xs last ys []) (cut-apart (x ∷ before) xs last ys e)
-    ∙ picked-append (rule (x ∷ before) ((xs ++ last ∷ []) ++ [])) (x ∷ []) (cut rule (x ∷ before) (xs ++ last ∷ []) []) (cut rule [] ys []) (some xs)
-  where
-    some : (xs : List ℕ) → cut (is_grapheme_break true) (x ∷ before) (xs ++ last ∷ []) [] ≢ []
-    some [] = cut_some (x ∷ before) last []
-    some (y ∷ xs) = cut_some (x ∷ before) y (xs ++ last ∷ [])
+    let behind = cut rule (onto (y ∷ xs) (x ∷ before)) ds [] in
+    ap₂ (λ b rest. if b then (x ∷ []) ∷ rest else prepend (x ∷ []) rest) (one_ahead (x ∷ before) y ((xs ++ ds) ++ []) (xs ++ [])) (cut-seam (y ∷ xs) (x ∷ before) ds e)
+    ∙ picked-append (rule (x ∷ before) ((y ∷ xs) ++ [])) (x ∷ []) (cut rule (x ∷ before) (y ∷ xs) []) behind (cut_some (x ∷ before) y xs)
+
+-- where a text breaks behind a first part of it, its clusters are those of both parts, each by itself
+pub graphemes-boundary : (text behind : List ℕ) → IsUtf8 text → is_grapheme_break true (reverse (chars text)) (chars behind) ≡ true
+    → graphemes true (text ++ behind) ≡ graphemes true text ++ graphemes true behind
+unfolding segments
+graphemes-boundary text behind u e =
+    let rule = is_grapheme_break true in
+    let read : onto (chars text) [] ≡ reverse (chars text) = onto-reverse (chars text) [] ∙ append-nil (reverse (chars text)) in
+    let here : rule (onto (chars text) []) (chars behind) ≡ true = ap (λ before. rule before (chars behind)) read ∙ e in
+    ap (λ cs. map encode_utf8_all (cut rule [] cs [])) (chars-append text behind u)
+    ∙ (ap (map encode_utf8_all)
+    (cut-seam (chars text) [] (chars behind) here ∙ ap (λ ps. cut rule [] (chars text) [] ++ ps) (cut-fresh (onto (chars text) []) (chars behind) here))
+    ∙ map-append encode_utf8_all (cut rule [] (chars text) []) (cut rule [] (chars behind) []))
 
 -- a boundary behind the first text's last character, whatever stands before that
 pub record IsApart (text behind : List ℕ) : Type 0 where
@@ -206,14 +227,9 @@ pub record IsApart (text behind : List ℕ) : Type 0 where
 
 -- there the clusters are those on both sides
 pub graphemes-apart : (text behind : List ℕ) → IsUtf8 text → IsApart text behind → graphemes true (text ++ behind) ≡ graphemes true text ++ graphemes true behind
-unfolding segments
 graphemes-apart text behind u a =
-    let rule = is_grapheme_break true in
-    ap (λ cs. map encode_utf8_all (cut rule [] cs []))
-    (chars-append text behind u ∙ ap (λ cs. cs ++ chars behind) a.is ∙ append_assoc a.front (a.last ∷ []) (chars behind))
-    ∙ (ap (map encode_utf8_all) (cut-apart [] a.front a.last (chars behind) a.boundary)
-    ∙ map-append encode_utf8_all (cut rule [] (a.front ++ a.last ∷ []) []) (cut rule [] (chars behind) [])
-    ∙ ap (λ cs. map encode_utf8_all (cut rule [] cs []) ++ graphemes true behind) (sym a.is))
+    graphemes-boundary text behind u
+    (ap (λ before. is_grapheme_break true before (chars behind)) (ap reverse a.is ∙ reverse-append a.front (a.last ∷ [])) ∙ a.boundary (reverse a.front))
 
 concat-prepend : (c : ℕ) (rest : List (List ℕ)) → concat (prepend (c ∷ []) rest) ≡ c ∷ concat rest
 concat-prepend c [] = refl

@@ -1,49 +1,32 @@
 -- The heights of records, as they are counted.
 use Rattle.std.proofs.Common.{◌≡◌, ℕ, zero, suc, ◌+◌, ◌<◌, ◌≤◌, min, max, true, false, ◌==◌, List, [], ◌∷◌, length, map, take, drop, get_or}
-use Rattle.std.proofs.Common.{Result, Ok, IfOk, IfSome, refl, sym, ap, ◌∙◌, subst, arith, inl, inr}
+use Rattle.std.proofs.Common.{refl, sym, ap, ◌∙◌, subst, arith, inl, inr}
 use Rattle.std.specs.Prelude.{All, fold, zip, slice_index}
-use Rattle.std.proofs.lemmas.Bool.{cases_lt, cond-true, cond-false}
+use Rattle.std.proofs.lemmas.Bool.{cases_lt, cond-false}
 use Rattle.std.proofs.lemmas.Bool.Decides.{nat_tests}
 use Rattle.std.proofs.lemmas.List.{drop_more, get_or-map, length-map, take_all}
 use Rattle.std.proofs.lemmas.List.Elements.{All-from_recursion, recursion_from_All}
 use Rattle.std.specs.List.{AllByRecursion}
-use Rattle.tui_frames.specs.InBlock.{beside}
 use Rattle.tui_layout.specs.declared.segment.Segment.{Segment}
 use Rattle.tui_para.specs.Hyphens.{at_blanks}
 use Rattle.tui_para.specs.Lines.{GlyphLine}
-use Rattle.tui_para.specs.Paragraph.{ParagraphData, block_rows}
 use Rattle.tui_para.specs.Wrapped.{IsTheOne}
 use Rattle.tui_para.specs.WrappedText.{WrappedText, wrap_text}
 use Rattle.tui_pages_lib.specs.Heights.{IsFirstTooTall, heights_of, cell_height, most_lines, record_height}
-use Rattle.tui_pages_lib.specs.Strokes.{cell_from}
 use Rattle.tui_text.specs.Text.{raw_text}
 use Rattle.tui_clusters.specs.Width.{saturated}
 use Rattle.tui_text.specs.declared.alignment.Alignment.TheVariants.{Left}
 
-zero_test : (w : ℕ) → w ≡ 0 → (w == 0) ≡ true
-zero_test w e = grind (arith, nat_tests)
-
 some_test : (w : ℕ) → 0 < w → (w == 0) ≡ false
 some_test w h = grind (arith, nat_tests)
 
--- what the number of a paragraph's lines is known to be
-abbrev CountsWrapped : {E : Type 0} → ℕ → Result ℕ E → ParagraphData → Type 0
-CountsWrapped w count p =
-    IfSome p.wrap (λ wrap. (lines : List GlyphLine) →
-    WrappedText w wrap p.alignment p.text lines → count ≡ Ok (beside (saturated (length lines)) (block_rows p)))
-
-pub counted : {E : Type 0} (w : ℕ) (count : Result ℕ E) (p : ParagraphData) (cell : List ℕ) → p ≡ cell_from 0 cell →
-    (0 < w → IsTheOne (WrappedText w (at_blanks true) Left (raw_text cell)) (wrap_text w (at_blanks true) Left (raw_text cell))) →
-    (w ≡ 0 → count ≡ Ok 0) → (0 < w → CountsWrapped w count p) → IfOk count (λ n. n ≡ saturated (cell_height w cell))
-counted w count p cell is once none wrapped =
-    let lines = wrap_text w (at_blanks true) Left (raw_text cell) in
-    elim (cases_lt 0 w) [
-      | inl some ↦
-          rw (subst (CountsWrapped w count) is (wrapped some) lines (once some).meets)
-          (ap saturated (sym (cond-false _ 0 (length lines) (some_test w some))))
-      | inr low ↦
-          rw (none (omega arith)) (ap saturated (sym (cond-true _ 0 (length lines) (zero_test w (omega arith)))))
-    ]
+pub counted : (w : ℕ) (count : ℕ) (cell : List ℕ) → 0 < w →
+    IsTheOne (WrappedText w (at_blanks true) Left (raw_text cell)) (wrap_text w (at_blanks true) Left (raw_text cell)) →
+    ((lines : List GlyphLine) → WrappedText w (at_blanks true) Left (raw_text cell) lines → count ≡ saturated (length lines)) →
+    count ≡ saturated (cell_height w cell)
+counted w count cell some once lines =
+    let wrapped = wrap_text w (at_blanks true) Left (raw_text cell) in
+    lines wrapped once.meets ∙ ap saturated (sym (cond-false _ 0 (length wrapped) (some_test w some)))
 
 -- the greatest of numbers that are cut
 greatest_cut : {A : Type 0} (f : A → ℕ) (n : ℕ) (xs : List A) →

@@ -1,6 +1,7 @@
 //! How many lines records have.
 
 ghost use Rattle.std.specs.Prelude.{◌≡◌, ◌≤◌, All, IfOk, MatchOption, map};
+ghost use Rattle.tui_para.specs.Hyphens.{at_blanks};
 ghost use Rattle.tui_para.specs.Paragraph.{paragraph_data};
 ghost use Rattle.tui_pages_lib.specs.Heights.{IsFirstTooTall, heights_of, cell_height, most_lines, record_height};
 ghost use Rattle.tui_pages_lib.specs.Report.{cells_of};
@@ -11,34 +12,40 @@ use crate::records::Record;
 use std::alloc::Global;
 use tui_cells::Mem;
 use tui_layout::Segment;
-use tui_para::{Paragraph, Wrap, text_wraps_exactly_once};
+use tui_para::{Paragraph, Wrap, text_wraps_exactly_once, wrapped_count};
 use tui_text::Text;
 
 /// The most lines that a record may have.
 const MOST_LINES: usize = 4096;
 
-/// A cell, wrapped without the blanks at which its lines break, from one of its lines on.
+/// How cells are wrapped: without the blanks at which their lines break.
+fn cell_wrap() -> Wrap
+    ensures { result ≡ at_blanks true }
+{
+    Wrap {
+        trim: true,
+        hyphens: false,
+    }
+}
+
+/// A cell, wrapped, from one of its lines on.
 pub(crate) fn cell_paragraph<'a>(alloc: Global, cell: &'a str, line: u16) -> Mem<Paragraph<'a>>
     ensures { IfOk result (λ paragraph. paragraph_data paragraph ≡ cell_from line cell.now) }
 {
     let text = Text::raw(alloc, cell)?;
-    Ok(
-        Paragraph::new(text)
-            .wrap(Wrap {
-                trim: true,
-                hyphens: false,
-            })
-            .scroll((line, 0)),
-    )
+    Ok(Paragraph::new(text).wrap(cell_wrap()).scroll((line, 0)))
 }
 
 /// How many lines a cell has in a column of this width, cut at the greatest number of 64 bits.
 fn cell_height(alloc: Global, width: u16, cell: &str) -> Mem<usize>
     ensures { IfOk result (λ count. count ≡ saturated (cell_height width cell.now)) }
 {
+    if width == 0 {
+        return Ok(0);
+    }
     text_wraps_exactly_once();
-    let paragraph = cell_paragraph(alloc, cell, 0)?;
-    paragraph.line_count(alloc, width)
+    let text = Text::raw(alloc, cell)?;
+    Ok(wrapped_count(&text, width, cell_wrap()))
 }
 
 /// How many lines a record has: as many as its tallest cell, and at least one. Cut alike.

@@ -1,8 +1,11 @@
 //! Counting the lines of texts that are wrapped.
 
-ghost use Rattle.std.specs.Prelude.{◌≡◌};
+ghost use Rattle.std.specs.Prelude.{◌≡◌, List, length};
 ghost use Rattle.tui_para.specs.Counting.{wrapped_len, wrapped_text_len};
+ghost use Rattle.tui_para.specs.Lines.{GlyphLine};
+ghost use Rattle.tui_para.specs.WrappedText.{WrappedText};
 ghost use Rattle.tui_text.specs.Line.{line_data};
+ghost use Rattle.tui_text.specs.declared.alignment.Alignment.{Alignment};
 ghost use Rattle.tui_text.specs.Text.{text_data};
 ghost use Rattle.tui_clusters.specs.Width.{saturated};
 
@@ -31,9 +34,12 @@ fn line_count(line: &Line<'_>, base: Style, width: u16, wrap: Wrap) -> usize
     counter.count().max(1)
 }
 
-/// How many lines the text lines are wrapped into together, saturated at the greatest number of 64 bits.
-pub(crate) fn wrapped_count(text: &Text<'_>, width: u16, wrap: Wrap) -> usize
-    ensures { result ≡ saturated (wrapped_text_len width wrap (text_data text.now)) }
+/// How many lines a text is wrapped into, those of its text lines together, saturated at the greatest number of 64 bits. The width is
+/// in columns. It is what a paragraph of the text counts at a width above 0, without the paragraph.
+pub fn wrapped_count(text: &Text<'_>, width: u16, wrap: Wrap) -> usize
+    ensures sum { result ≡ saturated (wrapped_text_len width wrap (text_data text.now)) }
+    ensures lines { (alignment : Alignment) (lines : List GlyphLine) → WrappedText width wrap alignment (text_data text.now) lines
+        → result ≡ saturated (length lines) }
 {
     let base = text.text_style();
     let mut count = 0usize;

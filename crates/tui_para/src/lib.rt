@@ -19,6 +19,7 @@ mod wrapping;
 pub use composer::{LineComposer, WrappedLine};
 pub use counting::counter::Counter;
 pub use counting::line_end::LineEnd;
+pub use counting::wrapped_count;
 pub use laws::{
     text_truncates_exactly_once, text_truncator_lends_one, text_wrapper_lends_one,
     text_wraps_exactly_once, truncates_exactly_once, truncator_lends_some,

@@ -23,6 +23,7 @@ pub use ending::Ending;
 pub use field_line::{put_refused_field, put_refused_in_scene};
 pub use file_source::FileSource;
 pub use job::{Job, run_json};
+pub use json::{JsonError, json_of};
 pub use leftovers::Leftovers;
 pub use numerals::{Numerals, number_after, numbers_after};
 pub use plain::Plain;

@@ -17,10 +17,10 @@ use Rattle.tui_text.specs.Span.{SpanData}
 use Rattle.tui_text.proofs.RowStays.{glyph_stays}
 
 -- a column of a row, with a room that ends in it
-record Inside (row : Rect) (x room : ℕ) : Type 0 where
-  left : row.x ≤ x
-  right : x + room ≤ right_of row
-  high : row.y < bottom_of row
+pub record Inside (row : Rect) (x room : ℕ) : Type 0 where
+  pub left : row.x ≤ x
+  pub right : x + room ≤ right_of row
+  pub high : row.y < bottom_of row
 
 end_from : (x room w : ℕ) (fits : Bool) (end : ℕ) → nat_le w room ≡ fits → x + w ≤ end → end ≤ x + w + (room - w)
     → (x ≤ (if fits then end else x)) × ((if fits then end else x) ≤ x + room)
@@ -68,7 +68,8 @@ fits_stay row x room style c cs true e i rest =
     StayIn-append (one_stays row x room style c (nat_lt 0 (width_of c)) refl i le) (rest (next_inside row x room (width_of c) i le))
 fits_stay row x room style c cs false e i rest = StayIn-none
 
-clusters_stay : (row : Rect) (x room : ℕ) (style : Style) (cs : List (List ℕ)) → Inside row x room → StayIn (covers row) (set_clusters x row.y room style cs)
+-- clusters that are set in a room of a row stay there
+pub clusters_stay : (row : Rect) (x room : ℕ) (style : Style) (cs : List (List ℕ)) → Inside row x room → StayIn (covers row) (set_clusters x row.y room style cs)
 unfolding set_clusters
 clusters_stay row x room style [] i = StayIn-none
 clusters_stay row x room style (c ∷ cs) i =
