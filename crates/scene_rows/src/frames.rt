@@ -19,7 +19,8 @@ use tui_terminal::{Cursor, Depth, Output, Trust, write_changes, write_full, writ
 const ROOM: usize = 65_536;
 
 /// What a full screen begins with. It is written as `tame`.
-const TAME: &[u8] = b"\x18\x1b\\\x1b[?2026l\x1b[?69l\x1b[?6l\x1b[4l\x1b[r\x1b(B\x0f\x1b[?7l";
+pub(crate) const TAME: &str =
+    "\x18\x1b\\\x1b[?2026l\x1b[?69l\x1b[?6l\x1b[4l\x1b[r\x1b(B\x0f\x1b[?7l";
 
 /// Scenes that one terminal shows, and how they are sent.
 #[derive(Drop, Deserialize)]
@@ -159,17 +160,22 @@ fn tell<W: Write>(
         bail!("no room for the frame");
     }
     write!(out, "{word} ")?;
-    let rest = match bytes.strip_prefix(TAME) {
+    let rest = match bytes.strip_prefix(TAME.as_bytes()) {
         Some(rest) => {
             write!(out, "tame ")?;
             rest
         }
         None => bytes,
     };
-    for byte in rest {
+    tell_bytes(out, rest)?;
+    writeln!(out, "")?;
+    Ok(())
+}
+
+pub(crate) fn tell_bytes<W: Write>(out: &mut W, bytes: &[u8]) -> Result<()> {
+    for byte in bytes {
         tell_byte(out, *byte)?;
     }
-    writeln!(out, "")?;
     Ok(())
 }
 

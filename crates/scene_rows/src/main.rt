@@ -4,6 +4,7 @@
 #![tactic(auto)]
 
 mod cases;
+mod displays;
 mod each;
 mod frames;
 mod program;
@@ -62,11 +63,18 @@ fn check_file<W: Write>(alloc: Global, text: &str, tally: &mut Tally, out: &mut 
 
 /// Writes what a row's run ends with and has written.
 fn run_row<W: Write>(alloc: Global, row: &Row, out: &mut W) -> Result<()> {
-    match (&row.frames, &row.session, row.each) {
-        (Some(frames), _, _) => frames.show(alloc, out),
-        (None, Some(session), _) => session.show(alloc, out),
-        (None, None, Some(each)) => run_each(alloc, row, each, out),
-        (None, None, None) => run_once(alloc, row, out),
+    if let Some(frames) = &row.frames {
+        return frames.show(alloc, out);
+    }
+    if let Some(session) = &row.session {
+        return session.show(alloc, out);
+    }
+    if let Some(display) = &row.display {
+        return display.show(alloc, out);
+    }
+    match row.each {
+        Some(each) => run_each(alloc, row, each, out),
+        None => run_once(alloc, row, out),
     }
 }
 

@@ -1,5 +1,6 @@
 //! A row of the data.
 
+use crate::displays::Display;
 use crate::frames::Frames;
 use crate::program::Program;
 use crate::sessions::Session;
@@ -39,6 +40,8 @@ pub(crate) struct Row {
     pub(crate) frames: Option<Frames>,
     /// A pager that a terminal's reads move, where no program runs.
     pub(crate) session: Option<Session>,
+    /// A terminal that gives lines of scenes, where no program runs.
+    pub(crate) display: Option<Display>,
 }
 
 /// What changes from run to run.

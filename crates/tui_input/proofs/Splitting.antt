@@ -7,8 +7,8 @@ use Rattle.std.proofs.lemmas.List.{take-append-drop}
 use Rattle.std.proofs.lemmas.List.Folds.{concat-append}
 use Rattle.std.proofs.lemmas.Str.{IsUtf8-append, IsUtf8-drop, IsCharBoundary-at_seam}
 use Rattle.unicode_segmentation.specs.Grapheme.{graphemes}
-use Rattle.tui_clusters.proofs.Boundaries.{concat-graphemes}
-use Rattle.tui_input.specs.State.{TypedText, text_of, with_sides, cut_out, inserted, without_after}
+use Rattle.tui_clusters.proofs.Boundaries.{concat-graphemes, graphemes-boundary}
+use Rattle.tui_input.specs.State.{AreOfSides, TypedText, text_of, with_sides, cut_out, inserted, without_after}
 use Rattle.tui_input.specs.Ends.{but_last, last_alone, without_last, last_of, without_first, first_of}
 
 but_last-push : (front : List (List ℕ)) (last : List ℕ) → but_last (front ++ last ∷ []) ≡ front
@@ -117,3 +117,7 @@ before_put s new c b a en eb ea uc ua =
     let parts : text_of new ≡ b ++ (encode_utf8 c ++ a) =
     ap text_of en ∙ append_assoc s.before (encode_utf8 c) s.after ∙ ap₂ (λ x y. x ++ (encode_utf8 c ++ y)) (sym eb) behind in
     IsCharBoundary-at_seam (text_of new) b (encode_utf8 c ++ a) parts (IsUtf8-append (encode_utf8 c) a uc ua)
+
+-- where the text breaks at the cursor its clusters are those of both sides
+pub whole_of_sides : (s : TypedText) (b : List ℕ) → b ≡ s.before → IsUtf8 b → AreOfSides s
+whole_of_sides s b e u = graphemes-boundary s.before s.after (subst IsUtf8 e u)

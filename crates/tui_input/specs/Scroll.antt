@@ -1,5 +1,28 @@
 -- The first cluster that is shown: the cursor is seen, and no columns are left free that text could fill.
-use Rattle.std.specs.Prelude.{ℕ, suc, ◌+◌, ◌-◌, ◌<◌, ◌≤◌, min, max, nat_le, nat_lt, true, List, [], ◌∷◌, map, length, take, drop, sum_by, Option, unwrap_or, if◌then◌else◌}
+use Rattle.std.specs.Prelude.{
+  ℕ,
+  suc,
+  ◌+◌,
+  ◌-◌,
+  ◌<◌,
+  ◌≤◌,
+  min,
+  max,
+  nat_le,
+  nat_lt,
+  true,
+  List,
+  [],
+  ◌∷◌,
+  map,
+  length,
+  take,
+  drop,
+  sum_by,
+  Option,
+  unwrap_or,
+  if◌then◌else◌,
+}
 use Rattle.tui_clusters.specs.Width.{width_of}
 use Rattle.tui_input.specs.State.{TypedText}
 use Rattle.tui_layout.specs.Window.{distance}

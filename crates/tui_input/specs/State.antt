@@ -1,9 +1,33 @@
 -- A text with a cursor, and what each edit makes of it.
-use Rattle.std.specs.Prelude.{◌≡◌, ◌≤◌, ℕ, Bool, true, false, not, ◌&&◌, ◌||◌, nat_lt, List, [], ◌∷◌, ◌++◌, length, take, drop, chars, encode_utf8, unwrap_or, if◌then◌else◌}
+use Rattle.std.specs.Prelude.{
+  ◌≡◌,
+  ◌≤◌,
+  ℕ,
+  Bool,
+  true,
+  false,
+  not,
+  ◌&&◌,
+  ◌||◌,
+  nat_lt,
+  List,
+  [],
+  ◌∷◌,
+  ◌++◌,
+  length,
+  take,
+  drop,
+  reverse,
+  chars,
+  encode_utf8,
+  unwrap_or,
+  if◌then◌else◌,
+}
 use Rattle.std.specs.Char.{is_control}
 use Rattle.std.specs.Str.{IsCharBoundary}
 use Rattle.tui_clusters.specs.Shown.{has_control}
 use Rattle.tui_input.specs.Ends.{without_last, last_of, without_first, first_of, is_of_kind, trimmed}
+use Rattle.unicode_segmentation.specs.Grapheme.{graphemes, is_grapheme_break}
 use Rattle.unicode_width.specs.Width.{char_width}
 
 -- the text left of the cursor and the one right of it, each cut into clusters by itself; how many characters it may have; the first
@@ -36,6 +60,14 @@ input_at text at most first pasting = record { before = take at text; after = dr
 -- no text yet
 abbrev pub empty_input : ℕ → TypedText
 empty_input most = record { before = []; after = []; most = most; first = 0; pasting = false }
+
+-- UAX #29 has a boundary at the cursor, between what stands before it, the last character first, and what stands behind it
+abbrev pub breaks_at_cursor : TypedText → Bool
+breaks_at_cursor s = is_grapheme_break true (reverse (chars s.before)) (chars s.after)
+
+-- there the clusters of the text are those of both sides; elsewhere each side is cut by itself all the same
+abbrev pub AreOfSides : TypedText → Type 0
+AreOfSides s = breaks_at_cursor s ≡ true → graphemes true (text_of s) ≡ graphemes true s.before ++ graphemes true s.after
 
 -- ---- moves
 

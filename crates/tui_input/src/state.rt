@@ -4,6 +4,7 @@ ghost use Rattle.std.specs.Prelude.{◌≤◌, ◌≡◌, ◌==◌, ◌++◌, �
 ghost use Rattle.std.specs.Str.{IsCharBoundary, IsUtf8};
 ghost use Rattle.tui_clusters.specs.Shown.{has_control};
 ghost use Rattle.tui_input.specs.State.{
+  AreOfSides,
   cut_out,
   cut_to_end,
   cut_to_start,
@@ -112,13 +113,15 @@ impl InputState {
         self.text().len() == 0
     }
 
-    /// The text left of the cursor, and the one right of it.
+    /// The text left of the cursor, and the one right of it. Where the whole text has a grapheme boundary at the cursor (UAX #29), its
+    /// graphemes are those of both sides.
     pub fn sides(&self) -> (&str, &str)
         ensures before { result.0.now ≡ self.now.before }
         ensures after { result.1.now ≡ self.now.after }
         ensures before_utf8 { IsUtf8 result.0.now }
         ensures plain { has_control (text_of self.now) ≡ false }
         ensures utf8 { IsUtf8 result.1.now }
+        ensures whole { AreOfSides self.now }
     {
         self.text.as_str().split_at(self.at)
     }
