@@ -1,6 +1,6 @@
 //! How many lines records have.
 
-ghost use Rattle.std.specs.Prelude.{◌≡◌, ◌≤◌, All, IfOk, MatchOption, map};
+ghost use Rattle.std.specs.Prelude.{◌≡◌, ◌≤◌, All, IfOk, MatchOption, map, true};
 ghost use Rattle.tui_para.specs.Hyphens.{at_blanks};
 ghost use Rattle.tui_para.specs.Paragraph.{paragraph_data};
 ghost use Rattle.tui_pages_lib.specs.Heights.{IsFirstTooTall, heights_of, cell_height, most_lines, record_height};
