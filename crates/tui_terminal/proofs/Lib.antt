@@ -1,8 +1,9 @@
 mod Bytes
 mod Looks
 pub mod Nearest
-mod PlainRows
-mod PlainWalks
+mod NarrowLooks
+mod NarrowRows
+mod NarrowWalks
 mod RowWalks
 mod SameRows
 mod Styling

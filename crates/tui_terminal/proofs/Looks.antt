@@ -8,7 +8,7 @@ use Rattle.tui_cells.specs.Cell.{Look, space}
 use Rattle.tui_cells.specs.declared.attributes.Attributes.{Attributes}
 use Rattle.tui_text.specs.Visible.{step_of}
 use Rattle.tui_tty.specs.declared.trust.Trust.{Trust}
-use Rattle.tui_tty.specs.Pieces.{Cover, blanked, covered, next_cover, seen, shown, uncovered}
+use Rattle.tui_tty.specs.Pieces.{Cover, blanked, covered, next_cover, seen, shown}
 use Rattle.tui_tty.specs.declared.trust.Trust.TheVariants.{Common, Ascii}
 use Rattle.tui_tty.specs.Symbols.{is_ascii, is_common, is_ended, is_led, is_quiet, is_sendable, is_trusted}
 use Rattle.tui_tty.specs.Terminal.{reach}
@@ -111,20 +111,23 @@ byte_quiet : (b : ℕ) → 32 ≤ b → b ≤ 126 → is_quiet (b ∷ []) ≡ tr
 unfolding is_quiet
 byte_quiet b low high = grind (arith, nat_tests)
 
+pub ascii_quiet : (s : List ℕ) → is_ascii s ≡ true → is_quiet s ≡ true
+ascii_quiet s e = let b = byte_of s e in ap is_quiet b.1.is ∙ byte_quiet b.0 b.1.low b.1.high
+
 pub byte_steps : (s : List ℕ) → is_ascii s ≡ true → step_of s ≡ 1
 byte_steps s e = let b = byte_of s e in ap step_of b.1.is ∙ one_byte b.0 b.1.low b.1.high
 
--- it may be sent wherever a column is left
-pub byte_sendable : (trust : Trust) (room : ℕ) (s : List ℕ) → 0 < room → is_ascii s ≡ true → is_sendable trust room s ≡ true
+-- a trusted symbol of one column may be sent wherever a column is left
+pub one_sendable : (trust : Trust) (room : ℕ) (s : List ℕ) → 0 < room → is_trusted trust s ≡ true → is_quiet s ≡ true → step_of s ≡ 1 → is_sendable trust room s ≡ true
 unfolding is_sendable
-byte_sendable trust room s some e =
-    let b = byte_of s e in
-    let quiet : is_quiet s ≡ true = ap is_quiet b.1.is ∙ byte_quiet b.0 b.1.low b.1.high in
-    let step = byte_steps s e in
+one_sendable trust room s some trusted quiet step =
     let fits : nat_le (step_of s) room ≡ true = (let le : step_of s ≤ room = omega (arith, step) in grind (arith, nat_tests)) in
-    let trusted = ascii_trusted trust s b.0 b.1.is e in
     let either : (is_trusted trust s || ((is_led s && is_ended s) && nat_le (reach s) room)) ≡ true = ap (λ (k : Bool). k || ((is_led s && is_ended s) && nat_le (reach s) room)) trusted in
     and_from (is_quiet s && nat_le (step_of s) room) _ (and_from (is_quiet s) _ quiet fits) either
+
+pub byte_sendable : (trust : Trust) (room : ℕ) (s : List ℕ) → 0 < room → is_ascii s ≡ true → is_sendable trust room s ≡ true
+byte_sendable trust room s some e =
+    let b = byte_of s e in one_sendable trust room s some (ascii_trusted trust s b.0 b.1.is e) (ascii_quiet s e) (byte_steps s e)
 
 pub byte_shown : (trust : Trust) (room : ℕ) (c : Look) (s : List ℕ) (a : Attributes) → 0 < room → s ≡ c.symbol → look_of c.symbol a ≡ c → is_ascii s ≡ true →
     Some (look_of s a) ≡ Some (seen trust room c)
@@ -139,9 +142,3 @@ byte_covers trust room c s some es e =
 -- a cell with it, where the cells lie under none
 pub byte_trusted : (trust : Trust) (s : List ℕ) → is_ascii s ≡ true → is_trusted trust s ≡ true
 byte_trusted trust s e = let b = byte_of s e in ascii_trusted trust s b.0 b.1.is e
-
-pub byte_seen : (trust : Trust) (room : ℕ) (c : Look) → 0 < room → is_ascii c.symbol ≡ true → shown trust uncovered room c ≡ Some c
-byte_seen trust room c some e = sym (shown_open trust uncovered room c refl) ∙ ap Some (seen_true trust room c (byte_sendable trust room c.symbol some e))
-
-pub byte_next : (trust : Trust) (room : ℕ) (c : Look) → 0 < room → is_ascii c.symbol ≡ true → next_cover trust uncovered room c ≡ uncovered
-byte_next trust room c some e = sym (next_open trust uncovered room c refl) ∙ sym (byte_covers trust room c c.symbol some refl e)

@@ -1,13 +1,16 @@
 -- Rows that are the same.
 use Rattle.std.proofs.Common.{◌≡◌, false, subst, inl, inr, ℕ, ◌+◌, Bool, true, not, ◌&&◌, List, [], ◌∷◌, ◌++◌, cond, flat_map, refl, sym, ap, ◌∙◌}
-use Rattle.std.specs.Prelude.{Option, None, Some}
+use Rattle.std.specs.Prelude.{nat_eq, Option, None, Some}
+use Rattle.std.specs.Cmp.Lexicographic.{pointwise}
 use Rattle.std.specs.List.{list_all}
 use Rattle.std.specs.Prelude.{◌↔◌}
 use Rattle.std.proofs.lemmas.Bool.{cases_Bool, cond-true, cond-false, true≢false}
 use Rattle.tui_cells.specs.Cell.{Look}
+use Rattle.tui_cells.specs.contracts.attributes.AttributesPartialEq as attributes
 use Rattle.tui_text.specs.Visible.{Placed}
 use Rattle.tui_tty.specs.declared.output.Output.{Output}
 use Rattle.tui_tty.specs.declared.trust.Trust.{Trust}
+use Rattle.tui_tty.specs.Pens.{attributes_of}
 use Rattle.tui_tty.specs.Spelling.{spelling}
 use Rattle.tui_tty.specs.Symbols.{is_trusted}
 use Rattle.tui_tty_laws.specs.declared.wanted.Wanted.TheVariants.{Changed}
@@ -47,3 +50,6 @@ same_is a b false both = elim (cases_Bool (is_same a b)) [
   | inl on ↦ absurd (true≢false (sym (both.1 (same_look a b on))))
   | inr off ↦ sym off
 ]
+
+pub other_symbol : (a b : Look) → pointwise nat_eq a.symbol b.symbol ≡ false → is_same a b ≡ false
+other_symbol a b e = ap (λ (k : Bool). k && attributes.TheImpl.ghosts.eq (attributes_of a) (attributes_of b)) e

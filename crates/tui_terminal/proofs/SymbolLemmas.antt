@@ -1,5 +1,6 @@
 -- Symbols, byte by byte and character by character.
-use Rattle.std.proofs.Common.{◌≡◌, ℕ, ◌+◌, ◌<◌, ◌≤◌, Bool, true, false, not, ◌&&◌, ◌||◌, ◌==◌, nat_le, List, [], ◌∷◌, ◌++◌, length, map, sum, get_or, take, drop, refl, ap, ◌∙◌, add-one}
+use Rattle.std.proofs.Common.{◌≡◌, ℕ, ◌+◌, ◌<◌, ◌≤◌, Bool, true, false, not, ◌&&◌, ◌||◌, ◌==◌, nat_le, List, [], ◌∷◌, ◌++◌, length, map, sum, get_or, take, drop, refl, sym, ap, ◌∙◌, add-one}
+use Rattle.std.proofs.lemmas.Bool.{true≢false}
 use Rattle.std.proofs.lemmas.List.{drop_all, map_push}
 use Rattle.std.proofs.lemmas.List.Sums.{sum_by_push}
 use Rattle.std.proofs.Math.Seq.{drop-cons}
@@ -44,3 +45,17 @@ among_later (x ∷ xs) ys r c e = or_right (nat_le x.from c && nat_le c x.to) (i
 
 pub ideograph_among : (c : ℕ) → (nat_le 0x4E00 c && nat_le c 0x9FD5) ≡ true → is_among three_byte_trusted c ≡ true
 ideograph_among c e = among_later (take 13 three_byte_trusted) (drop 14 three_byte_trusted) (record { from = 0x4E00; to = 0x9FD5 }) c e
+
+-- ---- what may be sent
+
+-- where a trusted symbol is quiet
+pub sendable_parts : (quiet fits trusted harmless : Bool) → (trusted ≡ true → quiet ≡ true) →
+    ((trusted || (quiet && harmless)) && fits) ≡ ((quiet && fits) && (trusted || harmless))
+sendable_parts true true true harmless e = refl
+sendable_parts true false true harmless e = refl
+sendable_parts false fits true harmless e = absurd (true≢false (sym (e refl)))
+sendable_parts true true false true e = refl
+sendable_parts true true false false e = refl
+sendable_parts true false false true e = refl
+sendable_parts true false false false e = refl
+sendable_parts false fits false harmless e = refl

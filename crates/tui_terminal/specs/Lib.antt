@@ -1,6 +1,7 @@
 pub mod Adding
 pub mod Depth
 pub mod Marks
+pub mod Narrow
 pub mod Risks
 pub mod Seeing
 pub mod Sent

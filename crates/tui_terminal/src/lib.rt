@@ -4,9 +4,9 @@
 mod adding;
 mod colours;
 mod depth;
+mod narrow;
 mod palette;
 mod pens;
-mod plain;
 mod rows;
 mod seeing;
 mod sending;

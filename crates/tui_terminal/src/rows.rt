@@ -3,15 +3,16 @@
 ghost use Rattle.std.specs.Prelude.{◌≡◌, ◌+◌, ◌<◌, ◌≤◌, ◌&&◌, ◌||◌, ℕ, IsTrue, flat_map, length, not};
 ghost use Rattle.std.specs.List.{list_all};
 ghost use Rattle.tui_outside.specs.Gathers.{Gathers};
+ghost use Rattle.tui_terminal.specs.Narrow.{is_narrow};
 ghost use Rattle.tui_terminal.specs.Seeing.{look_in, shown_in};
 ghost use Rattle.tui_terminal.specs.Sent.{is_calm_both, is_of_pass, pass_of, shows_same};
 ghost use Rattle.tui_terminal.specs.Risks.{is_new_risk};
 ghost use Rattle.tui_tty.specs.Spelling.{spelling};
-ghost use Rattle.tui_tty.specs.Symbols.{is_ascii, is_trusted};
+ghost use Rattle.tui_tty.specs.Symbols.{is_trusted};
 ghost use Rattle.tui_tty_laws.specs.Sending.{at_after, nowhere, row_anew, row_changes, send};
 ghost use Rattle.tui_tty_laws.specs.Sent.{changes, is_same, row_shown, sent};
 
-use crate::plain::{is_plain_row, put_all_plain, put_new_plain};
+use crate::narrow::{is_narrow_row, put_all_narrow, put_new_narrow};
 use crate::seeing::{Seen, Under, see};
 use crate::sending::put_if;
 use crate::symbols::{is_same_text, is_trusted};
@@ -33,8 +34,8 @@ pub(crate) fn put_anew<K: Sink>(
     ensures { Gathers (K.told sink.old) (K.told sink.new) print.old print.new
         (flat_map spelling (send output y nowhere (row_anew output.trust left row.now))) }
 {
-    if is_plain_row(row) {
-        put_all_plain(print, output, y, left, row, sink);
+    if is_narrow_row(output.trust, row) {
+        put_all_narrow(print, output, y, left, row, sink);
     } else {
         put_mixed(print, output, y, left, row, sink);
     }
@@ -71,17 +72,17 @@ pub(crate) fn put_changes<K: Sink>(
     ensures { Gathers (K.told sink.old) (K.told sink.new) print.old print.new
         (flat_map spelling (send output y nowhere (row_changes output.trust left old.now new.now))) }
 {
-    if are_plain(old, new) {
-        put_new_plain(print, output, y, left, old, new, sink);
+    if are_narrow(output.trust, old, new) {
+        put_new_narrow(print, output, y, left, old, new, sink);
     } else {
         put_mixed_changes(print, output, y, left, old, new, sink);
     }
 }
 
-fn are_plain(old: &[Cell], new: &[Cell]) -> bool
-    ensures { result ≡ (list_all (λ c. is_ascii c.symbol) old.now && list_all (λ c. is_ascii c.symbol) new.now) }
+fn are_narrow(trust: Trust, old: &[Cell], new: &[Cell]) -> bool
+    ensures { result ≡ (list_all (λ c. is_narrow trust c.symbol) old.now && list_all (λ c. is_narrow trust c.symbol) new.now) }
 {
-    is_plain_row(old) && is_plain_row(new)
+    is_narrow_row(trust, old) && is_narrow_row(trust, new)
 }
 
 // Adds what has changed in a row that may hold any symbols.

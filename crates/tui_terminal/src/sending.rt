@@ -1,14 +1,16 @@
 //! The bytes that send a cell.
 
-ghost use Rattle.std.specs.Prelude.{◌≡◌, ◌+◌, ◌<◌, ◌≤◌, flat_map};
+ghost use Rattle.std.specs.Prelude.{◌≡◌, ◌+◌, ◌<◌, ◌≤◌, [], ◌∷◌, flat_map, if◌then◌else◌};
 ghost use Rattle.tui_cells.specs.Cell.{space};
 ghost use Rattle.tui_outside.specs.Gathers.{Gathers};
 ghost use Rattle.tui_terminal.specs.Seeing.{look_in};
 ghost use Rattle.tui_terminal.specs.Sent.{is_before, is_pen, is_there, placed_at, placed_if};
 ghost use Rattle.tui_text.specs.Visible.{step_of};
+ghost use Rattle.tui_tty.specs.Pens.{paints_of, pen_of};
 ghost use Rattle.tui_tty.specs.Spelling.{spelling};
 ghost use Rattle.tui_tty.specs.Symbols.{is_trusted};
-ghost use Rattle.tui_tty_laws.specs.Sending.{at_after, moves, moves_on, next_at, paints, paints_on, send, send_one};
+ghost use Rattle.tui_tty.specs.Terminal.{across, place};
+ghost use Rattle.tui_tty_laws.specs.Sending.{at_after, moves, next_at, paints, repaints, send, send_one};
 
 use crate::adding::put_repaint;
 use crate::pens::put_pen;
@@ -20,7 +22,7 @@ use tui_tty::{Depth, Output};
 use tui_tty_laws::At;
 
 /// Adds what sends a cell in a column, if it is wanted, and answers what is known of the terminal then.
-#[inline]
+#[inline(always)]
 pub(crate) fn put_if<K: Sink>(
     print: &mut Print,
     output: Output,
@@ -97,7 +99,7 @@ fn put_symbol<K: Sink>(print: &mut Print, symbol: &str, sink: &mut K)
     }
 }
 
-// Moves the cursor, unless it is known to stand there.
+// Moves the cursor, unless it is known to stand there. What is known is handed on in parts, so that it need not stand in memory.
 #[inline(always)]
 fn put_moves<K: Sink>(print: &mut Print, y: usize, at: At, column: usize, sink: &mut K)
     requires { (column < 65536) × (y < 65536) }
@@ -105,17 +107,19 @@ fn put_moves<K: Sink>(print: &mut Print, y: usize, at: At, column: usize, sink: 
         (flat_map spelling (moves y at (placed_at column space at.pen))) }
 {
     if !is_there(at, column) {
-        put_moves_on(print, y, at, column, sink);
+        let before = is_before(at, column);
+        put_moves_on(print, y, before, column, sink);
     }
 }
 
 // Moves the cursor from elsewhere: within the row, if it is known to stand before that.
 #[inline(never)]
-fn put_moves_on<K: Sink>(print: &mut Print, y: usize, at: At, column: usize, sink: &mut K)
+fn put_moves_on<K: Sink>(print: &mut Print, y: usize, before: bool, column: usize, sink: &mut K)
     requires { (column < 65536) × (y < 65536) }
-    ensures { Gathers (K.told sink.old) (K.told sink.new) print.old print.new (flat_map spelling (moves_on y at column)) }
+    ensures { Gathers (K.told sink.old) (K.told sink.new) print.old print.new
+        (flat_map spelling (if before then across column ∷ [] else place column y ∷ [])) }
 {
-    if is_before(at, column) {
+    if before {
         put_across(print, column, sink);
     } else {
         put_place(print, column, y, sink);
@@ -136,7 +140,7 @@ fn is_there(at: At, column: usize) -> bool
     at.placed && at.column == column
 }
 
-// Sets the pen, unless it is known to be this one.
+// Sets the pen, unless it is known to be this one. Handed on in parts too.
 #[inline(always)]
 fn put_paints<K: Sink>(
     print: &mut Print,
@@ -149,7 +153,9 @@ fn put_paints<K: Sink>(
         (flat_map spelling (paints depth at (placed_at 0 space attributes))) }
 {
     if !is_pen(at, attributes) {
-        put_paints_on(print, depth, at, attributes, sink);
+        let painted = at.painted;
+        let pen = at.pen;
+        put_paints_on(print, depth, painted, pen, attributes, sink);
     }
 }
 
@@ -158,14 +164,16 @@ fn put_paints<K: Sink>(
 fn put_paints_on<K: Sink>(
     print: &mut Print,
     depth: Depth,
-    at: At,
+    painted: bool,
+    pen: Attributes,
     attributes: Attributes,
     sink: &mut K,
 )
-    ensures { Gathers (K.told sink.old) (K.told sink.new) print.old print.new (flat_map spelling (paints_on depth at attributes)) }
+    ensures { Gathers (K.told sink.old) (K.told sink.new) print.old print.new
+        (flat_map spelling (if painted then repaints (pen_of depth pen) (pen_of depth attributes) else paints_of (pen_of depth attributes))) }
 {
-    if at.painted {
-        put_repaint(print, depth, at.pen, attributes, sink);
+    if painted {
+        put_repaint(print, depth, pen, attributes, sink);
     } else {
         put_pen(print, depth, attributes, sink);
     }

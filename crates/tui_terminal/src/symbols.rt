@@ -1,7 +1,8 @@
 //! Which symbols are sent, and which of them a terminal is trusted with.
 
-ghost use Rattle.std.specs.Prelude.{◌≡◌, ◌<◌, ◌&&◌, ◌||◌, [], ◌∷◌, nat_eq, nat_le};
+ghost use Rattle.std.specs.Prelude.{◌≡◌, ◌<◌, ◌&&◌, ◌||◌, [], ◌∷◌, nat_eq, nat_le, true};
 ghost use Rattle.std.specs.Cmp.Lexicographic.{pointwise};
+ghost use Rattle.tui_terminal.specs.Narrow.{is_narrow};
 ghost use Rattle.tui_text.specs.Visible.{step_of};
 ghost use Rattle.tui_tty.specs.Symbols.{
   ascii_trusted,
@@ -43,19 +44,58 @@ pub(crate) fn known_of(trust: Trust, symbol: &str) -> Known
     }
 }
 
-/// Whether a symbol of this many columns may be sent, where this many are left in the row.
+/// Whether a symbol of this many columns may be sent, where this many are left in the row. A trusted one holds no control character.
+#[inline]
 pub(crate) fn is_sendable(symbol: &str, room: usize, columns: usize, trusted: bool) -> bool
-    requires { room < 65536 }
+    requires { (room < 65536) × (trusted ≡ true → is_quiet symbol.now ≡ true) }
     ensures { result ≡ ((is_quiet symbol.now && nat_le columns room)
         && (trusted || ((is_led symbol.now && is_ended symbol.now) && nat_le (reach symbol.now) room))) }
 {
-    is_quiet(symbol)
-        && columns <= room
-        && (trusted || (is_led(symbol) && is_ended(symbol) && is_within_reach(symbol, room)))
+    is_allowed(symbol, room, trusted) && columns <= room
+}
+
+#[inline]
+fn is_allowed(symbol: &str, room: usize, trusted: bool) -> bool
+    requires { room < 65536 }
+    ensures { result ≡ (trusted || (is_quiet symbol.now && ((is_led symbol.now && is_ended symbol.now) && nat_le (reach symbol.now) room))) }
+{
+    trusted || is_harmless(symbol, room)
+}
+
+// Whether a symbol that a terminal is not trusted with begins no command and spoils nothing beside it.
+#[inline(never)]
+fn is_harmless(symbol: &str, room: usize) -> bool
+    requires { room < 65536 }
+    ensures { result ≡ (is_quiet symbol.now && ((is_led symbol.now && is_ended symbol.now) && nat_le (reach symbol.now) room)) }
+{
+    is_quiet(symbol) && (is_led(symbol) && is_ended(symbol) && is_within_reach(symbol, room))
+}
+
+/// Whether a terminal is trusted with a symbol that takes one column. Most are printable bytes.
+#[inline(always)]
+pub(crate) fn is_narrow(trust: Trust, symbol: &str) -> bool
+    ensures { result ≡ is_narrow trust symbol.now }
+{
+    is_ascii(symbol) || is_known_narrow(trust, symbol)
+}
+
+#[inline(never)]
+fn is_known_narrow(trust: Trust, symbol: &str) -> bool
+    ensures { result ≡ is_narrow trust symbol.now }
+{
+    is_known_trusted(trust, symbol) && symbol_columns(symbol) == 1
 }
 
 /// Whether a terminal is trusted with a symbol.
+#[inline(always)]
 pub(crate) fn is_trusted(trust: Trust, symbol: &str) -> bool
+    ensures { result ≡ is_trusted trust symbol.now }
+{
+    is_ascii(symbol) || is_known_trusted(trust, symbol)
+}
+
+#[inline(never)]
+fn is_known_trusted(trust: Trust, symbol: &str) -> bool
     ensures { result ≡ is_trusted trust symbol.now }
 {
     match trust {

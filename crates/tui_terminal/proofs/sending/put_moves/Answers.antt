@@ -1,5 +1,7 @@
-use Rattle.std.proofs.Common.{◌≡◌, rules, true, false, sym, ◌∙◌}
+use Rattle.std.proofs.Common.{◌≡◌, Bool, [], ◌∷◌, cond, flat_map, rules, true, false, sym, ap, ◌∙◌}
 use Rattle.tui_outside.proofs.Gathering.{Gathers-none}
+use Rattle.tui_tty.specs.Spelling.{spelling}
+use Rattle.tui_tty.specs.Terminal.{across, place}
 use Rattle.tui_tty_laws.specs.Sending.{moves_on}
 use Rattle.tui_terminal.specs.Sent.{is_there}
 use Rattle.tui_terminal.proofs.Texts.{Gathers-text, left_out, not_left_out}
@@ -9,7 +11,8 @@ pub returns-then-not-is_there : goal.returns-then-not-is_there
 returns-then-not-is_there g c =
     let a = c.args in
     let off : c.is_there.result ≡ false = search rules in
-    Gathers-text (not_left_out (is_there a.at a.column) (moves_on a.y a.at a.column) (sym c.is_there.ensures ∙ off)) c.put_moves_on.ensures
+    Gathers-text (ap (λ (b : Bool). flat_map spelling (cond b (across a.column ∷ []) (place a.column a.y ∷ []))) c.is_before-before.ensures
+    ∙ not_left_out (is_there a.at a.column) (moves_on a.y a.at a.column) (sym c.is_there.ensures ∙ off)) c.put_moves_on.ensures
 
 pub returns-else-not-is_there : goal.returns-else-not-is_there
 returns-else-not-is_there g c =

@@ -4,10 +4,10 @@ use Rattle.tui_tty_laws.specs.declared.at.At.{At}
 use Rattle.tui_tty_laws.specs.declared.wanted.Wanted.TheVariants.{Trusted}
 use Rattle.tui_tty_laws.specs.Sending.{at_after, nowhere}
 use Rattle.tui_terminal.specs.Sent.{placed_if}
-use Rattle.tui_terminal.proofs.PlainWalks.{all_here, plain_begin, plain_cell, plain_done, plain_more, plain_row}
+use Rattle.tui_terminal.proofs.NarrowWalks.{all_here, narrow_begin, narrow_cell, narrow_done, narrow_more, narrow_row}
 use Rattle.tui_terminal.proofs.Texts.{Gathers-text}
 use Rattle.tui_terminal.proofs.Walking.{at_append, at_none, send_more, send_none}
-use Rattle.tui_terminal.proofs.plain.put_all_plain.Goals as goal
+use Rattle.tui_terminal.proofs.narrow.put_all_narrow.Goals as goal
 
 pub columns-init : goal.columns-init
 columns-init g c =
@@ -15,15 +15,15 @@ columns-init g c =
       [],
       Gathers-text (send_none a.output a.y nowhere) (Gathers-none _ _),
       c.nowhere-now.ensures ∙ at_none a.output.trust nowhere,
-      plain_begin a.output.trust Trusted a.left a.row.now a.row.now,
+      narrow_begin a.output.trust Trusted a.left a.row.now a.row.now,
     )
 
-pub put_plain_if-now-requires : goal.put_plain_if-now-requires
-put_plain_if-now-requires g c =
+pub put_narrow_if-now-requires : goal.put_narrow_if-now-requires
+put_narrow_if-now-requires g c =
     let a = c.args in
     let i = c.columns.column in
     let lt : i < length a.row.now = search (rules, arith) in
-    (omega (arith, lt, c.requires.0), c.requires.1, plain_cell a.row.now i c.index-row-column.result lt c.index-row-column.is c.requires.2)
+    (omega (arith, lt, c.requires.0), c.requires.1, narrow_cell a.output.trust a.row.now i c.index-row-column.result lt c.index-row-column.is c.requires.2)
 
 pub columns-preserved : goal.columns-preserved
 columns-preserved g c =
@@ -35,11 +35,11 @@ columns-preserved g c =
     let n = c.index-row-column.result in
     let lt : i < length a.row.now = search (rules, arith) in
     let here = placed_if true (a.left + i) n in
-    let same = all_here a.output.trust (a.left + i) n (plain_cell a.row.now i n lt c.index-row-column.is c.requires.2) in (
+    let same = all_here a.output.trust (a.left + i) n (narrow_cell a.output.trust a.row.now i n lt c.index-row-column.is c.requires.2) in (
       inv.0 ++ here,
-      Gathers-text (send_more a.output a.y nowhere l.now inv.0 here inv.2) (Gathers-then inv.1 c.put_plain_if-now.ensures.put),
-      c.put_plain_if-now.ensures.next ∙ (ap (λ (k : At). at_after a.output.trust k here) inv.2 ∙ sym (at_append a.output.trust nowhere inv.0 here)),
-      plain_more a.output.trust Trusted a.left i a.row.now a.row.now o n here inv.0 _ lt refl c.index-row-column.is c.index-row-column.is same inv.3,
+      Gathers-text (send_more a.output a.y nowhere l.now inv.0 here inv.2) (Gathers-then inv.1 c.put_narrow_if-now.ensures.put),
+      c.put_narrow_if-now.ensures.next ∙ (ap (λ (k : At). at_after a.output.trust k here) inv.2 ∙ sym (at_append a.output.trust nowhere inv.0 here)),
+      narrow_more a.output.trust Trusted a.left i a.row.now a.row.now o n here inv.0 _ lt refl c.index-row-column.is c.index-row-column.is same inv.3,
     )
 
 pub returns : goal.returns
@@ -48,5 +48,5 @@ returns g c =
     let l = c.columns in
     let inv = l.invariant in
     let past : length a.row.now ≤ l.column = search (rules, arith) in
-    let all = plain_done a.output.trust Trusted a.left l.column a.row.now a.row.now inv.0 _ past inv.3 in
-    Gathers-text (plain_row a.output a.y a.left a.row.now inv.0 c.requires.2 all) inv.1
+    let all = narrow_done a.output.trust Trusted a.left l.column a.row.now a.row.now inv.0 _ past inv.3 in
+    Gathers-text (narrow_row a.output a.y a.left a.row.now inv.0 c.requires.2 all) inv.1

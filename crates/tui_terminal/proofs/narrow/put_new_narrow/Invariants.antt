@@ -5,8 +5,8 @@ use Rattle.tui_tty.specs.Spelling.{spelling}
 use Rattle.tui_tty_laws.specs.declared.wanted.Wanted.TheVariants.{Changed}
 use Rattle.tui_tty_laws.specs.Sending.{at_after, nowhere, send}
 use Rattle.tui_tty_laws.specs.Sent.{sent}
-use Rattle.tui_terminal.proofs.PlainRows.{map_some}
-use Rattle.tui_terminal.proofs.plain.put_new_plain.Given as goal
+use Rattle.tui_terminal.proofs.NarrowRows.{map_some}
+use Rattle.tui_terminal.proofs.narrow.put_new_narrow.Given as goal
 
 -- the cells that are sent so far, and those that are still to come
 abbrev pub invariant-columns : goal.invariant-columns

@@ -1,4 +1,4 @@
--- Along the cells of a row of printable bytes.
+-- Along the cells of such a row.
 use Rattle.std.proofs.Common.{◌≡◌, ℕ, zero, suc, ◌+◌, ◌<◌, ◌≤◌, true, not, List, [], ◌∷◌, ◌++◌, length, get_or, drop, flat_map, refl, sym, ap, ◌∙◌, append_assoc, arith}
 use Rattle.std.specs.Prelude.{Option, Some}
 use Rattle.std.specs.List.{list_all}
@@ -9,28 +9,28 @@ use Rattle.tui_text.specs.Visible.{Placed}
 use Rattle.tui_tty.specs.declared.output.Output.{Output}
 use Rattle.tui_tty.specs.declared.trust.Trust.{Trust}
 use Rattle.tui_tty.specs.Spelling.{spelling}
-use Rattle.tui_tty.specs.Symbols.{is_ascii}
 use Rattle.tui_tty_laws.specs.declared.wanted.Wanted.{Wanted}
 use Rattle.tui_tty_laws.specs.declared.wanted.Wanted.TheVariants.{Changed, Trusted}
 use Rattle.tui_tty_laws.specs.Sending.{nowhere, row_anew, send}
 use Rattle.tui_tty_laws.specs.Sent.{changes, is_same, is_shown, row_shown, sent, sent_here}
+use Rattle.tui_terminal.specs.Narrow.{is_narrow}
 use Rattle.tui_terminal.specs.Sent.{placed_if}
-use Rattle.tui_terminal.proofs.Looks.{byte_trusted}
-use Rattle.tui_terminal.proofs.PlainRows.{map_some, plain_sends, plain_shown}
+use Rattle.tui_terminal.proofs.NarrowLooks.{narrow_trusted}
+use Rattle.tui_terminal.proofs.NarrowRows.{map_some, narrow_sends, narrow_shown}
 use Rattle.tui_terminal.proofs.Walking.{dropped}
 
-pub plain_cell : (row : List Look) (i : ℕ) (c : Look) → i < length row → c ≡ get_or row i c → list_all (λ k. is_ascii k.symbol) row ≡ true → is_ascii c.symbol ≡ true
-plain_cell [] i c lt is e = absurd (omega arith)
-plain_cell (x ∷ xs) zero c lt is e = ap (λ (k : Look). is_ascii k.symbol) is ∙ (and_parts (is_ascii x.symbol) (list_all (λ k. is_ascii k.symbol) xs) e).0
-plain_cell (x ∷ xs) (suc i) c lt is e = plain_cell xs i c (omega arith) is (and_parts (is_ascii x.symbol) (list_all (λ k. is_ascii k.symbol) xs) e).1
+pub narrow_cell : (trust : Trust) (row : List Look) (i : ℕ) (c : Look) → i < length row → c ≡ get_or row i c → list_all (λ k. is_narrow trust k.symbol) row ≡ true → is_narrow trust c.symbol ≡ true
+narrow_cell trust [] i c lt is e = absurd (omega arith)
+narrow_cell trust (x ∷ xs) zero c lt is e = ap (λ (k : Look). is_narrow trust k.symbol) is ∙ (and_parts (is_narrow trust x.symbol) (list_all (λ k. is_narrow trust k.symbol) xs) e).0
+narrow_cell trust (x ∷ xs) (suc i) c lt is e = narrow_cell trust xs i c (omega arith) is (and_parts (is_narrow trust x.symbol) (list_all (λ k. is_narrow trust k.symbol) xs) e).1
 
 -- one cell more
-pub plain_more : (trust : Trust) (w : Wanted) (left i : ℕ) (olds news : List Look) (o n : Look) (here done whole : List Placed) →
+pub narrow_more : (trust : Trust) (w : Wanted) (left i : ℕ) (olds news : List Look) (o n : Look) (here done whole : List Placed) →
     i < length news → length olds ≡ length news → o ≡ get_or olds i o → n ≡ get_or news i n → here ≡ sent_here trust w (left + i) (Some o) n →
     done ++ sent trust w (left + i) (map_some (drop i olds)) (map_some (drop i news)) ≡ whole →
     (done ++ here) ++ sent trust w (left + (i + 1)) (map_some (drop (i + 1) olds)) (map_some (drop (i + 1) news)) ≡ whole
 unfolding sent map_some
-plain_more trust w left i olds news o n here done whole lt len eo en eh before =
+narrow_more trust w left i olds news o n here done whole lt len eo en eh before =
     let lt_old : i < length olds = omega arith in
     let os = map_some (drop (i + 1) olds) in
     let ns = map_some (drop (i + 1) news) in
@@ -48,41 +48,41 @@ unfolding sent
 none_left trust w column [] = refl
 none_left trust w column (o ∷ os) = refl
 
-pub plain_done : (trust : Trust) (w : Wanted) (left i : ℕ) (olds news : List Look) (done whole : List Placed) → length news ≤ i →
+pub narrow_done : (trust : Trust) (w : Wanted) (left i : ℕ) (olds news : List Look) (done whole : List Placed) → length news ≤ i →
     done ++ sent trust w (left + i) (map_some (drop i olds)) (map_some (drop i news)) ≡ whole → done ≡ whole
 unfolding map_some
-plain_done trust w left i olds news done whole le before =
+narrow_done trust w left i olds news done whole le before =
     sym (append-nil done)
     ∙ (ap (λ (ps : List Placed). done ++ ps)
     (sym (ap (λ (ns : List Look). sent trust w (left + i) (map_some (drop i olds)) (map_some ns)) (drop_all i news le) ∙ none_left trust w (left + i) (map_some (drop i olds))))
     ∙ before)
 
-pub plain_begin : (trust : Trust) (w : Wanted) (left : ℕ) (olds news : List Look) →
+pub narrow_begin : (trust : Trust) (w : Wanted) (left : ℕ) (olds news : List Look) →
     sent trust w (left + 0) (map_some olds) (map_some news) ≡ sent trust w left (map_some olds) (map_some news)
-plain_begin trust w left olds news = let column : left + 0 ≡ left = omega arith in ap (λ k. sent trust w k (map_some olds) (map_some news)) column
+narrow_begin trust w left olds news = let column : left + 0 ≡ left = omega arith in ap (λ k. sent trust w k (map_some olds) (map_some news)) column
 
 -- what is sent of a cell
 pub new_here : (trust : Trust) (column : ℕ) (o n : Look) (wanted : _) → wanted ≡ not (is_same o n) → placed_if wanted column n ≡ sent_here trust Changed column (Some o) n
 unfolding is_shown
 new_here trust column o n wanted e = ap (λ b. placed_if b column n) e
 
-pub all_here : (trust : Trust) (column : ℕ) (c : Look) → is_ascii c.symbol ≡ true → placed_if true column c ≡ sent_here trust Trusted column (Some c) c
-all_here trust column c e = sym (cond-true _ (record { column = column; cell = c } ∷ []) [] (byte_trusted trust c.symbol e))
+pub all_here : (trust : Trust) (column : ℕ) (c : Look) → is_narrow trust c.symbol ≡ true → placed_if true column c ≡ sent_here trust Trusted column (Some c) c
+all_here trust column c e = sym (cond-true _ (record { column = column; cell = c } ∷ []) [] (narrow_trusted trust c.symbol e))
 
 -- what is sent of a row
-pub plain_changes : (o : Output) (y left : ℕ) (olds news : List Look) (done : List Placed) → list_all (λ k. is_ascii k.symbol) olds ≡ true →
-    list_all (λ k. is_ascii k.symbol) news ≡ true → done ≡ sent o.trust Changed left (map_some olds) (map_some news) →
+pub narrow_changes : (o : Output) (y left : ℕ) (olds news : List Look) (done : List Placed) → list_all (λ k. is_narrow o.trust k.symbol) olds ≡ true →
+    list_all (λ k. is_narrow o.trust k.symbol) news ≡ true → done ≡ sent o.trust Changed left (map_some olds) (map_some news) →
     flat_map spelling (send o y nowhere done) ≡ flat_map spelling (send o y nowhere (changes o.trust left (row_shown o.trust olds) (row_shown o.trust news)))
-plain_changes o y left olds news done eo en e =
-    let first = plain_shown o.trust olds eo in
-    let second = plain_shown o.trust news en in
+narrow_changes o y left olds news done eo en e =
+    let first = narrow_shown o.trust olds eo in
+    let second = narrow_shown o.trust news en in
     ap (λ (ps : List Placed). flat_map spelling (send o y nowhere ps)) (e ∙ sym (λ j. sent o.trust Changed left (first j) (second j)))
 
-pub plain_row : (o : Output) (y left : ℕ) (row : List Look) (done : List Placed) → list_all (λ k. is_ascii k.symbol) row ≡ true →
+pub narrow_row : (o : Output) (y left : ℕ) (row : List Look) (done : List Placed) → list_all (λ k. is_narrow o.trust k.symbol) row ≡ true →
     done ≡ sent o.trust Trusted left (map_some row) (map_some row) →
     flat_map spelling (send o y nowhere done) ≡ flat_map spelling (send o y nowhere (row_anew o.trust left row))
-plain_row o y left row done er e =
-    let is = plain_shown o.trust row er in
+narrow_row o y left row done er e =
+    let is = narrow_shown o.trust row er in
     let all = sent o.trust Trusted left (row_shown o.trust row) (row_shown o.trust row) in
     let trusted : done ≡ all = e ∙ sym (λ j. sent o.trust Trusted left (is j) (is j)) in
-    ap (λ (ps : List Placed). flat_map spelling (send o y nowhere ps)) (trusted ∙ ap (λ (ps : List Placed). ps ++ all) (plain_sends o.trust left row er))
+    ap (λ (ps : List Placed). flat_map spelling (send o y nowhere ps)) (trusted ∙ ap (λ (ps : List Placed). ps ++ all) (narrow_sends o.trust left row er))

@@ -3,20 +3,21 @@ use Rattle.tui_cells.specs.Attributes.{look_of}
 use Rattle.tui_cells.specs.Cell.{Look}
 use Rattle.tui_outside.proofs.Gathering.{Gathers-none}
 use Rattle.tui_tty.specs.Spelling.{spelling}
-use Rattle.tui_tty.specs.Symbols.{is_ascii}
 use Rattle.tui_tty_laws.specs.Sending.{at_after, send}
+use Rattle.tui_terminal.specs.Narrow.{is_narrow}
 use Rattle.tui_terminal.specs.Sent.{placed_if}
-use Rattle.tui_terminal.proofs.Looks.{byte_steps, byte_trusted}
+use Rattle.tui_terminal.proofs.NarrowLooks.{narrow_steps, narrow_trusted}
 use Rattle.tui_terminal.proofs.Texts.{Gathers-text}
 use Rattle.tui_terminal.proofs.Walking.{here_next, here_text, none_next, none_text}
-use Rattle.tui_terminal.proofs.plain.put_plain_if.Goals as goal
+use Rattle.tui_terminal.proofs.narrow.put_narrow_if.Goals as goal
 
 pub put_piece-requires : goal.put_piece-requires
 put_piece-requires g c =
     let a = c.args in
     let s = c.symbol-symbol.result.now in
-    let e : is_ascii s ≡ true = ap is_ascii c.symbol-symbol.ensures.is ∙ c.requires.2 in
-    (omega (arith, c.requires.0), c.requires.1, sym (byte_steps s e), sym (byte_trusted a.output.trust s e))
+    let trust = a.output.trust in
+    let e : is_narrow trust s ≡ true = ap (is_narrow trust) c.symbol-symbol.ensures.is ∙ c.requires.2 in
+    (omega (arith, c.requires.0), c.requires.1, sym (narrow_steps trust s e), sym (narrow_trusted trust s e))
 
 pub returns-then-wanted-clause-next : goal.returns-then-wanted-clause-next
 returns-then-wanted-clause-next g c =
