@@ -1,5 +1,5 @@
 -- Rows of trusted symbols.
-use Rattle.std.proofs.Common.{◌≡◌, ℕ, ◌+◌, ◌-◌, ◌<◌, ◌≤◌, Bool, true, false, not, ◌&&◌, ◌==◌, List, [], ◌∷◌, length, get_or, drop, cond, refl, sym, ap, ◌∙◌, add-one}
+use Rattle.std.proofs.Common.{◌≡◌, ℕ, zero, suc, ◌+◌, ◌-◌, ◌<◌, ◌≤◌, Bool, true, false, not, ◌&&◌, ◌==◌, List, [], ◌∷◌, length, get_or, drop, cond, refl, sym, ap, ◌∙◌, add-one, arith}
 use Rattle.std.specs.Prelude.{Option, None, Some}
 use Rattle.std.specs.List.{list_all}
 use Rattle.std.proofs.lemmas.Bool.{and_from, and_parts}
@@ -29,6 +29,12 @@ trusted_step trust row i c lt is =
 
 pub trusted_end : (trust : Trust) (row : List Look) (i : ℕ) → length row ≤ i → true ≡ list_all (λ k. is_trusted trust k.symbol) (drop i row)
 trusted_end trust row i past = sym (ap (sure trust) (drop_all i row past))
+
+pub trusted_cell : (trust : Trust) (row : List Look) (i : ℕ) (c : Look) → i < length row → c ≡ get_or row i c →
+    list_all (λ k. is_trusted trust k.symbol) row ≡ true → is_trusted trust c.symbol ≡ true
+trusted_cell trust [] i c lt is e = absurd (omega arith)
+trusted_cell trust (x ∷ xs) zero c lt is e = ap (λ (k : Look). is_trusted trust k.symbol) is ∙ (and_parts (is_trusted trust x.symbol) (sure trust xs) e).0
+trusted_cell trust (x ∷ xs) (suc i) c lt is e = trusted_cell trust xs i c (omega arith) is (and_parts (is_trusted trust x.symbol) (sure trust xs) e).1
 
 -- ---- what shows
 

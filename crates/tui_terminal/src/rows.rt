@@ -1,6 +1,6 @@
 //! The rows of a buffer.
 
-ghost use Rattle.std.specs.Prelude.{◌≡◌, ◌+◌, ◌<◌, ◌≤◌, ◌&&◌, ◌||◌, ℕ, IsTrue, flat_map, length, not};
+ghost use Rattle.std.specs.Prelude.{◌≡◌, ◌+◌, ◌<◌, ◌≤◌, ◌&&◌, ◌||◌, ℕ, IsTrue, flat_map, length, not, true};
 ghost use Rattle.std.specs.List.{list_all};
 ghost use Rattle.tui_outside.specs.Gathers.{Gathers};
 ghost use Rattle.tui_terminal.specs.Narrow.{is_narrow};
@@ -99,8 +99,9 @@ fn put_mixed_changes<K: Sink>(
     ensures { Gathers (K.told sink.old) (K.told sink.new) print.old print.new
         (flat_map spelling (send output y nowhere (row_changes output.trust left old.now new.now))) }
 {
-    if is_calm(output.trust, old, new) {
-        put_new(print, output, y, left, old, new, sink);
+    let sure = are_trusted(output.trust, old, new);
+    if is_calm(output.trust, sure, old, new) {
+        put_new(print, output, sure, y, left, old, new, sink);
     } else {
         put_anew(print, output, y, left, new, sink);
     }
@@ -127,7 +128,7 @@ fn put_pass<K: Sink>(
     let mut under = Under::none();
     'columns: for column in 0..row.len() {
         let cell = &row[column];
-        let seen = see(output.trust, under, row.len() - column, cell);
+        let seen = see(output.trust, false, under, row.len() - column, cell);
         let wanted = is_in_pass(risky, seen);
         now = put_if(print, output, y, now, left + column, wanted, seen, sink);
         under = seen.under;
@@ -135,17 +136,19 @@ fn put_pass<K: Sink>(
     now
 }
 
-// Adds the cells of a row that did not show so before.
+// Adds the cells of a row that did not show so before. `sure` says that a terminal is trusted with all symbols of both rows.
 fn put_new<K: Sink>(
     print: &mut Print,
     output: Output,
+    sure: bool,
     y: usize,
     left: usize,
     old: &[Cell],
     new: &[Cell],
     sink: &mut K,
 )
-    requires { (length old.now ≡ length new.now) × (left + length new.now ≤ 65535) × (y < 65536) }
+    requires { (length old.now ≡ length new.now) × (left + length new.now ≤ 65535) × (y < 65536)
+        × (sure ≡ true → (list_all (λ c. is_trusted output.trust c.symbol) old.now && list_all (λ c. is_trusted output.trust c.symbol) new.now) ≡ true) }
     ensures { Gathers (K.told sink.old) (K.told sink.new) print.old print.new (flat_map spelling (send output y nowhere
         (changes output.trust left (row_shown output.trust old.now) (row_shown output.trust new.now)))) }
 {
@@ -155,8 +158,8 @@ fn put_new<K: Sink>(
     'columns: for column in 0..new.len() {
         let cell_old = &old[column];
         let cell = &new[column];
-        let before = see(output.trust, was, new.len() - column, cell_old);
-        let seen = see(output.trust, is, new.len() - column, cell);
+        let before = see(output.trust, sure, was, new.len() - column, cell_old);
+        let seen = see(output.trust, sure, is, new.len() - column, cell);
         let wanted = is_new(before, seen);
         now = put_if(print, output, y, now, left + column, wanted, seen, sink);
         was = before.under;
@@ -165,11 +168,12 @@ fn put_new<K: Sink>(
 }
 
 // Whether no risky symbol comes or goes. In most rows there is none.
-fn is_calm(trust: Trust, old: &[Cell], new: &[Cell]) -> bool
-    requires { (length old.now ≡ length new.now) × (length new.now < 65536) }
+fn is_calm(trust: Trust, sure: bool, old: &[Cell], new: &[Cell]) -> bool
+    requires { (length old.now ≡ length new.now) × (length new.now < 65536)
+        × (sure ≡ true → (list_all (λ c. is_trusted trust c.symbol) old.now && list_all (λ c. is_trusted trust c.symbol) new.now) ≡ true) }
     ensures { (left : ℕ) → result ≡ is_calm_both trust left old.now new.now }
 {
-    if are_trusted(trust, old, new) {
+    if sure {
         true
     } else {
         is_calm_at_each(trust, old, new)
@@ -204,8 +208,8 @@ fn is_calm_at_each(trust: Trust, old: &[Cell], new: &[Cell]) -> bool
     'columns: for column in 0..new.len() {
         let cell_old = &old[column];
         let cell = &new[column];
-        let before = see(trust, was, new.len() - column, cell_old);
-        let seen = see(trust, is, new.len() - column, cell);
+        let before = see(trust, false, was, new.len() - column, cell_old);
+        let seen = see(trust, false, is, new.len() - column, cell);
         if is_alarm(before, seen) {
             return false;
         }

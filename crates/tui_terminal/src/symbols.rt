@@ -33,15 +33,25 @@ pub(crate) struct Known {
     pub trusted: bool,
 }
 
-/// What is known of a symbol.
-pub(crate) fn known_of(trust: Trust, symbol: &str) -> Known
+/// What is known of a symbol. `sure` says that the terminal is known to be trusted with it.
+#[inline]
+pub(crate) fn known_of(trust: Trust, sure: bool, symbol: &str) -> Known
+    requires { sure ≡ true → is_trusted trust symbol.now ≡ true }
     ensures columns { result.columns ≡ step_of symbol.now }
     ensures trusted { result.trusted ≡ is_trusted trust symbol.now }
 {
     Known {
         columns: symbol_columns(symbol),
-        trusted: is_trusted(trust, symbol),
+        trusted: is_surely_trusted(trust, sure, symbol),
     }
+}
+
+#[inline]
+fn is_surely_trusted(trust: Trust, sure: bool, symbol: &str) -> bool
+    requires { sure ≡ true → is_trusted trust symbol.now ≡ true }
+    ensures { result ≡ is_trusted trust symbol.now }
+{
+    sure || is_trusted(trust, symbol)
 }
 
 /// Whether a symbol of this many columns may be sent, where this many are left in the row. A trusted one holds no control character.

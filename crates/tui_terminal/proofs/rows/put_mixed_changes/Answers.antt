@@ -1,4 +1,4 @@
-use Rattle.std.proofs.Common.{◌≡◌, rules, true, false, sym, ap, ◌∙◌, flat_map, List}
+use Rattle.std.proofs.Common.{◌≡◌, rules, true, false, sym, ap, ◌∙◌, flat_map, List, arith}
 use Rattle.std.proofs.lemmas.Bool.{cond-true, cond-false}
 use Rattle.tui_text.specs.Visible.{Placed}
 use Rattle.tui_tty.specs.Spelling.{spelling}
@@ -7,6 +7,12 @@ use Rattle.tui_tty_laws.specs.Sent.{anew, changes, row_shown}
 use Rattle.tui_terminal.specs.Sent.{is_calm_both}
 use Rattle.tui_terminal.proofs.Texts.{Gathers-text}
 use Rattle.tui_terminal.proofs.rows.put_mixed_changes.Goals as goal
+
+pub is_calm-requires : goal.is_calm-requires
+is_calm-requires g c = (c.requires.0, omega (arith, c.requires.1), λ on. sym c.are_trusted-sure.ensures ∙ on)
+
+pub put_new-requires : goal.put_new-requires
+put_new-requires g c = (c.requires.0, c.requires.1, c.requires.2, λ on. sym c.are_trusted-sure.ensures ∙ on)
 
 pub returns-then-is_calm : goal.returns-then-is_calm
 returns-then-is_calm g c =
