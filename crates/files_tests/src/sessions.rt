@@ -14,7 +14,7 @@ struct Session {
 }
 
 /// In a folder with a hidden folder, one that can't be read, and a name with a control character.
-const SESSIONS: [Session; 9] = [
+const SESSIONS: [Session; 10] = [
     Session {
         width: 24,
         reads: &[],
@@ -111,6 +111,20 @@ const SESSIONS: [Session; 9] = [
             "/ra                     ",
         ],
         chosen: "/home/raw",
+    },
+    // Left moves in the part: x stands before the last t.
+    Session {
+        width: 24,
+        reads: &[b"/tt", b"\x1b[Dx"],
+        rows: [
+            "┌/home─────┐┌a.txt─────┐",
+            "│>a.txt    ││a word    │",
+            "│          ││          │",
+            "│          ││          │",
+            "└──────────┘└──────────┘",
+            "/txt                    ",
+        ],
+        chosen: "/home/a.txt",
     },
     // A file ends the session, and what is read behind it is not looked at.
     Session {

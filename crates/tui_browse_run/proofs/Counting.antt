@@ -1,12 +1,21 @@
 -- Line feeds, counted byte by byte.
-use Rattle.std.proofs.Common.{◌≡◌, ◌≢◌, ℕ, ◌+◌, ◌-◌, ◌<◌, true, false, List, length, take, refl, sym, ap, subst, ◌∙◌, arith, inl, inr}
+use Rattle.std.proofs.Common.{◌≡◌, ◌≢◌, ℕ, ◌+◌, ◌-◌, ◌<◌, ◌≤◌, true, false, List, length, take, refl, sym, ap, subst, ◌∙◌, arith, inl, inr}
 use Rattle.std.specs.Prelude.{slice_index}
 use Rattle.std.proofs.lemmas.Bool.{cases_lt}
 use Rattle.std.proofs.lemmas.Bool.Decides.{nat_tests}
 use Rattle.std.proofs.lemmas.List.{take_all}
 use Rattle.std.proofs.lemmas.List.Sums.{count_by_more_yes, count_by_more_no}
-use Rattle.tui_browse_run.specs.Cuts.{AreWholeLines, HasCounted}
+use Rattle.tui_browse_run.specs.Cuts.{AreWholeLines}
 use Rattle.tui_browse_run.specs.Pieces.{feeds, is_feed}
+
+-- The whole lines of some bytes, as `AreWholeLines` has them, while the first i bytes are counted, and are fewer lines than a piece may have.
+pub record HasCounted (bytes : List ℕ) (i n count : ℕ) : Type 0 where
+  pub before : n ≤ i
+  pub below : count < 1000
+  pub counted : count ≡ feeds (take n bytes)
+  pub all : feeds (take i bytes) ≡ count
+  pub ends : 0 < n → slice_index bytes (n - 1) ≡ 10
+  pub none : (k : ℕ) → n ≤ k → k < i → slice_index bytes k ≢ 10
 
 is_feed_yes : (b : ℕ) → b ≡ 10 → is_feed b ≡ true
 is_feed_yes b e = grind (arith, nat_tests)

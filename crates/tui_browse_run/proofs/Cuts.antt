@@ -1,13 +1,18 @@
 -- Pieces, one after another.
-use Rattle.std.proofs.Common.{◌≡◌, ◌≢◌, ◌==◌, ℕ, ◌+◌, ◌≤◌, Bool, true, false, List, [], ◌∷◌, ◌++◌, length, take, drop, map, Bor, refl, sym, ap, subst, ◌∙◌, arith, inl, inr}
+use Rattle.std.proofs.Common.{◌≡◌, ◌≢◌, ◌==◌, ℕ, ◌+◌, ◌*◌, ◌≤◌, Bool, true, false, List, [], ◌∷◌, ◌++◌, length, take, drop, map, Bor, refl, sym, ap, subst, ◌∙◌, arith, inl, inr}
 use Rattle.std.proofs.lemmas.Bool.Decides.{nat_tests}
 use Rattle.std.proofs.lemmas.List.{append-nil, append_assoc, length-append, length-take-le, map-append, take-append-drop}
 use Rattle.std.specs.List.{flat_map}
 use Rattle.std.proofs.lemmas.Grind.{flat_map-append}
 use Rattle.std.proofs.lemmas.List.Sums.{count_by-le-length}
-use Rattle.tui_browse_run.specs.Cuts.{HasCut}
 use Rattle.tui_browse_run.specs.Pieces.{AreAllPieces, HasMorePieces, ArePieces, EndsPiece, PieceData, feeds, is_feed, no_pieces, one_more, piece_data}
 use Rattle.tui_browse_run.specs.declared.piece.Piece.{Piece}
+
+-- so many first pieces of a text
+pub record HasCut (text : List ℕ) (count : ℕ) (pieces : List PieceData) (line : ℕ) (rest : List ℕ) : Type 0 where
+  pub are : ArePieces text pieces line rest
+  pub counted : length pieces ≡ count
+  pub low : line ≤ 1 + count * 65536
 
 pub first_cut : (text : List ℕ) → HasCut text 0 [] 1 text
 first_cut text = record { are = no_pieces; counted = refl; low = omega arith }

@@ -7,7 +7,7 @@ use Rattle.tui_browse_run.specs.Words.{Names, NamesFile}
 use Rattle.tui_browse_run.specs.declared.ended.BrowseEnded.{BrowseEnded}
 use Rattle.tui_browse_run.specs.declared.form.Form.{Form}
 use Rattle.tui_browse_run.specs.declared.form.Form.TheVariants.{Entries, Text}
-use Rattle.tui_browse_run.specs.declared.setting.Setting.{Setting}
+use Rattle.tui_system.specs.declared.settings.Setting.{Setting}
 use Rattle.tui_program.specs.Transcript.{Transcript}
 use Rattle.tui_program.specs.Words.{AreTexts}
 

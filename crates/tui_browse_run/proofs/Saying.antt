@@ -16,7 +16,7 @@ use Rattle.tui_browse_run.specs.Shown.{IsShown, app_of}
 use Rattle.tui_browse_run.specs.declared.ended.BrowseEnded.{BrowseEnded}
 use Rattle.tui_browse_run.specs.declared.piece.Piece.{Piece}
 use Rattle.tui_browse_run.specs.declared.refusal.Refusal.TheVariants.{TooLong, NotJson, NotText, BadInput}
-use Rattle.tui_browse_run.specs.declared.setting.Setting.{Setting}
+use Rattle.tui_system.specs.declared.settings.Setting.{Setting}
 use Rattle.tui_cells.specs.Rect.{area_of}
 use Rattle.tui_outside.proofs.Outside.{Keeps-self}
 use Rattle.tui_outside.specs.Causes.{Told}

@@ -17,7 +17,7 @@ use Rattle.tui_browse_run.specs.declared.ended.BrowseEnded.TheVariants.{Usage, R
 use Rattle.tui_browse_run.specs.declared.form.Form.{Form}
 use Rattle.tui_browse_run.specs.declared.refusal.Refusal.{Refusal}
 use Rattle.tui_browse_run.specs.declared.refusal.Refusal.TheVariants.{TooLong}
-use Rattle.tui_browse_run.specs.declared.setting.Setting.{Setting}
+use Rattle.tui_system.specs.declared.settings.Setting.{Setting}
 use Rattle.tui_outside.specs.Causes.{HasFailed, PutsAll, PutsPart, Told}
 use Rattle.tui_pager_lib.specs.Entry.{EntryData}
 use Rattle.tui_program.specs.Transcript.{ReadPast, ReadWhole, ReadWithin, Transcript, Unput, Unread}

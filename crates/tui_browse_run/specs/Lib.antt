@@ -3,7 +3,6 @@ pub mod Cuts
 pub mod TextEntry
 pub mod Refusals
 pub mod Input
-pub mod Setting
 pub mod Words
 pub mod Shown
 pub mod Ended

@@ -11,12 +11,10 @@ ghost use Rattle.tui_pager_lib.specs.Entry.{entry_data};
 use crate::ended::{BrowseEnded, refuse};
 use crate::entries::read_entries;
 use crate::form::Form;
-use crate::json::{JsonError, json_of};
 use crate::piece::Piece;
 use crate::pieces::{PiecesError, pieces_of};
 use crate::refusal::Refusal;
 use crate::session::show;
-use crate::setting::Setting;
 use crate::text_entry::{TextEntry, lent_entries, text_entries};
 use serde_json::Value;
 use std::alloc::Global;
@@ -24,6 +22,8 @@ use tui_app::Terminal;
 use tui_cells::NoMemory;
 use tui_json::InputError;
 use tui_pager_lib::Entry;
+use tui_program::{JsonError, json_of};
+use tui_system::Setting;
 
 /// Shows what bytes of a form say, or refuses them.
 pub(crate) fn browse_bytes<T: Terminal>(

@@ -7,7 +7,6 @@ use crate::browsing::browse_bytes;
 use crate::ended::{BrowseEnded, refuse};
 use crate::form::Form;
 use crate::refusal::Refusal;
-use crate::setting::Setting;
 use crate::words::form_of;
 use std::alloc::Global;
 use std::env::Args;
@@ -16,6 +15,7 @@ use std::io::ErrorKind;
 use tui_app::Terminal;
 use tui_outside::{ReadEnd, Sink, Source, WriteFault, put_all, read_all};
 use tui_program::first_words;
+use tui_system::Setting;
 
 /// Reads a file to its end, and shows what it holds in a pager on the terminal, until the user quits. The words are FILE, of which the source has the
 /// entries in JSON (docs/PROGRAMS.md), or `--text` and FILE, of which it has the text. What is refused is refused before the terminal is entered, in one

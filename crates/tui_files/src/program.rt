@@ -2,13 +2,13 @@
 
 use crate::command::Command;
 use crate::ended::FilesEnded;
-use crate::setting::Setting;
 use crate::system::SystemFolders;
 use std::fs;
 use tui_app::{AppEnd, Terminal, run};
-use tui_cells::{Mem, NoMemory};
+use tui_cells::Mem;
 use tui_files_lib::FilesApp;
 use tui_outside::{Sink, WriteFault, put_all};
+use tui_system::{Setting, unless_memory};
 
 /// Shows a folder until the user quits, and writes the path that is selected then.
 pub(crate) fn browse<T: Terminal>(
@@ -16,11 +16,9 @@ pub(crate) fn browse<T: Terminal>(
     setting: Setting,
     command: &Command,
     terminal: &mut T,
-) -> FilesEnded {
-    let app = match first_app(rt, command) {
-        Ok(Some(app)) => app,
-        Ok(None) => return FilesEnded::ReadFault,
-        Err(NoMemory) => return FilesEnded::NoMemory,
+) -> Mem<FilesEnded> {
+    let Some(app) = first_app(rt, command)? else {
+        return Ok(FilesEnded::ReadFault);
     };
     let mut app = app;
     let end = run(
@@ -33,7 +31,7 @@ pub(crate) fn browse<T: Terminal>(
     );
     match end {
         AppEnd::Quit => tell_chosen(rt, &app, command),
-        end => end.into(),
+        end => Ok(end.into()),
     }
 }
 
@@ -54,7 +52,7 @@ fn first_app<'r>(
         Some(folder) => folder.as_str(),
         None => ".",
     };
-    match fs::canonicalize(rt, named) {
+    match unless_memory(fs::canonicalize(rt, named))? {
         Ok(path) => FilesApp::new(rt.alloc(), SystemFolders { rt }, path.as_str()),
         Err(_) => Ok(None),
     }
@@ -65,18 +63,14 @@ fn tell_chosen(
     rt: &HostRuntime,
     app: &FilesApp<SystemFolders<'_>>,
     command: &Command,
-) -> FilesEnded {
+) -> Mem<FilesEnded> {
     let Some(file) = &command.chosen else {
-        return FilesEnded::Quit;
+        return Ok(FilesEnded::Quit);
     };
-    let Ok(mut path) = app.chosen(rt.alloc()) else {
-        return FilesEnded::NoMemory;
-    };
-    let Ok(()) = path.push('\n') else {
-        return FilesEnded::NoMemory;
-    };
-    match fs::write(rt, file.as_str(), path.as_str()) {
-        Ok(()) => FilesEnded::Quit,
-        Err(_) => FilesEnded::WriteFault,
+    let mut path = app.chosen(rt.alloc())?;
+    path.push('\n')?;
+    match unless_memory(fs::write(rt, file.as_str(), path.as_str()))? {
+        Ok(()) => Ok(FilesEnded::Quit),
+        Err(_) => Ok(FilesEnded::WriteFault),
     }
 }

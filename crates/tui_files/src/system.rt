@@ -4,8 +4,9 @@ use std::alloc::Global;
 use std::fs::{DirEntry, File};
 use std::io::{ErrorKind, Read};
 use std::{fs, io};
-use tui_cells::{Mem, NoMemory};
+use tui_cells::Mem;
 use tui_files_lib::{Folders, HEAD_BYTES, Kind, Listing, MOST_NAMES, Name};
+use tui_system::unless_memory;
 
 /// The folders of the system that `rt` stands for.
 #[derive(Drop)]
@@ -20,12 +21,11 @@ impl<'r> Folders for SystemFolders<'r> {
             beyond: 0,
             odd: 0,
         };
-        let entries = match fs::read_dir(self.rt, folder) {
-            Ok(entries) => entries,
-            Err(error) => return refused(error),
+        let Ok(entries) = unless_memory(fs::read_dir(self.rt, folder))? else {
+            return Ok(None);
         };
         for entry in entries {
-            match entry {
+            match unless_memory(entry)? {
                 Ok(entry) if listing.names.len() < MOST_NAMES => {
                     let name = self.name_of(alloc, &entry)?;
                     listing.names.push(name)?;
@@ -34,16 +34,16 @@ impl<'r> Folders for SystemFolders<'r> {
                 Err(error) if error.kind() == ErrorKind::InvalidFilename => {
                     listing.odd = listing.odd.saturating_add(1);
                 }
-                Err(error) => return refused(error),
+                Err(_) => return Ok(None),
             }
         }
         Ok(Some(listing))
     }
 
     fn head(&self, alloc: Global, file: &str) -> Mem<Option<Vec<u8>>> {
-        match self.read_head(alloc, file) {
+        match unless_memory(self.read_head(alloc, file))? {
             Ok(head) => Ok(head),
-            Err(error) => refused(error),
+            Err(_) => Ok(None),
         }
     }
 }
@@ -51,7 +51,7 @@ impl<'r> Folders for SystemFolders<'r> {
 impl<'r> SystemFolders<'r> {
     /// A name, with what it leads to. A link to a folder counts as one.
     fn name_of(&self, alloc: Global, entry: &DirEntry<HostRuntime>) -> Mem<Name> {
-        let kind = match fs::metadata(self.rt, entry.path()) {
+        let kind = match unless_memory(fs::metadata(self.rt, entry.path()))? {
             Ok(metadata) if metadata.is_dir() => Kind::Folder,
             _ => Kind::File,
         };
@@ -69,14 +69,5 @@ impl<'r> SystemFolders<'r> {
             .take(HEAD_BYTES as u64)
             .read_to_end(&mut bytes)?;
         Ok(Some(bytes))
-    }
-}
-
-/// None, unless it was memory that was not there.
-fn refused<T>(error: io::Error) -> Mem<Option<T>> {
-    if error.kind() == ErrorKind::OutOfMemory {
-        Err(NoMemory)
-    } else {
-        Ok(None)
     }
 }

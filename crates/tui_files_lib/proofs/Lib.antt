@@ -1,2 +1,4 @@
+pub mod Heeding
 pub mod Selected
 pub mod Shown
+pub mod Typed

@@ -1,5 +1,5 @@
 -- The selected name is seen.
-use Rattle.std.proofs.Common.{◌≡◌, ℕ, ◌-◌, ◌/◌, ◌<◌, ◌≤◌, min, zero, suc, true, false, List, [], ◌∷◌, length, map, Some, refl, arith}
+use Rattle.std.proofs.Common.{◌≡◌, ℕ, ◌-◌, ◌/◌, ◌<◌, ◌≤◌, min, zero, suc, true, false, List, [], ◌∷◌, length, map, Some, refl, sym, ap, ◌∙◌, arith}
 use Rattle.std.specs.Prelude.{slice_index}
 use Rattle.std.proofs.lemmas.Bool.Decides.{nat_tests}
 use Rattle.std.proofs.lemmas.List.{length-map}
@@ -56,9 +56,9 @@ names_seen old new screen room shows =
     }
 
 lives_drawn : (F : Type 0) (begin : FilesApp F) (area : Rect) (reads : List (List ℕ)) (stand : Stand (FilesApp F)) → Lives (files F) begin area reads stand →
-    (old : Browser) × Draws old stand.screen stand.app.browser
-lives_drawn F begin area _ _ (drew stand is) = (begin.browser, is.draws.1)
-lives_drawn F begin area _ _ (lived reads bytes flow old new lives turn) = (turn.moved.browser, turn.draws.1)
+    (old : Browser) × Draws old stand.screen stand.place stand.app.browser
+lives_drawn F begin area _ _ (drew stand is) = (begin.browser, is.draws)
+lives_drawn F begin area _ _ (lived reads bytes flow old new lives turn) = (turn.moved.browser, turn.draws)
 
 pub names_are_shown : (F : Type 0) (o : Output) → WaitingShows (files F) o → NamesAreShown F o
 names_are_shown F o waits begin area stand reads tape sent session =
@@ -67,5 +67,6 @@ names_are_shown F o waits begin area stand reads tape sent session =
     record {
       present = present;
       names = λ room. names_seen drawn.0 stand.app.browser stand.screen room (drawn.1.names room);
-      other = drawn.1.other;
+      cursor = λ room types. ((drawn.1.part room).typed (sym (ap (λ (b : Browser). b.types) drawn.1.stays) ∙ types)).0;
+      other = λ small. (drawn.1.other small).0;
     }

@@ -1,15 +1,18 @@
 -- What a browser draws.
-use Rattle.std.specs.Prelude.{◌≡◌, ℕ, ◌-◌, ◌/◌, ◌&&◌, Bool, true, false, nat_lt, List, [], ◌∷◌, map, None, Some, codes, string_bytes, unwrap_or}
+use Rattle.std.specs.Prelude.{◌≡◌, ℕ, ◌-◌, ◌/◌, ◌&&◌, Bool, true, false, nat_lt, List, [], ◌∷◌, map, Option, None, Some, IsSome, codes, string_bytes, unwrap_or}
 use Rattle.tui_cells.specs.Buffer.{IsFilled, Screen, cell_at}
 use Rattle.tui_cells.specs.Cell.{blank}
 use Rattle.tui_cells.specs.Layers.{Painted, layers_at}
-use Rattle.tui_cells.specs.Rect.{columns_from, covers, rows_from}
+use Rattle.tui_cells.specs.Rect.{columns_from, covers, intersection_of, rows_from}
 use Rattle.tui_cells.specs.Style.{no_style}
+use Rattle.tui_cells.specs.declared.position.Position.{Position}
 use Rattle.tui_cells.specs.declared.rect.Rect.{Rect}
 use Rattle.tui_frames.specs.Block.{BlockData, block_of}
 use Rattle.tui_frames.specs.InBlock.{inner_of}
 use Rattle.tui_files_lib.specs.declared.browser.Browser.{Browser}
 use Rattle.tui_files_lib.specs.declared.rows.Row.{Row}
+use Rattle.tui_input.specs.Input.{InputMoves, bare_input, cursor_in, input_after}
+use Rattle.tui_input.specs.State.{TypedText}
 use Rattle.tui_lists.specs.List.{ListData, ListMoves, list_of}
 use Rattle.tui_lists.specs.ListItem.{ListItemData}
 use Rattle.tui_lists.specs.ListStrokes.{list_layers}
@@ -54,6 +57,10 @@ head_area area = columns_from (rows_from area 0 (area.height - 1)) (area.width /
 abbrev pub status_area : Rect → Rect
 status_area area = rows_from area (area.height - 1) 1
 
+-- the part that is typed behind a slash there
+abbrev pub part_area : Rect → Rect
+part_area area = columns_from (status_area area) 1 (area.width - 1)
+
 -- whether a screen has room for a browser
 abbrev pub has_room : Rect → Bool
 has_room area = nat_lt 11 area.width && nat_lt 4 area.height
@@ -78,8 +85,26 @@ pub record SaysTooSmall (screen : Screen) : Type 0 where
   pub filled : IsFilled before.area blank before
   pub painted : Painted (set_layers before.area (record { x = before.area.x; y = before.area.y }) (styled_text (codes "too small") no_style) 9) before screen
 
--- The names, where there is room, and else that the screen is too small. Of the browser the list's state alone changes, and how far a page goes.
-pub record Draws (old : Browser) (screen : Screen) (new : Browser) : Type 0 where
-  pub stays : new ≡ record old { state = new.state; page = new.page }
+-- A text with a cursor is drawn in an area of a screen, by the state that the drawing leaves, and this is where its cursor is shown.
+pub record TypesIn (area screen : Rect) (was is : TypedText) (place : Option Position) : Type 0 where
+  pub state : is ≡ input_after bare_input (intersection_of area screen) was
+  pub cursor : place ≡ cursor_in bare_input area is
+  pub moves : InputMoves bare_input (intersection_of area screen) was is
+
+-- the cursor of the part is seen, where it is typed
+pub record ShowsCursor (part : TypedText) (screen : Screen) (place : Option Position) : Type 0 where
+  pub cursor : place ≡ cursor_in bare_input (part_area screen.area) part
+  pub seen : IsSome place
+
+-- while the part is typed; else there is no cursor, and the part stays
+pub record DrawsPart (old : Browser) (screen : Screen) (place : Option Position) (new : Browser) : Type 0 where
+  pub typed : old.types ≡ true → ShowsCursor new.part screen place × (new.part ≡ input_after bare_input (part_area screen.area) old.part)
+  pub other : old.types ≡ false → (place ≡ None) × (new.part ≡ old.part)
+
+-- The names and the part, where there is room, and else that the screen is too small. Of the browser the list's state alone changes, how far a page goes, and
+-- from where on the part is shown.
+pub record Draws (old : Browser) (screen : Screen) (place : Option Position) (new : Browser) : Type 0 where
+  pub stays : new ≡ record old { state = new.state; page = new.page; part = new.part }
   pub names : has_room screen.area ≡ true → ShowsNames (names_list new) (selecting old.state) new.state screen
-  pub other : has_room screen.area ≡ false → SaysTooSmall screen
+  pub part : has_room screen.area ≡ true → DrawsPart old screen place new
+  pub other : has_room screen.area ≡ false → SaysTooSmall screen × (place ≡ None) × (new.part ≡ old.part)

@@ -1,5 +1,5 @@
 -- What a session of a browser shows.
-use Rattle.std.specs.Prelude.{⊤, ◌≡◌, ℕ, ◌<◌, true, false, List, length, None, Some}
+use Rattle.std.specs.Prelude.{◌≡◌, ℕ, ◌<◌, true, false, List, length, Some}
 use Rattle.tui_app.specs.Behaviour.{Behaviour}
 use Rattle.tui_app.specs.Lives.{Stand}
 use Rattle.tui_app.specs.Session.{Session}
@@ -9,7 +9,8 @@ use Rattle.tui_cells.specs.Cell.{blank}
 use Rattle.tui_cells.specs.Layers.{layers_at}
 use Rattle.tui_cells.specs.Rect.{covers}
 use Rattle.tui_cells.specs.declared.rect.Rect.{Rect}
-use Rattle.tui_files_lib.specs.Drawing.{Draws, SaysTooSmall, has_room, names_area, names_list}
+use Rattle.tui_files_lib.specs.Browsing.{Steps, flow_of}
+use Rattle.tui_files_lib.specs.Drawing.{Draws, SaysTooSmall, ShowsCursor, has_room, names_area, names_list}
 use Rattle.tui_files_lib.specs.declared.browser.Browser.{Browser}
 use Rattle.tui_files_lib.specs.declared.files.FilesApp.{FilesApp}
 use Rattle.tui_frames.specs.InBlock.{inner_of}
@@ -18,11 +19,11 @@ use Rattle.tui_lists.specs.ListItem.{heights_of}
 use Rattle.tui_lists.specs.ListStrokes.{list_layers}
 use Rattle.tui_tty.specs.declared.output.Output.{Output}
 
--- what a browser draws; the cursor is hidden
+-- what events make of a browser, and what it draws
 abbrev pub files : (F : Type 0) → Behaviour (FilesApp F)
 files F = record {
-  steps = λ old event new flow. ⊤;
-  draws = λ old screen place new. (place ≡ None) × Draws old.browser screen new.browser;
+  steps = λ old event new flow. (flow ≡ flow_of old.browser event) × Steps old.browser event new.browser;
+  draws = λ old screen place new. Draws old.browser screen place new.browser;
 }
 
 -- In the left half of the screen stands the list of the names on blank cells. Where there are names one is selected, and it is one of those that the list draws
@@ -33,10 +34,12 @@ pub record NamesAreSeen (b : Browser) (screen : Screen) : Type 0 where
   pub selected : 0 < length b.rows.items → (place : ℕ) × (b.state.selected ≡ Some place)
       × IsSeen (heights_of (names_list b).items) (inner_of (names_list b).block (names_area screen.area)).height b.state.offset place
 
--- the terminal shows the screen that was drawn last; if that has room for the names they are seen, and else it says that it is too small
+-- The terminal shows the screen that was drawn last; if that has room for the names they are seen, and the cursor of the part while it is typed. Else it says
+-- that it is too small.
 pub record IsOnScreen {F : Type 0} (o : Output) (begin : FilesApp F) (area : Rect) (stand : Stand (FilesApp F)) (reads : List (List ℕ)) (sent : List ℕ) : Type 0 where
   pub present : IsPresent (files F) o begin area stand reads sent
   pub names : has_room stand.screen.area ≡ true → NamesAreSeen stand.app.browser stand.screen
+  pub cursor : has_room stand.screen.area ≡ true → stand.app.browser.types ≡ true → ShowsCursor stand.app.browser.part stand.screen stand.place
   pub other : has_room stand.screen.area ≡ false → SaysTooSmall stand.screen
 
 -- whenever a session of a browser waits for input

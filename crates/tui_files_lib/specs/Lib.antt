@@ -1,2 +1,4 @@
+pub mod Asked
 pub mod Drawing
+pub mod Browsing
 pub mod Laws

@@ -1,11 +1,11 @@
 //! The screen of a browser.
 
-ghost use Rattle.std.specs.Prelude.{◌≡◌, IfOk, OnOk, map};
+ghost use Rattle.std.specs.Prelude.{◌≡◌, None, IfOk, OnOk, false, map, true};
 ghost use Rattle.tui_cells.specs.Buffer.{IsFilled};
 ghost use Rattle.tui_cells.specs.Cell.{blank};
 ghost use Rattle.tui_cells.specs.Layers.{KeptOutside, Painted};
 ghost use Rattle.tui_cells.specs.Rect.{covers, intersection_of};
-ghost use Rattle.tui_files_lib.specs.Drawing.{Draws, SaysTooSmall, ShowsNames, has_room, head_area, list_over, names_area, names_list, row_item, row_label, selecting, status_area, titled_block};
+ghost use Rattle.tui_files_lib.specs.Drawing.{Draws, DrawsPart, SaysTooSmall, ShowsNames, TypesIn, has_room, head_area, list_over, names_area, names_list, part_area, row_item, row_label, selecting, status_area, titled_block};
 ghost use Rattle.tui_frames.specs.Block.{block_data};
 ghost use Rattle.tui_frames.specs.InBlock.{inner_of};
 ghost use Rattle.tui_lists.specs.List.{ListMoves, list_data};
@@ -19,6 +19,7 @@ use crate::rows::Row;
 use std::alloc::Global;
 use tui_cells::{Buffer, Mem, Modifier, Position, Rect, StatefulWidget, Style, Widget};
 use tui_frames::Block;
+use tui_input::{Input, InputState};
 use tui_lists::{List, ListItem, ListState};
 use tui_para::{Paragraph, Wrap};
 use tui_text::{Line, Text, set_stringn_in};
@@ -30,23 +31,26 @@ const LEAST_HEIGHT: u16 = 5;
 
 impl Browser {
     /// Draws into a blank buffer: the names in the left half, the beginning of the selected file beside them, and below both how many names there
-    /// are. Where there is no room for that it says so.
-    pub(crate) fn draw(&mut self, alloc: Global, buf: &mut Buffer) -> Mem<()>
+    /// are, or the part that is typed. Answers where its cursor is shown. Where there is no room for that it says so.
+    pub(crate) fn draw(&mut self, alloc: Global, buf: &mut Buffer) -> Mem<Option<Position>>
         requires { IsFilled buf.old.area blank buf.old }
-        ensures draws { OnOk result (Draws self.old buf.new self.new) }
+        ensures draws { IfOk result (λ place. Draws self.old buf.new place self.new) }
         ensures area { OnOk result (buf.new.area ≡ buf.old.area) }
     {
         if has_room(buf.area()) {
             self.draw_in_room(alloc, buf)
         } else {
-            say_too_small(buf)
+            say_too_small(buf)?;
+            Ok(None)
         }
     }
 
-    fn draw_in_room(&mut self, alloc: Global, buf: &mut Buffer) -> Mem<()>
-        requires { IsFilled buf.old.area blank buf.old }
+    fn draw_in_room(&mut self, alloc: Global, buf: &mut Buffer) -> Mem<Option<Position>>
+        requires filled { IsFilled buf.old.area blank buf.old }
+        requires room { has_room buf.old.area ≡ true }
         ensures names { OnOk result (ShowsNames (names_list self.new) (selecting self.old.state) self.new.state buf.new) }
-        ensures stays { OnOk result (self.new ≡ record self.old { state = self.new.state; page = self.new.page }) }
+        ensures part { IfOk result (λ place. DrawsPart self.old buf.new place self.new) }
+        ensures stays { OnOk result (self.new ≡ record self.old { state = self.new.state; page = self.new.page; part = self.new.part }) }
         ensures area { OnOk result (buf.new.area ≡ buf.old.area) }
     {
         // The shape of the rows is told by their count.
@@ -64,8 +68,8 @@ impl Browser {
             buf,
         )?;
         self.draw_head(alloc, head_area(area), buf)?;
-        self.draw_status(alloc, status_area(area), buf)?;
-        Ok(())
+        let place = self.draw_below(alloc, area, buf)?;
+        Ok(place)
     }
 
     /// The beginning of the selected file, under its name.
@@ -79,22 +83,25 @@ impl Browser {
         draw_text(alloc, title.as_str(), self.head.as_str(), area, buf)
     }
 
-    /// What is told of the names.
-    fn draw_status(&self, alloc: Global, area: Rect, buf: &mut Buffer) -> Mem<()>
-        ensures { OnOk result (KeptOutside (covers area) buf.old buf.new) }
+    /// The last row of a screen's area: the part while it is typed, and else what is told of the names.
+    fn draw_below(&mut self, alloc: Global, area: Rect, buf: &mut Buffer) -> Mem<Option<Position>>
+        ensures kept { OnOk result (KeptOutside (covers (status_area area)) buf.old buf.new) }
+        ensures stays { OnOk result (self.new ≡ record self.old { part = self.new.part }) }
+        ensures typed { IfOk result (λ place. self.old.types ≡ true → TypesIn (part_area area) buf.old.area self.old.part self.new.part place) }
+        ensures other { IfOk result (λ place. self.old.types ≡ false → (place ≡ None) × (self.new.part ≡ self.old.part)) }
     {
+        if self.types {
+            return draw_part(alloc, &mut self.part, area, buf);
+        }
         let status = self.status(alloc)?;
-        draw_line(alloc, status.as_str(), area, buf)
+        draw_line(alloc, status.as_str(), status_area(area), buf)?;
+        Ok(None)
     }
 
-    /// What was refused, or the part that is typed, or the selected row from 1, how many rows there are, and what is not among them.
+    /// What was refused, or the selected row from 1, how many rows there are, and what is not among them.
     fn status(&self, alloc: Global) -> Mem<String> {
         if !self.notice.is_empty() {
             return Ok(String::from_str(alloc, self.notice.as_str())?);
-        }
-        let part = self.wish.part.as_str();
-        if self.types {
-            return Ok(format!(in alloc; "/{part}")?);
         }
         let count = self.rows.len();
         let number = self.row().saturating_add(1).min(count);
@@ -107,6 +114,7 @@ impl Browser {
         if odd > 0 {
             status.push_str(format!(in alloc; ", {odd} not UTF-8")?.as_str())?;
         }
+        let part = self.part.text();
         if !part.is_empty() {
             status.push_str(format!(in alloc; " /{part}")?.as_str())?;
         }
@@ -138,6 +146,30 @@ fn status_area(area: Rect) -> Rect
     ensures { result ≡ status_area area }
 {
     area.rows_from(area.height.saturating_sub(1), 1)
+}
+
+/// Where the part is typed: in the last row, behind a slash.
+fn part_area(area: Rect) -> Rect
+    ensures { result ≡ part_area area }
+{
+    status_area(area).columns_from(1, area.width.saturating_sub(1))
+}
+
+/// A slash and the part in the last row of a screen's area. Answers where the cursor is shown.
+fn draw_part(
+    alloc: Global,
+    part: &mut InputState,
+    area: Rect,
+    buf: &mut Buffer,
+) -> Mem<Option<Position>>
+    ensures kept { OnOk result (KeptOutside (covers (status_area area)) buf.old buf.new) }
+    ensures typed { IfOk result (λ place. TypesIn (part_area area) buf.old.area part.old part.new place) }
+{
+    draw_line(alloc, "/", status_area(area), buf)?;
+    let input = Input::new();
+    let inside = part_area(area);
+    StatefulWidget::render(&input, alloc, inside, buf, part)?;
+    Ok(input.cursor(inside, part))
 }
 
 /// A text, wrapped, in borders with a title.

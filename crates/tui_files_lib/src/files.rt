@@ -1,5 +1,11 @@
 //! The app.
 
+ghost use Rattle.std.specs.Path.{path_file_name, path_parent};
+ghost use Rattle.std.specs.Prelude.{◌≡◌, None, IfOk, IfSome, OnOk, false, not, string_bytes, true};
+ghost use Rattle.tui_files_lib.specs.Asked.{idle};
+ghost use Rattle.tui_files_lib.specs.Browsing.{Does, GoesOut, Heeds, IsBegun, Narrows, Opens, Takes, chosen_path, flow_of, moved, takes_event, without_part};
+
+use crate::asking::{Asked, Motion, flow_after, idle};
 use crate::browser::Browser;
 use crate::folders::{Folders, Kind};
 use crate::naming::{head_text, path_of, without_controls};
@@ -18,7 +24,9 @@ pub struct FilesApp<F> {
 
 impl<F: Folders + Drop> FilesApp<F> {
     /// A browser of a folder by its path from the root; None where it can't be read.
-    pub fn new(alloc: Global, folders: F, folder: &str) -> Mem<Option<FilesApp<F>>> {
+    pub fn new(alloc: Global, folders: F, folder: &str) -> Mem<Option<FilesApp<F>>>
+        ensures { IfOk result (λ opened. IfSome opened (λ app. IsBegun folder.now app.browser)) }
+    {
         match folders.list(alloc, folder)? {
             None => Ok(None),
             Some(listing) => {
@@ -31,7 +39,9 @@ impl<F: Folders + Drop> FilesApp<F> {
     }
 
     /// The path that is selected; that of the folder where no name is.
-    pub fn chosen(&self, alloc: Global) -> Mem<String> {
+    pub fn chosen(&self, alloc: Global) -> Mem<String>
+        ensures { IfOk result (λ path. string_bytes path ≡ chosen_path self.now.browser) }
+    {
         match self.browser.selected() {
             Some(name) => path_of(alloc, self.browser.folder.as_str(), name.text.as_str()),
             None => Ok(String::from_str(alloc, self.browser.folder.as_str())?),
@@ -39,25 +49,31 @@ impl<F: Folders + Drop> FilesApp<F> {
     }
 
     /// Reads the beginning of the selected file.
-    fn read_head(&mut self, alloc: Global) -> Mem<()> {
-        let is_file = match self.browser.selected() {
-            Some(name) => name.kind == Kind::File,
-            None => false,
-        };
-        self.browser.head = if is_file {
-            let path = self.chosen(alloc)?;
-            match self.folders.head(alloc, path.as_str())? {
-                Some(bytes) => head_text(alloc, &bytes)?,
-                None => String::from_str(alloc, "cannot be read")?,
-            }
-        } else {
-            String::new(alloc)
-        };
+    fn read_head(&mut self, alloc: Global) -> Mem<()>
+        ensures { OnOk result (self.new ≡ record self.old { browser = record self.old.browser { head = self.new.browser.head } }) }
+    {
+        let head = self.head(alloc)?;
+        self.browser.head = head;
         Ok(())
     }
 
+    /// The beginning of the selected file as it is shown; nothing of a folder.
+    fn head(&self, alloc: Global) -> Mem<String> {
+        match self.browser.kind() {
+            Some(Kind::File) => {}
+            _ => return Ok(String::new(alloc)),
+        }
+        let path = self.chosen(alloc)?;
+        match self.folders.head(alloc, path.as_str())? {
+            Some(bytes) => head_text(alloc, &bytes),
+            None => Ok(String::from_str(alloc, "cannot be read")?),
+        }
+    }
+
     /// Shows a folder, unless it can't be read.
-    fn open(&mut self, alloc: Global, folder: String, name: &str) -> Mem<()> {
+    fn open(&mut self, alloc: Global, folder: String, name: &str) -> Mem<()>
+        ensures { OnOk result (Opens (string_bytes folder) self.old.browser self.new.browser) }
+    {
         match self.folders.list(alloc, folder.as_str())? {
             Some(listing) => {
                 self.browser.show(alloc, folder, listing, name)?;
@@ -71,22 +87,19 @@ impl<F: Folders + Drop> FilesApp<F> {
         }
     }
 
-    /// Goes into the selected folder. A file ends the session.
-    fn go_in(&mut self, alloc: Global) -> Mem<Flow> {
-        let kind = match self.browser.selected() {
-            Some(name) => name.kind,
-            None => return Ok(Flow::Go),
-        };
-        if kind == Kind::File {
-            return Ok(Flow::Quit);
-        }
+    /// Goes into the selected folder.
+    fn go_in(&mut self, alloc: Global) -> Mem<()>
+        ensures { OnOk result (Opens (chosen_path self.old.browser) self.old.browser self.new.browser) }
+    {
         let folder = self.chosen(alloc)?;
-        self.open(alloc, folder, "")?;
-        Ok(Flow::Go)
+        self.open(alloc, folder, "")
     }
 
     /// Goes out of the folder, which is selected then.
-    fn go_out(&mut self, alloc: Global) -> Mem<()> {
+    fn go_out(&mut self, alloc: Global) -> Mem<()>
+        ensures { let folder = string_bytes self.old.browser.folder in
+            OnOk result (GoesOut (path_parent folder) (path_file_name folder) self.old.browser self.new.browser) }
+    {
         let left = String::from_str(alloc, self.browser.folder.as_str())?;
         let path = Path::new(left.as_str());
         match (path.parent(), path.file_name()) {
@@ -99,72 +112,95 @@ impl<F: Folders + Drop> FilesApp<F> {
     }
 
     /// Shows the names that are wanted now. The selected one stays, if it is among them.
-    fn narrow(&mut self, alloc: Global) -> Mem<()> {
+    fn narrow(&mut self, alloc: Global) -> Mem<()>
+        ensures { OnOk result (Narrows self.old.browser self.new.browser) }
+    {
         let place = self.browser.place();
         self.browser.narrow(alloc, place)?;
         self.read_head(alloc)
     }
 
-    /// A key that moves the selection.
-    fn move_by(&mut self, alloc: Global, event: Event) -> Mem<()> {
-        let row = self.browser.row();
-        let page = self.browser.page;
-        let moved = match event {
-            Event::Down | Event::Char('j') => row.saturating_add(1),
-            Event::Up | Event::Char('k') => row.saturating_sub(1),
-            Event::PageDown => row.saturating_add(page),
-            Event::PageUp => row.saturating_sub(page),
-            Event::Home => 0,
-            Event::End => usize::MAX,
-            _ => return Ok(()),
-        };
-        self.browser.select(moved);
-        self.read_head(alloc)
-    }
-
-    /// A key while the list is browsed.
-    fn browse(&mut self, alloc: Global, event: Event) -> Mem<Flow> {
-        match event {
-            Event::Char('q') => return Ok(Flow::Quit),
-            Event::Enter => return self.go_in(alloc),
-            Event::Left | Event::Backspace => self.go_out(alloc)?,
-            Event::Char('.') => {
-                self.browser.wish.hidden = !self.browser.wish.hidden;
-                self.narrow(alloc)?;
-            }
-            Event::Char('/') => self.browser.types = true,
-            Event::Esc => self.want_all(alloc)?,
-            _ => self.move_by(alloc, event)?,
-        }
-        Ok(Flow::Go)
-    }
-
-    /// A key while the part is typed that names are wanted with.
-    // Here tui_input's `InputState` shall take the events.
-    fn narrow_by(&mut self, alloc: Global, event: Event) -> Mem<()> {
-        match event {
-            Event::Char(character) => {
-                self.browser.wish.part.push(character)?;
-                self.narrow(alloc)
-            }
-            Event::Backspace => {
-                self.browser.wish.part.pop();
-                self.narrow(alloc)
-            }
-            Event::Enter => {
-                self.browser.types = false;
-                Ok(())
-            }
-            Event::Esc => self.want_all(alloc),
-            _ => self.move_by(alloc, event),
-        }
+    /// Shows the names that begin with a dot, or hides them.
+    fn turn_hidden(&mut self, alloc: Global) -> Mem<()>
+        ensures { OnOk result (Narrows (record self.old.browser { hidden = not self.old.browser.hidden }) self.new.browser) }
+    {
+        self.browser.hidden = !self.browser.hidden;
+        self.narrow(alloc)
     }
 
     /// Drops the part that names are wanted with.
-    fn want_all(&mut self, alloc: Global) -> Mem<()> {
-        self.browser.types = false;
-        self.browser.wish.part.clear();
+    fn drop_part(&mut self, alloc: Global) -> Mem<()>
+        ensures { OnOk result (Narrows (without_part self.old.browser) self.new.browser) }
+    {
+        self.browser.drop_part(alloc);
         self.narrow(alloc)
+    }
+
+    /// Moves the selection.
+    fn move_by(&mut self, alloc: Global, motion: Motion) -> Mem<()>
+        ensures { OnOk result (self.new.browser ≡ record self.old.browser { state = moved motion self.old.browser; head = self.new.browser.head }) }
+    {
+        let row = self.browser.row_after(motion);
+        self.browser.select(row);
+        self.read_head(alloc)
+    }
+
+    /// Gives an event to the part, where keys make it up, and answers whether it is one of its own.
+    fn take(&mut self, alloc: Global, event: Event) -> Mem<bool>
+        ensures used { IfOk result (λ used. used ≡ takes_event self.old.browser event) }
+        ensures takes { OnOk result (takes_event self.old.browser event ≡ true → Takes event self.old.browser self.new.browser) }
+        ensures stays { OnOk result (takes_event self.old.browser event ≡ false → self.new.browser ≡ self.old.browser) }
+    {
+        if !self.browser.types {
+            return Ok(false);
+        }
+        let before = self.browser.part.text().len();
+        if !self.browser.part.take(event)? {
+            return Ok(false);
+        }
+        // One event makes a text longer or shorter, or it leaves it as it is.
+        if self.browser.part.text().len() == before {
+            return Ok(true);
+        }
+        self.narrow(alloc)?;
+        Ok(true)
+    }
+
+    /// Does what is asked.
+    fn follow(&mut self, alloc: Global, asked: Asked) -> Mem<()>
+        ensures { OnOk result (Does asked self.old.browser self.new.browser) }
+    {
+        match asked {
+            Asked::GoIn => self.go_in(alloc),
+            Asked::GoOut => self.go_out(alloc),
+            Asked::TurnHidden => self.turn_hidden(alloc),
+            Asked::BeginPart => {
+                self.browser.types = true;
+                Ok(())
+            }
+            Asked::KeepPart => {
+                self.browser.types = false;
+                Ok(())
+            }
+            Asked::DropPart => self.drop_part(alloc),
+            Asked::Move(motion) => self.move_by(alloc, motion),
+            Asked::Nothing | Asked::Quit | Asked::Choose => Ok(()),
+        }
+    }
+
+    /// What an event makes of a browser, of which it asks something. What was refused is told no longer.
+    fn heed(&mut self, alloc: Global, event: Event) -> Mem<Flow>
+        requires { idle event ≡ None }
+        ensures flow { IfOk result (λ flow. flow ≡ flow_of self.old.browser event) }
+        ensures heeds { OnOk result (Heeds self.old.browser event self.new.browser) }
+    {
+        self.browser.notice.clear();
+        if self.take(alloc, event)? {
+            return Ok(Flow::Go);
+        }
+        let asked = self.browser.asked_by(event);
+        self.follow(alloc, asked)?;
+        Ok(flow_after(asked))
     }
 }
 
@@ -174,21 +210,13 @@ impl<F: Folders + Drop> App for FilesApp<F> {
     ghost behaviour = { files F };
 
     fn step(&mut self, alloc: Global, event: Event) -> Mem<Flow> {
-        match event {
-            Event::Ctrl('l') => return Ok(Flow::Redraw),
-            Event::Tick => return Ok(Flow::Go),
-            _ => {}
+        match idle(event) {
+            Some(flow) => Ok(flow),
+            None => self.heed(alloc, event),
         }
-        self.browser.notice.clear();
-        if self.browser.types {
-            self.narrow_by(alloc, event)?;
-            return Ok(Flow::Go);
-        }
-        self.browse(alloc, event)
     }
 
     fn draw(&mut self, alloc: Global, buf: &mut Buffer) -> Mem<Option<Position>> {
-        self.browser.draw(alloc, buf)?;
-        Ok(None)
+        self.browser.draw(alloc, buf)
     }
 }

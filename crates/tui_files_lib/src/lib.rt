@@ -1,6 +1,7 @@
 //! A browser of folders as an app, which keys and sizes move.
 #![tactic(auto)]
 
+mod asking;
 mod browser;
 mod drawing;
 mod files;

@@ -1,5 +1,8 @@
 //! Paths, and texts as they are shown.
 
+ghost use Rattle.std.specs.Prelude.{◌≡◌, IfOk, string_bytes};
+ghost use Rattle.tui_files_lib.specs.Browsing.{path_of, slash_behind};
+
 use crate::folders::{HEAD_BYTES, Kind, Name};
 use std::alloc::Global;
 use tui_cells::Mem;
@@ -30,13 +33,19 @@ pub(crate) fn without_controls(alloc: Global, text: &str) -> Mem<String> {
 }
 
 /// The path of a name in a folder.
-pub(crate) fn path_of(alloc: Global, folder: &str, name: &str) -> Mem<String> {
+pub(crate) fn path_of(alloc: Global, folder: &str, name: &str) -> Mem<String>
+    ensures { IfOk result (λ path. string_bytes path ≡ path_of folder.now name.now) }
+{
     let mut path = String::from_str(alloc, folder)?;
-    if !folder.ends_with('/') {
-        path.push('/')?;
-    }
+    path.push_str(slash_behind(folder))?;
     path.push_str(name)?;
     Ok(path)
+}
+
+fn slash_behind(folder: &str) -> &str
+    ensures { result.now ≡ slash_behind folder.now }
+{
+    if folder.ends_with('/') { "" } else { "/" }
 }
 
 /// What is shown of a file that begins with these bytes. The last character may have been cut.

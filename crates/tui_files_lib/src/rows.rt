@@ -13,20 +13,20 @@ pub(crate) struct Row {
 }
 
 /// Which names are wanted: hidden ones, which begin with a dot, only if these are; and those with this part.
-#[derive(Drop)]
-pub(crate) struct Wish {
+#[derive(Clone, Copy)]
+pub(crate) struct Wish<'w> {
     pub(crate) hidden: bool,
-    pub(crate) part: String,
+    pub(crate) part: &'w str,
 }
 
-impl Wish {
-    fn takes(&self, name: &str) -> bool {
-        (self.hidden || !name.starts_with('.')) && name.contains(self.part.as_str())
+impl Wish<'_> {
+    fn takes(self, name: &str) -> bool {
+        (self.hidden || !name.starts_with('.')) && name.contains(self.part)
     }
 }
 
 /// The rows of the names that are wanted, in the names' order.
-pub(crate) fn rows_of(alloc: Global, names: &[Name], wish: &Wish) -> Mem<Vec<Row>> {
+pub(crate) fn rows_of(alloc: Global, names: &[Name], wish: Wish<'_>) -> Mem<Vec<Row>> {
     let mut rows = Vec::new(alloc);
     for place in 0..names.len() {
         let name = &names[place];

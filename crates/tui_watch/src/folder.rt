@@ -2,11 +2,10 @@
 
 use std::alloc::Global;
 use std::fs;
-use std::fs::File;
-use std::io::ErrorKind;
 use tui_cells::{Mem, NoMemory};
 use tui_outside::{ReadEnd, read_all};
 use tui_program::FileSource;
+use tui_system::{opened, unless_memory};
 use tui_watch_lib::Machine;
 
 /// A folder of the system; without a name /proc.
@@ -25,10 +24,10 @@ impl Folder {
     }
 
     // Whether a path is that of a file: what may be waited for, as a FIFO, is not opened.
-    fn is_file(&self, path: &str) -> bool {
-        match fs::metadata(&self.rt, path) {
-            Ok(metadata) => metadata.is_file(),
-            Err(_) => false,
+    fn is_file(&self, path: &str) -> Mem<bool> {
+        match unless_memory(fs::metadata(&self.rt, path))? {
+            Ok(metadata) => Ok(metadata.is_file()),
+            Err(_) => Ok(false),
         }
     }
 }
@@ -38,10 +37,10 @@ impl Machine for Folder {
     fn text(&self, alloc: Global, path: &str) -> Mem<String> {
         let folder = self.name();
         let path = format!(in alloc; "{folder}/{path}")?;
-        if !self.is_file(path.as_str()) {
+        if !self.is_file(path.as_str())? {
             return Ok(String::new(alloc));
         }
-        let mut source = FileSource::new(File::open(&self.rt, path.as_str()));
+        let mut source = FileSource::new(opened(&self.rt, path.as_str())?);
         match read_all(alloc, &mut source) {
             Ok(bytes) => Ok(String::from_utf8_lossy(alloc, &bytes)?),
             Err(ReadEnd::NoMemory) => Err(NoMemory),
@@ -51,18 +50,14 @@ impl Machine for Folder {
 
     fn numbers(&self, alloc: Global) -> Mem<Vec<u32>> {
         let mut numbers = Vec::new(alloc);
-        let Ok(entries) = fs::read_dir(&self.rt, self.name()) else {
+        let Ok(entries) = unless_memory(fs::read_dir(&self.rt, self.name()))? else {
             return Ok(numbers);
         };
         for entry in entries {
-            match entry {
-                Ok(entry) => {
-                    if let Ok(number) = entry.file_name().parse::<u32>() {
-                        numbers.push(number)?;
-                    }
+            if let Ok(entry) = unless_memory(entry)? {
+                if let Ok(number) = entry.file_name().parse::<u32>() {
+                    numbers.push(number)?;
                 }
-                Err(error) if error.kind() == ErrorKind::OutOfMemory => return Err(NoMemory),
-                Err(_) => {}
             }
         }
         Ok(numbers)

@@ -3,32 +3,37 @@
 
 mod ended;
 mod folder;
-mod setting;
 
 use crate::ended::WatchEnded;
 use crate::folder::Folder;
-use crate::setting::{Setting, side_in};
 use std::alloc::Global;
 use std::env::Args;
+use std::io;
 use std::process::ExitCode;
-use std::{env, io};
 use tui_app::{Port, Terminal, run};
-use tui_cells::NoMemory;
+use tui_cells::{Mem, NoMemory};
 use tui_outside::{Sink, StdSink, StdSource, WriteFault, put_all};
 use tui_program::first_words;
-use tui_terminal::depth_of;
-use tui_tty::{Cursor, Output, Trust};
+use tui_system::{Setting, setting, words};
 use tui_watch_lib::Watch;
 
 fn main(rt: HostRuntime) -> ExitCode {
+    match run_watch(rt) {
+        Ok(ended) => ended.exit_code(),
+        Err(NoMemory) => WatchEnded::NoMemory.exit_code(),
+    }
+}
+
+/// Runs over what the system gives. `NoMemory` where it had none for what it says, before anything is read or written.
+fn run_watch(rt: HostRuntime) -> Mem<WatchEnded> {
     let alloc = rt.alloc();
-    let setting = said_by(&rt);
+    let setting = setting(&rt)?;
+    let folder = folder_of(alloc, words(&rt)?);
     let mut terminal = Port::new(StdSource::new(rt.reader()), StdSink::new(io::writer(&rt)));
-    let ended = match folder_of(alloc, env::args(&rt)) {
-        Ok(name) => watch(alloc, setting, Folder { rt, name }, &mut terminal),
-        Err(Usage) => refuse_usage(&mut terminal),
-    };
-    ended.exit_code()
+    match folder {
+        Ok(name) => Ok(watch(alloc, setting, Folder { rt, name }, &mut terminal)),
+        Err(Usage) => Ok(refuse_usage(&mut terminal)),
+    }
 }
 
 /// The words are not those of a command.
@@ -72,32 +77,5 @@ fn refuse_usage<K: Sink>(sink: &mut K) -> WatchEnded {
     match put_all(sink, b"refused: usage\n") {
         Ok(()) => WatchEnded::Usage,
         Err(WriteFault) => WatchEnded::WriteFault,
-    }
-}
-
-/// What the environment says of the terminal.
-fn said_by(rt: &HostRuntime) -> Setting {
-    let depth = depth_of(
-        variable(rt, "NO_COLOR").as_str(),
-        variable(rt, "COLORTERM").as_str(),
-        variable(rt, "TERM").as_str(),
-    );
-    Setting {
-        output: Output {
-            depth,
-            trust: Trust::Common,
-            cursor: Cursor::Hidden,
-            hold: false,
-        },
-        width: side_in(variable(rt, "COLUMNS").as_str(), 80),
-        height: side_in(variable(rt, "LINES").as_str(), 24),
-    }
-}
-
-/// What a variable of the environment says; nothing, if it is not set.
-fn variable(rt: &HostRuntime, name: &str) -> String {
-    match env::var(rt, name) {
-        Ok(text) => text,
-        Err(_) => String::new(rt.alloc()),
     }
 }

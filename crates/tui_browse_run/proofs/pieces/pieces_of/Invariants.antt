@@ -1,7 +1,7 @@
 use Rattle.std.proofs.Common.{map}
 use denote.Text.{Utf8}
 use denote.Shadow.{shadow}
-use Rattle.tui_browse_run.specs.Cuts.{HasCut}
+use Rattle.tui_browse_run.proofs.Cuts.{HasCut}
 use Rattle.tui_browse_run.specs.Pieces.{piece_data}
 use Rattle.tui_browse_run.proofs.pieces.pieces_of.Given as goal
 

@@ -1,7 +1,7 @@
 //! The terminal that a session begins on.
 
 ghost use Rattle.std.specs.Prelude.{◌≡◌};
-ghost use Rattle.tui_browse_run.specs.Setting.{IsSide, hidden};
+ghost use Rattle.tui_system.specs.Setting.{IsSide, hidden};
 
 use tui_program::Numerals;
 use tui_tty::{Cursor, Depth, Output, Trust};

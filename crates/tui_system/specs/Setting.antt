@@ -1,7 +1,8 @@
 -- The terminal that a session begins on.
-use Rattle.std.specs.Prelude.{◌≡◌, ◌⊎◌, ℕ, List, false}
+use Rattle.std.specs.Prelude.{◌≡◌, ◌⊎◌, ℕ, ◌≤◌, List, false}
 use Rattle.tui_program.specs.Words.{Write}
 use Rattle.tui_program.specs.declared.numerals.Numerals.{Numerals}
+use Rattle.tui_system.specs.declared.settings.Setting.{Setting}
 use Rattle.tui_tty.specs.declared.cursor.Cursor.TheVariants.{Hidden}
 use Rattle.tui_tty.specs.declared.depth.Depth.{Depth}
 use Rattle.tui_tty.specs.declared.output.Output.{Output}
@@ -18,3 +19,10 @@ IsSide text otherwise side = Write sides text side ⊎ (((n : ℕ) → Write sid
 -- what is sent to a terminal of so many colours
 abbrev pub hidden : Depth → Output
 hidden depth = record { depth = depth; trust = Common; cursor = Hidden; hold = false }
+
+-- what some variables may say: that is sent, and there are from 1 to 1000 columns and rows
+pub record IsSetting (s : Setting) : Type 0 where
+  pub depth : Depth
+  pub output : s.output ≡ hidden depth
+  pub wide : (1 ≤ s.width) × (s.width ≤ 1000)
+  pub high : (1 ≤ s.height) × (s.height ≤ 1000)
