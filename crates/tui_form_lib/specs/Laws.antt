@@ -1,0 +1,79 @@
+-- What a session of a form shows.
+use Rattle.std.specs.Prelude.{◌≡◌, ◌<◌, ◌⊎◌, ℕ, Bool, true, false, List, length, Option, Some, slice_get, option_map}
+use Rattle.tui_app.specs.Behaviour.{Behaviour}
+use Rattle.tui_app.specs.Lives.{Stand, Takes}
+use Rattle.tui_app.specs.Session.{Session}
+use Rattle.tui_app.specs.declared.app.Flow.{Flow}
+use Rattle.tui_app.specs.declared.app.Flow.TheVariants as flows
+use Rattle.tui_app_laws.specs.Showing.{IsPresent}
+use Rattle.tui_cells.specs.Buffer.{Screen, cell_at}
+use Rattle.tui_cells.specs.Cell.{blank}
+use Rattle.tui_cells.specs.Layers.{layers_at}
+use Rattle.tui_cells.specs.Rect.{covers}
+use Rattle.tui_cells.specs.declared.position.Position.{Position}
+use Rattle.tui_cells.specs.declared.rect.Rect.{Rect}
+use Rattle.tui_form_lib.specs.Drawing.{Draws, SaysTooSmall, cursor_over, focused_row, form_layers, form_list, has_room, inside}
+use Rattle.tui_form_lib.specs.Form.{FormData, form_data}
+use Rattle.tui_form_lib.specs.Steps.{IsFocused, after_event, first_missing, flow_after}
+use Rattle.tui_form_lib.specs.Value.{ValueData, typed_value}
+use Rattle.tui_form_lib.specs.declared.form.Form.{Form}
+use Rattle.tui_form_lib.specs.declared.form.Outcome.TheVariants as outcomes
+use Rattle.tui_input.specs.State.{TypedText}
+use Rattle.tui_keys.specs.declared.event.Event.{Event}
+use Rattle.tui_lists.specs.List.{IsSeen}
+use Rattle.tui_lists.specs.ListItem.{heights_of}
+use Rattle.tui_tty.specs.declared.output.Output.{Output}
+
+-- what events make of a form, and what it draws
+abbrev pub form_behaviour : Behaviour Form
+form_behaviour = record {
+  steps = λ old event new flow. (form_data new ≡ after_event (form_data old) event) × (flow ≡ flow_after (form_data old) event);
+  draws = λ old screen place new. Draws (form_data old) screen place (form_data new);
+}
+
+-- the value of the focused field
+abbrev pub focused_value : FormData → Option ValueData
+focused_value f = option_map (λ field. field.value) (slice_get f.fields f.focus)
+
+-- a cursor that is shown in an area
+pub record IsShownIn (area : Rect) (place : Option Position) : Type 0 where
+  pub at : Position
+  pub place_is : place ≡ Some at
+  pub within : covers area at.x at.y ≡ true
+
+-- What is seen of a form: its strokes on blank cells. The focused field is one of those that the list draws from its first one on, which fit its rows together;
+-- and the cursor of a focused text is shown in the row below its label.
+pub record FocusIsSeen (f : FormData) (screen : Screen) (place : Option Position) : Type 0 where
+  pub cells : (x y : ℕ) → covers screen.area x y ≡ true → cell_at screen x y ≡ Some (layers_at (form_layers f screen.area) x y blank)
+  pub focused : 0 < length f.fields → IsSeen (heights_of (form_list f).items) (inside f screen.area).height f.offset f.focus
+  pub place_is : place ≡ cursor_over (focused_row f screen.area) f.fields f.focus
+  pub cursor : (text : TypedText) (is_masked : Bool) → focused_value f ≡ Some (typed_value text is_masked) → IsShownIn (focused_row f screen.area) place
+
+-- The terminal shows the screen that was drawn last, of the form that all events led to. If it has room the focused field is seen there, and else it says
+-- that it is too small. Where there are fields one has the focus.
+pub record IsOnScreen (o : Output) (begin : Form) (area : Rect) (stand : Stand Form) (reads : List (List ℕ)) (sent : List ℕ) : Type 0 where
+  pub present : IsPresent form_behaviour o begin area stand reads sent
+  pub focused : IsFocused (form_data stand.app)
+  pub seen : has_room stand.screen.area ≡ true → FocusIsSeen (form_data stand.app) stand.screen stand.place
+  pub other : has_room stand.screen.area ≡ false → SaysTooSmall stand.screen
+
+-- whenever a session waits for input that began with a form of which a field has the focus, as a new one
+abbrev pub FormIsShown : Output → Type 0
+FormIsShown o = (begin : Form) (area : Rect) (stand : Stand Form) (reads : List (List ℕ)) (tape sent : List ℕ) →
+    IsFocused (form_data begin) → Session form_behaviour o begin area stand reads tape sent → IsOnScreen o begin area stand reads sent
+
+-- ---- how a form ends
+
+-- accepted, with no field that is needed and empty; or left
+abbrev pub HasEnded : FormData → Type 0
+HasEnded f = ((f.outcome ≡ outcomes.Accepted) × (first_missing f.fields ≡ None)) ⊎ (f.outcome ≡ outcomes.Left)
+
+-- a form is open as long as it goes on
+abbrev pub IsOpenOr : Flow → FormData → Type 0
+IsOpenOr flows.Quit f = HasEnded f
+IsOpenOr _ f = f.outcome ≡ outcomes.Open
+
+-- whatever events an open form takes
+abbrev pub OpenUntilQuit : Type 0
+OpenUntilQuit = (begin last : Form) (events : List Event) (flow : Flow) → (form_data begin).outcome ≡ outcomes.Open →
+    Takes form_behaviour begin flows.Go events last flow → IsOpenOr flow (form_data last)
