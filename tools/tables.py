@@ -25,7 +25,7 @@ class Leaf(Number):
 
 
 class Tables:
-    """The kinds by their names, of both pages. `scene`, `pages`, `pager` and `panes` are the inputs."""
+    """The kinds by their names, of both pages. `scene`, `pages`, `pager`, `panes` and `form` are the inputs."""
 
     def __init__(self):
         self.kinds, self.widgets, self.raw_widgets, self.raw_kinds = {}, {}, {}, {}
@@ -101,6 +101,8 @@ class Tables:
         found = re.match(r"(?:a )?text of at most ([\d,]+) bytes", phrase)
         if found:
             return Text(number(found[1]))
+        if phrase == "a text or a boolean":
+            return Choice([Text(), Flag()])
         if re.match(r"a (text|string)\b", phrase):
             return Text()
         if "Width of docs/SCENE.md" in phrase:

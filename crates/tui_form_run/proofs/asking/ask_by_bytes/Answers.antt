@@ -1,0 +1,18 @@
+use Rattle.std.proofs.Common.{Err, ap}
+use Rattle.serde_json.specs.View.{view}
+use Rattle.tui_form_run.proofs.Ending.{over_json, unput}
+use Rattle.tui_form_run.proofs.asking.ask_by_bytes.Goals as goal
+use Rattle.tui_form_run.specs.Ends.{refused, wanting}
+use Rattle.tui_form_run.specs.declared.refusal.Refusal.TheVariants.{NotJson}
+
+pub returns-in-Ok : goal.returns-in-Ok
+returns-in-Ok g c =
+    let json = c.in-Ok.ensures.ok in
+    over_json c.args.setting c.args.bytes.items (view c.in-Ok.value) _ _ _ _ c.ask_by_value.result json.0 json.1 c.ask_by_value.ensures
+
+pub returns-in-Err-NotJson : goal.returns-in-Err-NotJson
+returns-in-Err-NotJson g c =
+    refused NotJson c.refuse.result (c.in-Err-NotJson.ensures.not_json (ap (λ x. Err x) c.in-Err-NotJson.field-0-is)) c.refuse.ensures (unput _)
+
+pub returns-in-Err-NoMemory : goal.returns-in-Err-NoMemory
+returns-in-Err-NoMemory g c = wanting (unput _) (unput _)

@@ -1,0 +1,11 @@
+pub mod Kinds
+pub mod Refusals
+pub mod Input
+pub mod Filled
+pub mod Answers
+pub mod Words
+pub mod Says
+pub mod Place
+pub mod Ended
+pub mod Ends
+pub mod Laws

@@ -1,0 +1,31 @@
+-- What is refused, and the line that says so.
+use Rattle.std.specs.Prelude.{ℕ, List, Option, codes}
+use Rattle.tui_form_run.specs.declared.bad_form.BadForm.{BadForm}
+use Rattle.tui_form_run.specs.declared.key.FormKey.{FormKey}
+use Rattle.tui_form_run.specs.declared.key.FormKey.TheVariants.{Title, Fields, Name, Label, Kind, Most, Mask, Of, Needed, Value}
+use Rattle.tui_form_run.specs.declared.refusal.Refusal.{Refusal}
+use Rattle.tui_form_run.specs.declared.refusal.Refusal.TheVariants as refusals
+use Rattle.tui_program.specs.FieldLine.{refused_field}
+
+-- the name of a key in the JSON
+abbrev pub key_name : FormKey → List ℕ
+key_name Title = codes "title"
+key_name Fields = codes "fields"
+key_name Name = codes "name"
+key_name Label = codes "label"
+key_name Kind = codes "kind"
+key_name Most = codes "most"
+key_name Mask = codes "mask"
+key_name Of = codes "of"
+key_name Needed = codes "needed"
+key_name Value = codes "value"
+
+-- a key of the form, or of its field of a number
+abbrev pub bad_form : Option ℕ → FormKey → BadForm
+bad_form at key = record { at = at; key = key }
+
+-- the line that says what is refused
+abbrev pub line_of : Refusal → List ℕ
+line_of refusals.TooLong = codes "refused: too long\n"
+line_of refusals.NotJson = codes "refused: not JSON\n"
+line_of (refusals.BadForm x) = refused_field (key_name x.key) x.at

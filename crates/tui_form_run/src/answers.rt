@@ -1,0 +1,72 @@
+//! The answers of a form in JSON.
+
+ghost use Rattle.std.specs.Prelude.{◌≡◌, ◌++◌, IfOk, IsUtf8, OnOk, map};
+ghost use Rattle.tui_form_lib.specs.Field.{field_data};
+ghost use Rattle.tui_form_run.specs.Answers.{PutsAnswers, answer_tokens, answers_line, answers_tokens};
+
+use json::Writer;
+use std::alloc::Global;
+use tui_cells::{Mem, NoMemory};
+use tui_form_lib::{Answer, FormField};
+use tui_outside::{Sink, WriteFault, put_all};
+
+/// Why answers were not put whole.
+#[derive(Clone, Copy, Debug, PartialEq, Eq)]
+pub enum AnswersError {
+    /// A put failed: the sink has taken the first bytes, but not all of them.
+    WriteFault,
+    /// The memory for the line was not there; nothing is put.
+    NoMemory,
+}
+
+/// Puts the answers of these fields, in order, as one line: an object in JSON (RFC 8259) of each field's name and its answer, a text or a boolean, without
+/// blanks between its parts, and a newline.
+pub fn put_answers<K: Sink>(
+    alloc: Global,
+    fields: &[FormField],
+    sink: &mut K,
+) -> Result<(), AnswersError>
+    ensures { PutsAnswers (map field_data fields.now) (K.told sink.old) (K.told sink.new) result }
+{
+    match answers_line(alloc, fields) {
+        Ok(line) => match put_all(sink, line.as_slice()) {
+            Ok(()) => Ok(()),
+            Err(WriteFault) => Err(AnswersError::WriteFault),
+        },
+        Err(NoMemory) => Err(AnswersError::NoMemory),
+    }
+}
+
+fn answers_line(alloc: Global, fields: &[FormField]) -> Mem<Vec<u8>>
+    ensures { IfOk result (λ line. line.items ≡ answers_line (map field_data fields.now)) }
+{
+    let mut out = Writer::new(Vec::new(alloc));
+    write_answers(&mut out, fields)?;
+    let mut line = out.into_inner();
+    line.push(b'\n')?;
+    Ok(line)
+}
+
+fn write_answers(out: &mut Writer, fields: &[FormField]) -> Mem<()>
+    ensures before { out.new.before ≡ out.old.before }
+    ensures tokens { OnOk result (out.new.tokens ≡ out.old.tokens ++ answers_tokens (map field_data fields.now)) }
+{
+    out.begin_object()?;
+    'fields: for field in fields {
+        write_answer(out, field)?;
+    }
+    out.end_object()?;
+    Ok(())
+}
+
+fn write_answer(out: &mut Writer, field: &FormField) -> Mem<()>
+    ensures before { out.new.before ≡ out.old.before }
+    ensures tokens { OnOk result (out.new.tokens ≡ out.old.tokens ++ answer_tokens (field_data field.now)) }
+{
+    out.key(field.name.as_str())?;
+    match field.answer() {
+        Answer::Text(text) => out.string(text)?,
+        Answer::Flag(flag) => out.boolean(flag)?,
+    }
+    Ok(())
+}

@@ -1,0 +1,31 @@
+//! A session.
+
+ghost use Rattle.tui_app.specs.Run.{IsRun};
+ghost use Rattle.tui_cells.specs.Rect.{area_of};
+ghost use Rattle.tui_form_lib.specs.Laws.{form_behaviour};
+
+use std::alloc::Global;
+use tui_app::{AppEnd, Terminal, run};
+use tui_form_lib::Form;
+use tui_system::Setting;
+
+/// Shows a form on a terminal until the user accepts or leaves it, or the session ends otherwise, as `run` of an app does. Then the terminal is left, and
+/// the form holds what was filled in.
+pub fn show_form<T: Terminal>(
+    alloc: Global,
+    setting: Setting,
+    form: &mut Form,
+    terminal: &mut T,
+) -> AppEnd
+    ensures { IsRun form_behaviour setting.output form.old (area_of 0 0 setting.width setting.height)
+        (T.told terminal.old) (T.told terminal.new) form.new result }
+{
+    run(
+        alloc,
+        form,
+        setting.output,
+        setting.width,
+        setting.height,
+        terminal,
+    )
+}

@@ -1,0 +1,68 @@
+//! Kinds of texts in the JSON of a form.
+
+use crate::key::FormKey;
+use serde_json::Value;
+use std::alloc::Global;
+use tui_json::{Counted, Kind, KindError, each};
+
+/// A text, kept.
+impl<'v> Kind<'v, FormKey> for String {
+    ghost use Rattle.std.specs.Prelude.{ℕ, List, string_bytes};
+    ghost use Rattle.serde_json.specs.Find.{as_str};
+
+    ghost Seen = { List ℕ };
+
+    ghost seen = { string_bytes };
+
+    ghost kind = { as_str };
+
+    fn read(alloc: Global, value: &'v Value) -> Result<String, KindError> {
+        match value.as_str() {
+            Some(text) => Ok(String::from_str(alloc, text)?),
+            None => Err(KindError::WrongKind),
+        }
+    }
+}
+
+/// A text of 1 to 64 bytes.
+#[derive(Drop)]
+pub(crate) struct NameText<'v>(pub(crate) &'v str);
+
+impl<'v> Kind<'v, FormKey> for NameText<'v> {
+    ghost use Rattle.std.specs.Prelude.{ℕ, List};
+    ghost use Rattle.tui_form_run.specs.Input.{name_text};
+
+    ghost Seen = { List ℕ };
+
+    ghost seen = { λ name. name.0.now };
+
+    ghost kind = { name_text };
+
+    fn read(_alloc: Global, value: &'v Value) -> Result<NameText<'v>, KindError> {
+        match value.as_str() {
+            Some(text) if 1 <= text.len() && text.len() <= 64 => Ok(NameText(text)),
+            _ => Err(KindError::WrongKind),
+        }
+    }
+}
+
+/// An array of 1 to 100 texts, kept.
+#[derive(Drop)]
+pub(crate) struct Texts(pub(crate) Vec<String>);
+
+impl<'v> Kind<'v, FormKey> for Texts {
+    ghost use Rattle.std.specs.Prelude.{ℕ, List, map, string_bytes};
+    ghost use Rattle.tui_form_run.specs.Input.{texts_of};
+
+    ghost Seen = { List (List ℕ) };
+
+    ghost seen = { λ texts. map string_bytes texts.0.items };
+
+    ghost kind = { texts_of };
+
+    #[tactic(auto, unfolding(crate::specs::Input::texts_of))]
+    fn read(alloc: Global, value: &'v Value) -> Result<Texts, KindError> {
+        let Counted(values) = <Counted<'v, 1, 100> as Kind<'v, FormKey>>::read(alloc, value)?;
+        Ok(Texts(each::<String, FormKey>(alloc, values)?))
+    }
+}
