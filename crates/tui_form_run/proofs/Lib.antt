@@ -5,3 +5,4 @@ pub mod Taken
 pub mod Ending
 pub mod Counted
 pub mod Choosing
+pub mod Meant

@@ -23,7 +23,7 @@ pub use bad_form::BadForm;
 pub use ended::FormEnded;
 pub use field_kind::FieldKind;
 pub use key::FormKey;
-pub use laws::answers_law;
+pub use laws::{answers_law, filled_law};
 pub use place::{FilePlace, Place};
 pub use program::{run_form, run_program};
 pub use reading::form_of;
