@@ -6,6 +6,7 @@
 mod cases;
 mod displays;
 mod each;
+mod forms;
 mod frames;
 mod program;
 mod report;
@@ -71,6 +72,9 @@ fn run_row<W: Write>(alloc: Global, row: &Row, out: &mut W) -> Result<()> {
     }
     if let Some(display) = &row.display {
         return display.show(alloc, out);
+    }
+    if let Some(asking) = &row.asking {
+        return asking.show(alloc, out);
     }
     match row.each {
         Some(each) => run_each(alloc, row, each, out),

@@ -1,6 +1,7 @@
 //! A row of the data.
 
 use crate::displays::Display;
+use crate::forms::Asking;
 use crate::frames::Frames;
 use crate::program::Program;
 use crate::sessions::Session;
@@ -42,6 +43,8 @@ pub(crate) struct Row {
     pub(crate) session: Option<Session>,
     /// A terminal that gives lines of scenes, where no program runs.
     pub(crate) display: Option<Display>,
+    /// A form that a terminal's reads fill in, where no program runs.
+    pub(crate) asking: Option<Asking>,
 }
 
 /// What changes from run to run.

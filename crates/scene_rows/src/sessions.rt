@@ -30,7 +30,7 @@ impl Session {
     /// Writes the rows of the first screen, and of the one behind each read.
     pub(crate) fn show<W: Write>(&self, alloc: Global, out: &mut W) -> Result<()> {
         let entries = self.entries(alloc)?;
-        let reads = self.reads(alloc)?;
+        let reads = bytes_of(alloc, &self.reads)?;
         let Ok(mut app) = PagerApp::new(alloc, self.width, self.height, entries) else {
             bail!("no memory for the pager");
         };
@@ -53,18 +53,19 @@ impl Session {
         }
         Ok(entries)
     }
+}
 
-    fn reads(&self, alloc: Global) -> Result<Vec<&[u8]>, AllocError> {
-        let mut reads = Vec::with_capacity(alloc, self.reads.len())?;
-        for read in &self.reads {
-            reads.push(read.as_bytes())?;
-        }
-        Ok(reads)
+/// The bytes of each of these reads.
+pub(crate) fn bytes_of(alloc: Global, texts: &[String]) -> Result<Vec<&[u8]>, AllocError> {
+    let mut reads = Vec::with_capacity(alloc, texts.len())?;
+    for text in texts {
+        reads.push(text.as_bytes())?;
     }
+    Ok(reads)
 }
 
 /// Writes the rows of a screen, below a line of their own.
-fn tell<W: Write>(alloc: Global, screen: &Buffer, out: &mut W) -> Result<()> {
+pub(crate) fn tell<W: Write>(alloc: Global, screen: &Buffer, out: &mut W) -> Result<()> {
     let mut sink = MemSink::new(alloc, ROOM, Vec::new(alloc))?;
     if write_rows("screen\n", screen, &mut sink).is_err() {
         bail!("no room for a screen");
