@@ -5,4 +5,3 @@ pub mod Listed
 pub mod Drawn
 pub mod Settled
 pub mod Seen
-pub mod Ended

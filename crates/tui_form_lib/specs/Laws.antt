@@ -1,10 +1,8 @@
 -- What a session of a form shows.
-use Rattle.std.specs.Prelude.{◌≡◌, ◌<◌, ◌⊎◌, ℕ, Bool, true, false, List, length, Option, Some, slice_get, option_map}
+use Rattle.std.specs.Prelude.{◌≡◌, ◌<◌, ℕ, Bool, true, false, List, length, Option, Some, slice_get, option_map}
 use Rattle.tui_app.specs.Behaviour.{Behaviour}
-use Rattle.tui_app.specs.Lives.{Stand, Takes}
+use Rattle.tui_app.specs.Lives.{Stand}
 use Rattle.tui_app.specs.Session.{Session}
-use Rattle.tui_app.specs.declared.app.Flow.{Flow}
-use Rattle.tui_app.specs.declared.app.Flow.TheVariants as flows
 use Rattle.tui_app_laws.specs.Showing.{IsPresent}
 use Rattle.tui_cells.specs.Buffer.{Screen, cell_at}
 use Rattle.tui_cells.specs.Cell.{blank}
@@ -14,12 +12,10 @@ use Rattle.tui_cells.specs.declared.position.Position.{Position}
 use Rattle.tui_cells.specs.declared.rect.Rect.{Rect}
 use Rattle.tui_form_lib.specs.Drawing.{Draws, SaysTooSmall, cursor_over, focused_row, form_layers, form_list, has_room, inside}
 use Rattle.tui_form_lib.specs.Form.{FormData, form_data}
-use Rattle.tui_form_lib.specs.Steps.{IsFocused, after_event, first_missing, flow_after}
+use Rattle.tui_form_lib.specs.Steps.{IsFocused, after_event, flow_after}
 use Rattle.tui_form_lib.specs.Value.{ValueData, typed_value}
 use Rattle.tui_form_lib.specs.declared.form.Form.{Form}
-use Rattle.tui_form_lib.specs.declared.form.Outcome.TheVariants as outcomes
 use Rattle.tui_input.specs.State.{TypedText}
-use Rattle.tui_keys.specs.declared.event.Event.{Event}
 use Rattle.tui_lists.specs.List.{IsSeen}
 use Rattle.tui_lists.specs.ListItem.{heights_of}
 use Rattle.tui_tty.specs.declared.output.Output.{Output}
@@ -61,19 +57,3 @@ pub record IsOnScreen (o : Output) (begin : Form) (area : Rect) (stand : Stand F
 abbrev pub FormIsShown : Output → Type 0
 FormIsShown o = (begin : Form) (area : Rect) (stand : Stand Form) (reads : List (List ℕ)) (tape sent : List ℕ) →
     IsFocused (form_data begin) → Session form_behaviour o begin area stand reads tape sent → IsOnScreen o begin area stand reads sent
-
--- ---- how a form ends
-
--- accepted, with no field that is needed and empty; or left
-abbrev pub HasEnded : FormData → Type 0
-HasEnded f = ((f.outcome ≡ outcomes.Accepted) × (first_missing f.fields ≡ None)) ⊎ (f.outcome ≡ outcomes.Left)
-
--- a form is open as long as it goes on
-abbrev pub IsOpenOr : Flow → FormData → Type 0
-IsOpenOr flows.Quit f = HasEnded f
-IsOpenOr _ f = f.outcome ≡ outcomes.Open
-
--- whatever events an open form takes
-abbrev pub OpenUntilQuit : Type 0
-OpenUntilQuit = (begin last : Form) (events : List Event) (flow : Flow) → (form_data begin).outcome ≡ outcomes.Open →
-    Takes form_behaviour begin flows.Go events last flow → IsOpenOr flow (form_data last)

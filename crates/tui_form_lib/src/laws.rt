@@ -1,6 +1,6 @@
 //! What holds of all sessions of a form.
 
-ghost use Rattle.tui_form_lib.specs.Laws.{FormIsShown, OpenUntilQuit};
+ghost use Rattle.tui_form_lib.specs.Laws.{FormIsShown};
 
 use crate::form::Form;
 use tui_app_laws::waiting_law;
@@ -14,9 +14,3 @@ pub fn form_law(output: Output)
 {
     waiting_law::<Form>(output);
 }
-
-/// Whatever events an open form takes, it is open until one of them quits; and then it is accepted, and each field that is needed is filled in, or it is
-/// left.
-pub fn ending_law()
-    ensures { OpenUntilQuit }
-{}
