@@ -2,4 +2,5 @@
 
 pub use tui_app::{
     App, AppEnd, Flow, MOST_READS, MemTerminal, Port, READ_ROOM, Terminal, run, run_over,
+    say_too_small,
 };

@@ -7,3 +7,4 @@ pub mod Feeding
 pub mod Parts
 pub mod Memory
 pub mod Over
+pub mod TooSmall

@@ -11,6 +11,7 @@ mod runs;
 mod shown;
 mod surface;
 mod terminal;
+mod too_small;
 mod turn;
 
 pub use app::{App, Flow};
@@ -20,3 +21,4 @@ pub use over::run_over;
 pub use port::Port;
 pub use runs::run;
 pub use terminal::{READ_ROOM, Terminal};
+pub use too_small::say_too_small;

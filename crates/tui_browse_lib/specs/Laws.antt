@@ -4,7 +4,7 @@ use Rattle.tui_app.specs.Lives.{Stand}
 use Rattle.tui_app.specs.Session.{Session}
 use Rattle.tui_app_laws.specs.Showing.{IsPresent}
 use Rattle.tui_browse_lib.specs.Asked.{has_room}
-use Rattle.tui_browse_lib.specs.Paging.{IsPage, SaysTooSmall, first_of, paging}
+use Rattle.tui_browse_lib.specs.Paging.{IsPage, first_of, paging}
 use Rattle.tui_browse_lib.specs.declared.paging.PagerApp.{PagerApp}
 use Rattle.tui_cells.specs.Rect.{area_of}
 use Rattle.tui_cells.specs.declared.rect.Rect.{Rect}

@@ -1,13 +1,10 @@
 -- The pager as an app.
-use Rattle.std.specs.Prelude.{◌≡◌, ◌≢◌, ◌≤◌, ℕ, List, None, codes, if◌then◌else◌}
+use Rattle.std.specs.Prelude.{◌≡◌, ◌≢◌, ◌≤◌, ℕ, List, None, if◌then◌else◌}
 use Rattle.tui_app.specs.Behaviour.{Behaviour}
+use Rattle.tui_app.specs.TooSmall.{SaysTooSmall}
 use Rattle.tui_browse_lib.specs.Asked.{asked, calls_for, flow_of, has_room}
 use Rattle.tui_browse_lib.specs.declared.paging.PagerApp.{PagerApp}
-use Rattle.tui_cells.specs.Buffer.{IsFilled, Screen}
-use Rattle.tui_cells.specs.Cell.{blank}
-use Rattle.tui_cells.specs.Layers.{Painted}
-use Rattle.tui_cells.specs.Style.{no_style}
-use Rattle.tui_text.specs.Setting.{set_layers, styled_text}
+use Rattle.tui_cells.specs.Buffer.{Screen}
 use Rattle.tui_pager_lib.specs.Entry.{EntryData}
 use Rattle.tui_pager_lib.specs.Laws.{after_calls, pager_of}
 use Rattle.tui_pager_lib.specs.Pager.{PagerData}
@@ -20,12 +17,6 @@ first_of entries width height = if has_room width height then pager_of entries w
 -- a pager's screen
 abbrev pub IsPage : PagerData → Screen → Type 0
 IsPage p screen = IsBlankUnder (pager_layers p) (page_area p.width p.height) screen
-
--- a blank screen on which, from its first cell on, stands that it is too small
-pub record SaysTooSmall (screen : Screen) : Type 0 where
-  pub before : Screen
-  pub filled : IsFilled before.area blank before
-  pub painted : Painted (set_layers before.area (record { x = before.area.x; y = before.area.y }) (styled_text (codes "too small") no_style) 9) before screen
 
 -- The pager's screen where it has the pager's area, and elsewhere that it is too small. A pager's area is one that a screen can have.
 pub record Draws (p : PagerData) (screen : Screen) : Type 0 where

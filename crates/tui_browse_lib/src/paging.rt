@@ -2,7 +2,7 @@
 
 ghost use Rattle.std.specs.Prelude.{◌≡◌, ◌≤◌, IfOk, OnOk, map, replicate};
 ghost use Rattle.tui_browse_lib.specs.Asked.{calls_for, flow_of, size_calls};
-ghost use Rattle.tui_browse_lib.specs.Paging.{Draws, SaysTooSmall, first_of};
+ghost use Rattle.tui_browse_lib.specs.Paging.{Draws, first_of};
 ghost use Rattle.tui_cells.specs.Buffer.{IsFilled};
 ghost use Rattle.tui_cells.specs.Cell.{blank};
 ghost use Rattle.tui_pager_lib.specs.Entry.{entry_data};
@@ -11,11 +11,10 @@ ghost use Rattle.tui_pager_lib.specs.Screen.{page_area};
 
 use crate::asking::{Asked, asked_by};
 use std::alloc::Global;
-use tui_app::{App, Flow};
-use tui_cells::{Buffer, Mem, Position, Rect, Style};
+use tui_app::{App, Flow, say_too_small};
+use tui_cells::{Buffer, Mem, Position, Rect};
 use tui_keys::Event;
 use tui_pager_lib::{Entry, Key, Pager, PagerSize};
-use tui_text::set_stringn_in;
 
 /// A pager that events move. Where a screen is too small for a pager that is said on it; what is selected and shown stays, and the next size that has
 /// room shows it again.
@@ -137,18 +136,4 @@ fn page_area(pager: &Pager<'_>) -> Rect
     ensures within { (pager.now.width ≤ 65535) × (pager.now.height ≤ 65535) }
 {
     pager.screen().area()
-}
-
-fn say_too_small(buf: &mut Buffer) -> Mem<()>
-    requires { IsFilled buf.old.area blank buf.old }
-    ensures says { OnOk result (SaysTooSmall buf.new) }
-    ensures area { OnOk result (buf.new.area ≡ buf.old.area) }
-{
-    let area = buf.area();
-    let at = Position {
-        x: area.x,
-        y: area.y,
-    };
-    set_stringn_in(buf, area, at, "too small", 9, Style::new())?;
-    Ok(())
 }

@@ -1,5 +1,32 @@
 -- What a browser knows, and what events make of it.
-use Rattle.std.specs.Prelude.{◌≡◌, ◌⊎◌, ◌==◌, ◌&&◌, ℕ, ◌+◌, ◌-◌, min, Bool, true, false, not, List, [], ◌++◌, codes, length, Option, None, Some, option_map, slice_get, slice_index, string_bytes, unwrap_or, if◌then◌else◌}
+use Rattle.std.specs.Prelude.{
+  ◌≡◌,
+  ◌⊎◌,
+  ◌==◌,
+  ◌&&◌,
+  ℕ,
+  ◌+◌,
+  ◌-◌,
+  min,
+  Bool,
+  true,
+  false,
+  not,
+  List,
+  [],
+  ◌++◌,
+  codes,
+  length,
+  Option,
+  None,
+  Some,
+  option_map,
+  slice_get,
+  slice_index,
+  string_bytes,
+  unwrap_or,
+  if◌then◌else◌,
+}
 use Rattle.std.specs.Option.{option_and_then}
 use Rattle.std.specs.Path.{path_file_name, path_parent}
 use Rattle.tui_app.specs.declared.app.Flow.{Flow}

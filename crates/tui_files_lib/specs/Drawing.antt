@@ -1,8 +1,9 @@
 -- What a browser draws.
 use Rattle.std.specs.Prelude.{◌≡◌, ℕ, ◌-◌, ◌/◌, ◌&&◌, Bool, true, false, nat_lt, List, [], ◌∷◌, map, Option, None, Some, IsSome, codes, string_bytes, unwrap_or}
-use Rattle.tui_cells.specs.Buffer.{IsFilled, Screen, cell_at}
+use Rattle.tui_app.specs.TooSmall.{SaysTooSmall}
+use Rattle.tui_cells.specs.Buffer.{Screen, cell_at}
 use Rattle.tui_cells.specs.Cell.{blank}
-use Rattle.tui_cells.specs.Layers.{Painted, layers_at}
+use Rattle.tui_cells.specs.Layers.{layers_at}
 use Rattle.tui_cells.specs.Rect.{columns_from, covers, intersection_of, rows_from}
 use Rattle.tui_cells.specs.Style.{no_style}
 use Rattle.tui_cells.specs.declared.position.Position.{Position}
@@ -19,7 +20,6 @@ use Rattle.tui_lists.specs.ListStrokes.{list_layers}
 use Rattle.tui_lists.specs.Tabs.{reversed}
 use Rattle.tui_lists.specs.declared.list.state.ListState.{ListState}
 use Rattle.tui_text.specs.Line.{raw_line}
-use Rattle.tui_text.specs.Setting.{set_layers, styled_text}
 use Rattle.tui_text.specs.Text.{empty_text}
 
 -- what a row shows
@@ -78,12 +78,6 @@ pub record ShowsNames (l : ListData) (was is : ListState) (screen : Screen) : Ty
   pub moves : ListMoves l (inner_of l.block (names_area screen.area)) was is
   pub cells : (x y : ℕ) → covers (names_area screen.area) x y ≡ true →
       cell_at screen x y ≡ Some (layers_at (list_layers l is (names_area screen.area)) x y blank)
-
--- a blank screen on which, from its first cell on, stands that it is too small
-pub record SaysTooSmall (screen : Screen) : Type 0 where
-  pub before : Screen
-  pub filled : IsFilled before.area blank before
-  pub painted : Painted (set_layers before.area (record { x = before.area.x; y = before.area.y }) (styled_text (codes "too small") no_style) 9) before screen
 
 -- A text with a cursor is drawn in an area of a screen, by the state that the drawing leaves, and this is where its cursor is shown.
 pub record TypesIn (area screen : Rect) (was is : TypedText) (place : Option Position) : Type 0 where

@@ -3,6 +3,7 @@ use Rattle.std.specs.Prelude.{◌≡◌, ℕ, ◌<◌, true, false, List, length
 use Rattle.tui_app.specs.Behaviour.{Behaviour}
 use Rattle.tui_app.specs.Lives.{Stand}
 use Rattle.tui_app.specs.Session.{Session}
+use Rattle.tui_app.specs.TooSmall.{SaysTooSmall}
 use Rattle.tui_app_laws.specs.Showing.{IsPresent}
 use Rattle.tui_cells.specs.Buffer.{Screen, cell_at}
 use Rattle.tui_cells.specs.Cell.{blank}
@@ -10,7 +11,7 @@ use Rattle.tui_cells.specs.Layers.{layers_at}
 use Rattle.tui_cells.specs.Rect.{covers}
 use Rattle.tui_cells.specs.declared.rect.Rect.{Rect}
 use Rattle.tui_files_lib.specs.Browsing.{Steps, flow_of}
-use Rattle.tui_files_lib.specs.Drawing.{Draws, SaysTooSmall, ShowsCursor, has_room, names_area, names_list}
+use Rattle.tui_files_lib.specs.Drawing.{Draws, ShowsCursor, has_room, names_area, names_list}
 use Rattle.tui_files_lib.specs.declared.browser.Browser.{Browser}
 use Rattle.tui_files_lib.specs.declared.files.FilesApp.{FilesApp}
 use Rattle.tui_frames.specs.InBlock.{inner_of}

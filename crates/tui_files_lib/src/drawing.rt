@@ -5,7 +5,23 @@ ghost use Rattle.tui_cells.specs.Buffer.{IsFilled};
 ghost use Rattle.tui_cells.specs.Cell.{blank};
 ghost use Rattle.tui_cells.specs.Layers.{KeptOutside, Painted};
 ghost use Rattle.tui_cells.specs.Rect.{covers, intersection_of};
-ghost use Rattle.tui_files_lib.specs.Drawing.{Draws, DrawsPart, SaysTooSmall, ShowsNames, TypesIn, has_room, head_area, list_over, names_area, names_list, part_area, row_item, row_label, selecting, status_area, titled_block};
+ghost use Rattle.tui_files_lib.specs.Drawing.{
+  Draws,
+  DrawsPart,
+  ShowsNames,
+  TypesIn,
+  has_room,
+  head_area,
+  list_over,
+  names_area,
+  names_list,
+  part_area,
+  row_item,
+  row_label,
+  selecting,
+  status_area,
+  titled_block,
+};
 ghost use Rattle.tui_frames.specs.Block.{block_data};
 ghost use Rattle.tui_frames.specs.InBlock.{inner_of};
 ghost use Rattle.tui_lists.specs.List.{ListMoves, list_data};
@@ -17,12 +33,13 @@ use crate::browser::Browser;
 use crate::naming::label_of;
 use crate::rows::Row;
 use std::alloc::Global;
+use tui_app::say_too_small;
 use tui_cells::{Buffer, Mem, Modifier, Position, Rect, StatefulWidget, Style, Widget};
 use tui_frames::Block;
 use tui_input::{Input, InputState};
 use tui_lists::{List, ListItem, ListState};
 use tui_para::{Paragraph, Wrap};
-use tui_text::{Line, Text, set_stringn_in};
+use tui_text::{Line, Text};
 
 /// The least columns and rows of a screen that has room for a browser.
 const LEAST_WIDTH: u16 = 12;
@@ -262,19 +279,4 @@ fn list_over<'t>(alloc: Global, items: Vec<ListItem<'t>>, title: &'t str) -> Mem
             .highlight_symbol(symbol)
             .highlight_style(reversed()),
     )
-}
-
-/// Writes from the first cell on that the screen is too small.
-fn say_too_small(buf: &mut Buffer) -> Mem<()>
-    requires { IsFilled buf.old.area blank buf.old }
-    ensures says { OnOk result (SaysTooSmall buf.new) }
-    ensures area { OnOk result (buf.new.area ≡ buf.old.area) }
-{
-    let area = buf.area();
-    let at = Position {
-        x: area.x,
-        y: area.y,
-    };
-    set_stringn_in(buf, area, at, "too small", 9, Style::new())?;
-    Ok(())
 }

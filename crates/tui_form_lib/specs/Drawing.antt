@@ -1,11 +1,34 @@
 -- What a form draws.
-use Rattle.std.specs.Prelude.{◌≡◌, ◌≤◌, ℕ, ◌+◌, ◌-◌, ◌*◌, ◌&&◌, Bool, true, false, min, nat_lt, List, [], ◌∷◌, ◌++◌, Option, None, Some, codes, slice_get, if◌then◌else◌}
+use Rattle.std.specs.Prelude.{
+  ◌≡◌,
+  ◌≤◌,
+  ℕ,
+  ◌+◌,
+  ◌-◌,
+  ◌*◌,
+  ◌&&◌,
+  Bool,
+  true,
+  false,
+  min,
+  nat_lt,
+  List,
+  [],
+  ◌∷◌,
+  ◌++◌,
+  Option,
+  None,
+  Some,
+  codes,
+  slice_get,
+  if◌then◌else◌,
+}
 use Rattle.std.specs.Option.{option_map_or}
-use Rattle.tui_cells.specs.Buffer.{IsFilled, Screen, cell_at}
+use Rattle.tui_app.specs.TooSmall.{SaysTooSmall}
+use Rattle.tui_cells.specs.Buffer.{Screen, cell_at}
 use Rattle.tui_cells.specs.Cell.{blank}
-use Rattle.tui_cells.specs.Layers.{Layer, Painted, layers_at}
+use Rattle.tui_cells.specs.Layers.{Layer, layers_at}
 use Rattle.tui_cells.specs.Rect.{columns_from, covers, farthest_edge, rows_from}
-use Rattle.tui_cells.specs.Style.{no_style}
 use Rattle.tui_cells.specs.declared.position.Position.{Position}
 use Rattle.tui_cells.specs.declared.rect.Rect.{Rect}
 use Rattle.tui_form_lib.specs.Field.{FieldData}
@@ -20,7 +43,6 @@ use Rattle.tui_lists.specs.List.{ListData, list_after, list_of}
 use Rattle.tui_lists.specs.ListStrokes.{list_layers}
 use Rattle.tui_lists.specs.declared.list.state.ListState.{ListState}
 use Rattle.tui_text.specs.Line.{raw_line}
-use Rattle.tui_text.specs.Setting.{set_layers, styled_text}
 
 -- whether a screen has room for a form
 abbrev pub has_room : Rect → Bool
@@ -105,12 +127,6 @@ pub record ShowsForm (f : FormData) (screen : Screen) (place : Option Position) 
   pub cells : (x y : ℕ) → covers screen.area x y ≡ true → cell_at screen x y ≡ Some (layers_at (form_layers f screen.area) x y blank)
   pub new_is : new ≡ form_drawn f screen.area
   pub cursor : place ≡ cursor_over (row_in f screen.area) new.fields new.focus
-
--- a blank screen on which, from its first cell on, stands that it is too small
-pub record SaysTooSmall (screen : Screen) : Type 0 where
-  pub before : Screen
-  pub filled : IsFilled before.area blank before
-  pub painted : Painted (set_layers before.area (record { x = before.area.x; y = before.area.y }) (styled_text (codes "too small") no_style) 9) before screen
 
 -- the form, where there is room, and else that the screen is too small
 pub record Draws (f : FormData) (screen : Screen) (place : Option Position) (new : FormData) : Type 0 where

@@ -3,6 +3,7 @@ use Rattle.std.specs.Prelude.{◌≡◌, ◌<◌, ℕ, Bool, true, false, List, 
 use Rattle.tui_app.specs.Behaviour.{Behaviour}
 use Rattle.tui_app.specs.Lives.{Stand}
 use Rattle.tui_app.specs.Session.{Session}
+use Rattle.tui_app.specs.TooSmall.{SaysTooSmall}
 use Rattle.tui_app_laws.specs.Showing.{IsPresent}
 use Rattle.tui_cells.specs.Buffer.{Screen, cell_at}
 use Rattle.tui_cells.specs.Cell.{blank}
@@ -10,7 +11,7 @@ use Rattle.tui_cells.specs.Layers.{layers_at}
 use Rattle.tui_cells.specs.Rect.{covers}
 use Rattle.tui_cells.specs.declared.position.Position.{Position}
 use Rattle.tui_cells.specs.declared.rect.Rect.{Rect}
-use Rattle.tui_form_lib.specs.Drawing.{Draws, SaysTooSmall, cursor_over, focused_row, form_layers, form_list, has_room, inside}
+use Rattle.tui_form_lib.specs.Drawing.{Draws, cursor_over, focused_row, form_layers, form_list, has_room, inside}
 use Rattle.tui_form_lib.specs.Form.{FormData, form_data}
 use Rattle.tui_form_lib.specs.Steps.{IsFocused, after_event, flow_after}
 use Rattle.tui_form_lib.specs.Value.{ValueData, typed_value}

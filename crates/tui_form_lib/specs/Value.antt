@@ -1,5 +1,26 @@
 -- What a field holds, and what each event makes of it.
-use Rattle.std.specs.Prelude.{ℕ, ◌+◌, ◌-◌, ◌==◌, ◌&&◌, Bool, false, not, nat_lt, List, length, map, slice_get, string_bytes, Option, None, Some, is_none, is_some, if◌then◌else◌}
+use Rattle.std.specs.Prelude.{
+  ℕ,
+  ◌+◌,
+  ◌-◌,
+  ◌==◌,
+  ◌&&◌,
+  Bool,
+  false,
+  not,
+  nat_lt,
+  List,
+  length,
+  map,
+  slice_get,
+  string_bytes,
+  Option,
+  None,
+  Some,
+  is_none,
+  is_some,
+  if◌then◌else◌,
+}
 use Rattle.std.specs.Option.{option_and_then, option_or}
 use Rattle.tui_form_lib.specs.declared.value.Value.{Value}
 use Rattle.tui_form_lib.specs.declared.value.Value.TheVariants as values

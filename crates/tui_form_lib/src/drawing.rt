@@ -7,7 +7,6 @@ ghost use Rattle.tui_cells.specs.Layers.{Painted};
 ghost use Rattle.tui_cells.specs.Rect.{intersection_of};
 ghost use Rattle.tui_form_lib.specs.Drawing.{
   Draws,
-  SaysTooSmall,
   ShowsForm,
   cursor_over,
   field_drawn,
@@ -35,11 +34,12 @@ use crate::form::Form;
 use crate::items::field_items;
 use crate::value::Value;
 use std::alloc::Global;
-use tui_cells::{Buffer, Mem, Position, Rect, StatefulWidget, Style};
+use tui_app::say_too_small;
+use tui_cells::{Buffer, Mem, Position, Rect, StatefulWidget};
 use tui_frames::Block;
 use tui_input::Input;
 use tui_lists::{List, ListState};
-use tui_text::{Line, set_stringn_in};
+use tui_text::Line;
 
 /// The least columns and rows of a screen that has room for a form.
 const LEAST_WIDTH: u16 = 12;
@@ -186,19 +186,4 @@ fn titled_block<'t>(alloc: Global, title: &'t str) -> Mem<Block<'t>>
     let mut block = Block::bordered(alloc);
     block.title(Line::raw(alloc, title)?)?;
     Ok(block)
-}
-
-/// Writes from the first cell on that the screen is too small.
-fn say_too_small(buf: &mut Buffer) -> Mem<()>
-    requires { IsFilled buf.old.area blank buf.old }
-    ensures says { OnOk result (SaysTooSmall buf.new) }
-    ensures area { OnOk result (buf.new.area ≡ buf.old.area) }
-{
-    let area = buf.area();
-    let at = Position {
-        x: area.x,
-        y: area.y,
-    };
-    set_stringn_in(buf, area, at, "too small", 9, Style::new())?;
-    Ok(())
 }

@@ -1,5 +1,27 @@
 -- The form that a JSON value says: its keys in order, the fields one by one, the first whose test fails being the refusal.
-use Rattle.std.specs.Prelude.{ℕ, zero, suc, ◌&&◌, ◌||◌, nat_le, Bool, false, List, [], length, chars, if◌then◌else◌, Option, Some, None, option_map, option_and_then, unwrap_or, Result, Ok}
+use Rattle.std.specs.Prelude.{
+  ℕ,
+  zero,
+  suc,
+  ◌&&◌,
+  ◌||◌,
+  nat_le,
+  Bool,
+  false,
+  List,
+  [],
+  length,
+  chars,
+  if◌then◌else◌,
+  Option,
+  Some,
+  None,
+  option_map,
+  option_and_then,
+  unwrap_or,
+  Result,
+  Ok,
+}
 use Rattle.std.specs.List.{position_from}
 use Rattle.std.specs.Str.{bytes_eq}
 use Rattle.serde_json.specs.Data.{Data, Items, no_items, item}

@@ -4,6 +4,7 @@ pub mod Nearest
 mod NarrowLooks
 mod NarrowRows
 mod NarrowWalks
+mod RowTests
 mod RowWalks
 mod SameRows
 mod Styling

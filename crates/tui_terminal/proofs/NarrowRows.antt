@@ -20,17 +20,6 @@ use Rattle.tui_terminal.proofs.Walking.{all_append}
 abbrev narrow : Trust → List Look → Bool
 narrow trust row = list_all (λ c. is_narrow trust c.symbol) row
 
--- ---- the test
-
-pub narrow_step : (trust : Trust) (row : List Look) (i : ℕ) (c : Look) → i < length row → c ≡ get_or row i c →
-    list_all (λ k. is_narrow trust k.symbol) (drop i row) ≡ (is_narrow trust c.symbol && list_all (λ k. is_narrow trust k.symbol) (drop (i + 1) row))
-narrow_step trust row i c lt is =
-    let first : drop i row ≡ get_or row i c ∷ drop (i + 1) row = rw (add-one, drop-cons row i c lt) refl in
-    ap (narrow trust) (first ∙ ap (λ (k : Look). k ∷ drop (i + 1) row) (sym is))
-
-pub narrow_end : (trust : Trust) (row : List Look) (i : ℕ) → length row ≤ i → true ≡ list_all (λ k. is_narrow trust k.symbol) (drop i row)
-narrow_end trust row i past = sym (ap (narrow trust) (drop_all i row past))
-
 -- ---- each cell shows as it is
 
 unfoldable pub map_some : List Look → List (Option Look)

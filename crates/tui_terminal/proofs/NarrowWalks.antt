@@ -19,11 +19,6 @@ use Rattle.tui_terminal.proofs.NarrowLooks.{narrow_trusted}
 use Rattle.tui_terminal.proofs.NarrowRows.{map_some, narrow_sends, narrow_shown}
 use Rattle.tui_terminal.proofs.Walking.{dropped}
 
-pub narrow_cell : (trust : Trust) (row : List Look) (i : ℕ) (c : Look) → i < length row → c ≡ get_or row i c → list_all (λ k. is_narrow trust k.symbol) row ≡ true → is_narrow trust c.symbol ≡ true
-narrow_cell trust [] i c lt is e = absurd (omega arith)
-narrow_cell trust (x ∷ xs) zero c lt is e = ap (λ (k : Look). is_narrow trust k.symbol) is ∙ (and_parts (is_narrow trust x.symbol) (list_all (λ k. is_narrow trust k.symbol) xs) e).0
-narrow_cell trust (x ∷ xs) (suc i) c lt is e = narrow_cell trust xs i c (omega arith) is (and_parts (is_narrow trust x.symbol) (list_all (λ k. is_narrow trust k.symbol) xs) e).1
-
 -- one cell more
 pub narrow_more : (trust : Trust) (w : Wanted) (left i : ℕ) (olds news : List Look) (o n : Look) (here done whole : List Placed) →
     i < length news → length olds ≡ length news → o ≡ get_or olds i o → n ≡ get_or news i n → here ≡ sent_here trust w (left + i) (Some o) n →

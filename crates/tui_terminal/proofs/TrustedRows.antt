@@ -19,23 +19,6 @@ use Rattle.tui_terminal.proofs.Walking.{all_append}
 abbrev sure : Trust → List Look → Bool
 sure trust row = list_all (λ c. is_trusted trust c.symbol) row
 
--- ---- the test
-
-pub trusted_step : (trust : Trust) (row : List Look) (i : ℕ) (c : Look) → i < length row → c ≡ get_or row i c →
-    list_all (λ k. is_trusted trust k.symbol) (drop i row) ≡ (is_trusted trust c.symbol && list_all (λ k. is_trusted trust k.symbol) (drop (i + 1) row))
-trusted_step trust row i c lt is =
-    let first : drop i row ≡ get_or row i c ∷ drop (i + 1) row = rw (add-one, drop-cons row i c lt) refl in
-    ap (sure trust) (first ∙ ap (λ (k : Look). k ∷ drop (i + 1) row) (sym is))
-
-pub trusted_end : (trust : Trust) (row : List Look) (i : ℕ) → length row ≤ i → true ≡ list_all (λ k. is_trusted trust k.symbol) (drop i row)
-trusted_end trust row i past = sym (ap (sure trust) (drop_all i row past))
-
-pub trusted_cell : (trust : Trust) (row : List Look) (i : ℕ) (c : Look) → i < length row → c ≡ get_or row i c →
-    list_all (λ k. is_trusted trust k.symbol) row ≡ true → is_trusted trust c.symbol ≡ true
-trusted_cell trust [] i c lt is e = absurd (omega arith)
-trusted_cell trust (x ∷ xs) zero c lt is e = ap (λ (k : Look). is_trusted trust k.symbol) is ∙ (and_parts (is_trusted trust x.symbol) (sure trust xs) e).0
-trusted_cell trust (x ∷ xs) (suc i) c lt is e = trusted_cell trust xs i c (omega arith) is (and_parts (is_trusted trust x.symbol) (sure trust xs) e).1
-
 -- ---- what shows
 
 -- a symbol that shows, if one does, is trusted

@@ -3,8 +3,10 @@ use Rattle.tui_outside.proofs.Gathering.{Gathers-none, Gathers-then}
 use Rattle.tui_tty_laws.specs.declared.at.At.{At}
 use Rattle.tui_tty_laws.specs.declared.wanted.Wanted.TheVariants.{Trusted}
 use Rattle.tui_tty_laws.specs.Sending.{at_after, nowhere}
+use Rattle.tui_terminal.specs.Narrow.{is_narrow}
 use Rattle.tui_terminal.specs.Sent.{placed_if}
-use Rattle.tui_terminal.proofs.NarrowWalks.{all_here, narrow_begin, narrow_cell, narrow_done, narrow_more, narrow_row}
+use Rattle.tui_terminal.proofs.NarrowWalks.{all_here, narrow_begin, narrow_done, narrow_more, narrow_row}
+use Rattle.tui_terminal.proofs.RowTests.{tested_cell}
 use Rattle.tui_terminal.proofs.Texts.{Gathers-text}
 use Rattle.tui_terminal.proofs.Walking.{at_append, at_none, send_more, send_none}
 use Rattle.tui_terminal.proofs.narrow.put_all_narrow.Goals as goal
@@ -23,7 +25,7 @@ put_narrow_if-now-requires g c =
     let a = c.args in
     let i = c.columns.column in
     let lt : i < length a.row.now = search (rules, arith) in
-    (omega (arith, lt, c.requires.0), c.requires.1, narrow_cell a.output.trust a.row.now i c.index-row-column.result lt c.index-row-column.is c.requires.2)
+    (omega (arith, lt, c.requires.0), c.requires.1, tested_cell (is_narrow a.output.trust) a.row.now i c.index-row-column.result lt c.index-row-column.is c.requires.2)
 
 pub columns-preserved : goal.columns-preserved
 columns-preserved g c =
@@ -35,7 +37,7 @@ columns-preserved g c =
     let n = c.index-row-column.result in
     let lt : i < length a.row.now = search (rules, arith) in
     let here = placed_if true (a.left + i) n in
-    let same = all_here a.output.trust (a.left + i) n (narrow_cell a.output.trust a.row.now i n lt c.index-row-column.is c.requires.2) in (
+    let same = all_here a.output.trust (a.left + i) n (tested_cell (is_narrow a.output.trust) a.row.now i n lt c.index-row-column.is c.requires.2) in (
       inv.0 ++ here,
       Gathers-text (send_more a.output a.y nowhere l.now inv.0 here inv.2) (Gathers-then inv.1 c.put_narrow_if-now.ensures.put),
       c.put_narrow_if-now.ensures.next ∙ (ap (λ (k : At). at_after a.output.trust k here) inv.2 ∙ sym (at_append a.output.trust nowhere inv.0 here)),

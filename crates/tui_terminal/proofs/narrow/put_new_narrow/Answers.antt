@@ -3,8 +3,10 @@ use Rattle.tui_outside.proofs.Gathering.{Gathers-none, Gathers-then}
 use Rattle.tui_tty_laws.specs.declared.at.At.{At}
 use Rattle.tui_tty_laws.specs.declared.wanted.Wanted.TheVariants.{Changed}
 use Rattle.tui_tty_laws.specs.Sending.{at_after, nowhere}
+use Rattle.tui_terminal.specs.Narrow.{is_narrow}
 use Rattle.tui_terminal.specs.Sent.{placed_if}
-use Rattle.tui_terminal.proofs.NarrowWalks.{new_here, narrow_begin, narrow_cell, narrow_done, narrow_more, narrow_changes}
+use Rattle.tui_terminal.proofs.NarrowWalks.{new_here, narrow_begin, narrow_done, narrow_more, narrow_changes}
+use Rattle.tui_terminal.proofs.RowTests.{tested_cell}
 use Rattle.tui_terminal.proofs.Texts.{Gathers-text}
 use Rattle.tui_terminal.proofs.Walking.{at_append, at_none, send_more, send_none}
 use Rattle.tui_terminal.proofs.narrow.put_new_narrow.Goals as goal
@@ -23,7 +25,7 @@ put_narrow_if-now-requires g c =
     let a = c.args in
     let i = c.columns.column in
     let lt : i < length a.new.now = search (rules, arith) in
-    (omega (arith, lt, c.requires.1), c.requires.2, narrow_cell a.output.trust a.new.now i c.index-new-column.result lt c.index-new-column.is c.requires.4)
+    (omega (arith, lt, c.requires.1), c.requires.2, tested_cell (is_narrow a.output.trust) a.new.now i c.index-new-column.result lt c.index-new-column.is c.requires.4)
 
 pub columns-preserved : goal.columns-preserved
 columns-preserved g c =

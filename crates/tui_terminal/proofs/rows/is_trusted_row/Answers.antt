@@ -1,7 +1,7 @@
 use Rattle.std.proofs.Common.{◌≡◌, ◌+◌, ◌<◌, ◌≤◌, ◌&&◌, Bool, length, drop, rules, true, false, sym, ap, ◌∙◌, arith}
 use Rattle.std.specs.List.{list_all}
 use Rattle.tui_tty.specs.Symbols.{is_trusted}
-use Rattle.tui_terminal.proofs.TrustedRows.{trusted_end, trusted_step}
+use Rattle.tui_terminal.proofs.RowTests.{tested, tested_all}
 use Rattle.tui_terminal.proofs.rows.is_trusted_row.Goals as goal
 
 pub columns-preserved : goal.columns-preserved
@@ -13,7 +13,7 @@ columns-preserved c =
     let lt : l.column < length row = search (rules, arith) in
     let on : c.is_trusted.result ≡ true = search rules in
     let is : is_trusted trust cell.symbol ≡ true = ap (is_trusted trust) (sym c.symbol.ensures.is) ∙ (sym c.is_trusted.ensures ∙ on) in
-    sym (trusted_step trust row l.column cell lt c.index-row-column.is ∙ ap (λ (b : Bool). b && list_all (λ k. is_trusted trust k.symbol) (drop (l.column + 1) row)) is) ∙ l.invariant
+    sym (tested (is_trusted trust) row l.column cell _ lt c.index-row-column.is is) ∙ l.invariant
 
 pub returns-then-not-is_trusted : goal.returns-then-not-is_trusted
 returns-then-not-is_trusted c =
@@ -24,10 +24,10 @@ returns-then-not-is_trusted c =
     let lt : l.column < length row = search (rules, arith) in
     let off : c.is_trusted.result ≡ false = search rules in
     let is : is_trusted trust cell.symbol ≡ false = ap (is_trusted trust) (sym c.symbol.ensures.is) ∙ (sym c.is_trusted.ensures ∙ off) in
-    sym (trusted_step trust row l.column cell lt c.index-row-column.is ∙ ap (λ (b : Bool). b && list_all (λ k. is_trusted trust k.symbol) (drop (l.column + 1) row)) is) ∙ l.invariant
+    sym (tested (is_trusted trust) row l.column cell _ lt c.index-row-column.is is) ∙ l.invariant
 
 pub returns : goal.returns
 returns c =
     let l = c.columns in
     let past : length c.args.row.now ≤ l.column = search (rules, arith) in
-    trusted_end c.args.trust c.args.row.now l.column past ∙ l.invariant
+    tested_all (is_trusted c.args.trust) c.args.row.now l.column past ∙ l.invariant

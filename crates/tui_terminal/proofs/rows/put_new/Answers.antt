@@ -11,8 +11,8 @@ use Rattle.tui_tty_laws.specs.declared.wanted.Wanted.TheVariants.{Changed}
 use Rattle.tui_tty_laws.specs.Sending.{at_after, nowhere, send}
 use Rattle.tui_terminal.specs.Seeing.{cover_of, look_in, shown_in}
 use Rattle.tui_terminal.specs.Sent.{placed_if}
+use Rattle.tui_terminal.proofs.RowTests.{tested_cell}
 use Rattle.tui_terminal.proofs.Texts.{Gathers-text}
-use Rattle.tui_terminal.proofs.TrustedRows.{trusted_cell}
 use Rattle.tui_terminal.proofs.Walking.{at_append, at_none, new_is, send_more, send_none, walk_begin, walk_end, walk_more}
 use Rattle.tui_terminal.proofs.rows.put_new.Goals as goal
 
@@ -34,7 +34,7 @@ see-before-requires g c =
     let lt_old : i < length a.old.now = omega (arith, c.requires.0) in (
       omega (arith, lt),
       omega (arith, c.requires.1),
-      λ on. trusted_cell trust a.old.now i c.index-old-column.result lt_old c.index-old-column.is
+      λ on. tested_cell (is_trusted trust) a.old.now i c.index-old-column.result lt_old c.index-old-column.is
           (and_parts (list_all (λ k. is_trusted trust k.symbol) a.old.now) (list_all (λ k. is_trusted trust k.symbol) a.new.now) (c.requires.3 on)).0,
     )
 
@@ -46,7 +46,7 @@ see-seen-requires g c =
     let lt : i < length a.new.now = search (rules, arith) in (
       omega (arith, lt),
       omega (arith, c.requires.1),
-      λ on. trusted_cell trust a.new.now i c.index-new-column.result lt c.index-new-column.is
+      λ on. tested_cell (is_trusted trust) a.new.now i c.index-new-column.result lt c.index-new-column.is
           (and_parts (list_all (λ k. is_trusted trust k.symbol) a.old.now) (list_all (λ k. is_trusted trust k.symbol) a.new.now) (c.requires.3 on)).1,
     )
 

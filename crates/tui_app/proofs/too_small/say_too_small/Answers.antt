@@ -1,4 +1,4 @@
-use Rattle.tui_form_lib.proofs.drawing.say_too_small.Goals as goal
+use Rattle.tui_app.proofs.too_small.say_too_small.Goals as goal
 
 pub returns-clause-says : goal.returns-clause-says
 returns-clause-says c =
