@@ -8,3 +8,4 @@ pub mod Shown
 pub mod Ended
 pub mod Ends
 pub mod Laws
+pub mod Same

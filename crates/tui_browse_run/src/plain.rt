@@ -1,6 +1,7 @@
 //! Plain values of the program, which `==` tells apart and a clone leaves as they are.
 
 ghost use Rattle.std.proofs.Common.{rules};
+ghost use Rattle.tui_browse_run.specs.Same.{same_ended, same_refusal};
 
 use crate::ended::BrowseEnded;
 use crate::form::Form;
@@ -16,6 +17,18 @@ impl Plain for Form {
 
 impl Plain for PiecesError {
     ghost same = { Prim.search rules };
+
+    ghost cloned = { Prim.search rules };
+}
+
+impl Plain for Refusal {
+    ghost same = { same_refusal };
+
+    ghost cloned = { Prim.search rules };
+}
+
+impl Plain for BrowseEnded {
+    ghost same = { same_ended };
 
     ghost cloned = { Prim.search rules };
 }

@@ -9,3 +9,4 @@ pub mod Place
 pub mod Ended
 pub mod Ends
 pub mod Laws
+pub mod Same

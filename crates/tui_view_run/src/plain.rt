@@ -1,8 +1,10 @@
 //! Plain values of the program, which `==` tells apart and a clone leaves as they are.
 
 ghost use Rattle.std.proofs.Common.{rules};
+ghost use Rattle.tui_view_run.specs.Same.{same_ended};
 
 use crate::command::ViewCommand;
+use crate::ended::ViewEnded;
 use crate::frames::Frames;
 use tui_program::Plain;
 
@@ -14,6 +16,12 @@ impl Plain for ViewCommand {
 
 impl Plain for Frames {
     ghost same = { Prim.search rules };
+
+    ghost cloned = { Prim.search rules };
+}
+
+impl Plain for ViewEnded {
+    ghost same = { same_ended };
 
     ghost cloned = { Prim.search rules };
 }

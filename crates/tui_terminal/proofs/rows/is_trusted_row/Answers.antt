@@ -1,5 +1,4 @@
-use Rattle.std.proofs.Common.{◌≡◌, ◌+◌, ◌<◌, ◌≤◌, ◌&&◌, Bool, length, drop, rules, true, false, sym, ap, ◌∙◌, arith}
-use Rattle.std.specs.List.{list_all}
+use Rattle.std.proofs.Common.{◌≡◌, ◌<◌, ◌≤◌, length, rules, true, false, sym, ap, ◌∙◌, arith}
 use Rattle.tui_tty.specs.Symbols.{is_trusted}
 use Rattle.tui_terminal.proofs.RowTests.{tested, tested_all}
 use Rattle.tui_terminal.proofs.rows.is_trusted_row.Goals as goal

@@ -1,0 +1,234 @@
+"""The programs that live on a terminal, each under ./live in tmux as its user would try it, for `tools/live_check`: keys, a paste, a narrow terminal and one
+that is too small, Ctrl-Z and `fg`, its ends, and a kill. What they show is worked out from docs/PROGRAMS.md."""
+import json
+import os
+import shutil
+import signal
+from typing import NamedTuple
+
+from tmux import MODES, ROOT, SIZE
+
+CRATES = ROOT / "crates"
+NARROW, TINY = (30, 9), (8, 2)
+
+
+class Living(NamedTuple):
+    """How a program is called, what stands on its first screen, on a narrow one and on a tiny one."""
+
+    words: str
+    first: list
+    narrow: list
+    tiny: list
+
+    def name(self):
+        return self.words.split()[0]
+
+
+def is_built(name):
+    if (CRATES / name / "out" / name).exists():
+        return True
+    print(f"tools/live_check: {name} was skipped, since it is not built")
+    return False
+
+
+def sizes(tmux, living):
+    """Another size, one that is too small, and the first one again."""
+    name = living.name()
+    tmux.resize(*NARROW)
+    tmux.shows(f"{name}: a narrow terminal", *living.narrow)
+    tmux.resize(*TINY)
+    tmux.shows(f"{name}: a tiny terminal", *living.tiny)
+    tmux.resize(*SIZE)
+    tmux.shows(f"{name}: the first size again", *living.first)
+
+
+def stop_and_go_on(tmux, name, *wanted):
+    """Ctrl-Z, another command and `fg`."""
+    tmux.keys("C-z")
+    tmux.shows(f"{name}: Ctrl-Z", "Stopped")
+    tmux.until(f"{name}: the modes behind Ctrl-Z", lambda: tmux.tells(MODES[2:]) == tmux.modes.split(" ", 2)[2])
+    tmux.equal(f"{name}: stty -a behind Ctrl-Z", tmux.run("stty -a"), tmux.lines)
+    tmux.type("clear; fg; echo $? >status")
+    tmux.shows(f"{name}: fg", *wanted)
+
+
+def kills(tmux, living):
+    """Ctrl-C, a signal to ./live, and the death of the program."""
+    name = living.name()
+    tmux.start(living.words, living.first[0])
+    tmux.keys("C-c")
+    tmux.ended(f"{name}: Ctrl-C", 130)
+    tmux.start(living.words, living.first[0])
+    os.kill(tmux.process("live"), signal.SIGTERM)
+    tmux.ended(f"{name}: TERM", 143)
+    tmux.start(living.words, living.first[0])
+    os.kill(tmux.process(f"out/{name}"), signal.SIGKILL)
+    tmux.ended(f"{name}: killed", 137)
+
+
+def lives(tmux, living):
+    """What all programs have in common that take keys."""
+    tmux.start(living.words, living.first[0])
+    tmux.shows(f"{living.name()}: the first screen", *living.first)
+    sizes(tmux, living)
+    stop_and_go_on(tmux, living.name(), *living.first)
+    tmux.keys("C-c")
+    tmux.until(f"{living.name()}: Ctrl-C behind fg", lambda: tmux.status() == "130")
+    kills(tmux, living)
+
+
+def refuses(tmux, name, cases):
+    """Refusals: the words, the status, what is said, and whether the terminal is entered first."""
+    for words, status, said in cases:
+        tmux.start(f"{name} {words}".strip(), said[0] if said else "ready>")
+        tmux.ended(f"{name} {words}", status, *said)
+
+
+def browses(tmux):
+    """tui_browse: entries and texts."""
+    if not is_built("tui_browse"):
+        return
+    shutil.copy(CRATES / "tui_browse/data/entries.json", tmux.folder)
+    (tmux.folder / "text").write_text("".join(f"line {number}\n" for number in range(1, 1502)), encoding="utf-8")
+    (tmux.folder / "latin").write_bytes(b"caf\xe9\n")
+    lives(tmux, Living("tui_browse entries.json", ["│>Rattle", "Each function may have a contract.", "1/3"], ["│>Rattle", "1/3"], ["too smal"]))
+    tmux.start("tui_browse entries.json", "1/3")
+    tmux.keys("Down")
+    tmux.shows("the second entry", "│>Cells", "A buffer holds a cell", "2/3")
+    tmux.keys("End")
+    tmux.shows("the last entry", ">Wide 漢字", "漢字 stand in two columns each.", "3/3")
+    tmux.resize(30, 4)
+    tmux.until("too few rows", lambda: tmux.screen() == "too small")
+    tmux.keys("k")
+    tmux.resize(*SIZE)
+    tmux.shows("rows again", "│>Cells", "2/3")
+    tmux.text("kq")
+    tmux.ended("q of tui_browse", 0)
+    tmux.start("tui_browse --text text", "1/2")
+    tmux.shows("the first piece", "│>1 line 1 ", "││line 1 ")
+    tmux.text("j  ")
+    tmux.shows("the second piece", "│>1001 line 1001", "││line 1019")
+    tmux.keys("C-c")
+    tmux.ended("Ctrl-C of tui_browse", 130)
+    refuses(tmux, "tui_browse", [("text", 4, ["refused: not JSON"]), ("--text latin", 4, ["refused: not UTF-8"]), ("", 2, ["refused: usage"]), ("nothing", 6, [])])
+
+
+def goes_through_folders(tmux):
+    """tui_files: folders and their names, a part that is pasted, the file CHOSEN."""
+    if not is_built("tui_files"):
+        return
+    folder = tmux.folder / "house"
+    (folder / "cellar").mkdir(parents=True)
+    (folder / "cellar/wine").write_text("red\n", encoding="utf-8")
+    for name, text in (("apple", "an apple\n"), ("pear", "a pear\n"), (".hidden", "")):
+        (folder / name).write_text(text, encoding="utf-8")
+    (folder / "bytes").write_bytes(b"\xff\xfe")
+    lives(tmux, Living("tui_files house chosen", [">cellar/", "1/4", "apple"], [">cellar/", "1/4"], ["too smal"]))
+    tmux.start("tui_files house chosen", ">cellar/")
+    tmux.keys("Down")
+    tmux.shows("the beginning of a file", ">apple", "an apple", "2/4")
+    tmux.text("j")
+    tmux.shows("a file that is no text", ">bytes", "binary", "3/4")
+    tmux.text(".")
+    tmux.shows("names with a dot", ".hidden", "4/5")
+    tmux.text(".")
+    tmux.keys("Home", "Enter")
+    tmux.shows("a folder", ">wine", "red", "1/1")
+    tmux.keys("Left")
+    tmux.shows("out of it", ">cellar/", "1/4")
+    tmux.text("/")
+    tmux.paste("pe")
+    tmux.shows("a part that was pasted", ">pear", "/pe")
+    tmux.keys("Enter", "Enter")
+    tmux.ended("Enter at a file", 0)
+    tmux.equal("the path that was chosen", (tmux.folder / "chosen").read_text(encoding="utf-8"), f"{folder.resolve()}/pear\n")
+    refuses(tmux, "tui_files", [("a b c", 2, ["refused: usage"]), ("nothing", 6, [])])
+
+
+FORM = {"title": "Ask", "fields": [{"name": "who", "label": "Who?", "kind": "text", "needed": True}, {"name": "secret", "label": "Secret", "kind": "text", "mask": True},
+                                   {"name": "room", "label": "Room", "kind": "choice", "of": ["sea", "hill"]}, {"name": "bath", "label": "Bath", "kind": "check"}]}
+
+
+def asks(tmux):
+    """tui_form: texts, one of them pasted, a choice and a check; a needed field; the answers, and an end without them."""
+    if not is_built("tui_form"):
+        return
+    (tmux.folder / "form.json").write_text(json.dumps(FORM), encoding="utf-8")
+    answers = tmux.folder / "answers"
+    answers.write_text("before\n", encoding="utf-8")
+    lives(tmux, Living("tui_form form.json answers", ["┌Ask", "> Who? *", "Room", "[ ]"], ["┌Ask", "> Who? *", "Secret"], ["too smal"]))
+    tmux.start("tui_form form.json answers", "> Who? *")
+    tmux.keys("Enter")
+    tmux.shows("a needed field without an answer", "> Who? * needed")
+    tmux.paste("Ada\nL")
+    tmux.shows("a paste, its newline a blank", "Ada L")
+    tmux.keys("Tab")
+    tmux.text("漢x")
+    tmux.shows("a mask", "> Secret", "**")
+    tmux.keys("Tab", "Right", "Tab", "Space")
+    tmux.shows("a choice and a check", "< sea >", "> Bath", "[x]")
+    tmux.equal("answers before the form is accepted", answers.read_text(encoding="utf-8"), "before\n")
+    tmux.keys("Enter")
+    tmux.ended("an accepted form", 0)
+    tmux.equal("the answers", answers.read_text(encoding="utf-8"), '{"who":"Ada L","secret":"漢x","room":"sea","bath":true}\n')
+    tmux.start("tui_form form.json answers", "> Who? *")
+    tmux.keys("Escape")
+    tmux.shows("one Esc", "> Who? *")
+    tmux.keys("Escape")
+    tmux.ended("Esc twice", 1)
+    refuses(tmux, "tui_form", [("", 2, ["refused: usage"]), ("entries.json", 5, ["refused: field title"]), ("nothing", 6, [])])
+
+
+def watches(tmux):
+    """tui_watch over a stored machine."""
+    if not is_built("tui_watch"):
+        return
+    shutil.copytree(CRATES / "tui_watch/data/machine", tmux.folder / "machine")
+    lives(tmux, Living("tui_watch machine", ["load 0.52 0.58 0.59", "2 processors 18%", "PID S"], ["load 0.52 0.58 0.59"], ["load 0.5"]))
+    tmux.start("tui_watch machine", "load 0.52")
+    (tmux.folder / "machine/loadavg").write_text("9.00 1.00 1.00 1/2 3\n", encoding="utf-8")
+    tmux.shows("the next second", "load 9.00 1.00 1.00")
+    tmux.text("p")
+    (tmux.folder / "machine/loadavg").unlink()
+    tmux.shows("a pause", "load 9.00 1.00 1.00")
+    tmux.text("p")
+    tmux.shows("a file that is missing", "no loadavg")
+    tmux.text("q")
+    tmux.ended("q of tui_watch", 0)
+    refuses(tmux, "tui_watch", [("a b", 2, ["refused: usage"])])
+
+
+def scene(text, width=20):
+    return json.dumps({"width": width, "height": 2, "items": [{"area": [0, 0, width, 1], "widget": "paragraph", "text": text}]}) + "\n"
+
+
+def shows_scenes(tmux):
+    """tui_view frames: scenes, a line that is none, Ctrl-Z and `fg`, and its ends."""
+    if not is_built("tui_view"):
+        return
+    (tmux.folder / "one").write_text(scene("one"), encoding="utf-8")
+    (tmux.folder / "two").write_text("\n" + scene("two") + "no scene\n", encoding="utf-8")
+    (tmux.folder / "three").write_text(scene("three", 30), encoding="utf-8")
+    tmux.start("tui_view frames", "one", "(cat one; sleep 2; cat two; sleep 2) | ")
+    tmux.shows("the next scene, and a line that is none", "two", "refused: not JSON")
+    tmux.ended("the end of scenes", 0)
+    tmux.start("tui_view frames", "one", "(cat one; sleep 4; cat three; sleep 2) | ")
+    tmux.resize(*NARROW)
+    tmux.resize(*SIZE)
+    tmux.keys("C-z")
+    tmux.shows("Ctrl-Z of scenes", "Stopped")
+    tmux.equal("Ctrl-Z of scenes: stty -a", tmux.run("stty -a"), tmux.lines)
+    tmux.type("clear; fg; echo $? >status")
+    tmux.shows("a scene of another size behind fg", "three")
+    tmux.until("the end of scenes behind fg", lambda: tmux.status() == "0")
+    tmux.start("tui_view frames", "one", "(cat one; sleep 20) | ")
+    tmux.keys("C-c")
+    tmux.ended("Ctrl-C of scenes", 130)
+    tmux.start("tui_view frames", "one", "(cat one; sleep 20) | ")
+    os.kill(tmux.process("live"), signal.SIGTERM)
+    tmux.until("TERM of scenes", lambda: tmux.status() == "143")
+    tmux.start("tui_view none", "refused")
+    tmux.ended("tui_view none", 2, "refused: usage")
+
+
+LIVES = (browses, goes_through_folders, asks, watches, shows_scenes)
