@@ -78,7 +78,7 @@ def lives(tmux, living):
 
 
 def refuses(tmux, name, cases):
-    """Refusals: the words, the status, what is said, and whether the terminal is entered first."""
+    """Refusals, at which the terminal is not entered: the words, the status, and what is said."""
     for words, status, said in cases:
         tmux.start(f"{name} {words}".strip(), said[0] if said else "ready>")
         tmux.ended(f"{name} {words}", status, *said)
@@ -154,6 +154,7 @@ def asks(tmux):
     if not is_built("tui_form"):
         return
     (tmux.folder / "form.json").write_text(json.dumps(FORM), encoding="utf-8")
+    (tmux.folder / "wrong.json").write_text('{"title": 1}', encoding="utf-8")
     answers = tmux.folder / "answers"
     answers.write_text("before\n", encoding="utf-8")
     lives(tmux, Living("tui_form form.json answers", ["┌Ask", "> Who? *", "Room", "[ ]"], ["┌Ask", "> Who? *", "Secret"], ["too smal"]))
@@ -176,7 +177,7 @@ def asks(tmux):
     tmux.shows("one Esc", "> Who? *")
     tmux.keys("Escape")
     tmux.ended("Esc twice", 1)
-    refuses(tmux, "tui_form", [("", 2, ["refused: usage"]), ("entries.json", 5, ["refused: field title"]), ("nothing", 6, [])])
+    refuses(tmux, "tui_form", [("", 2, ["refused: usage"]), ("wrong.json", 5, ["refused: field title"]), ("nothing", 6, [])])
 
 
 def watches(tmux):

@@ -179,10 +179,11 @@ FORM = {"title": "A room", "fields": [
     {"name": "note", "label": "Anything else?", "kind": "text", "value": "We come by train, 漢字."}]}
 HOSTILE_FORM = {"title": CONTROLS, "fields": [{"name": CONTROLS, "label": CONTROLS, "kind": "text", "value": CONTROLS},
                                               {"name": "b", "label": "\x85\x08", "kind": "choice", "of": [CONTROLS]}]}
+# A name, of which a word is deleted; the two needed fields that are told; the secret, backwards; the note and the name anew.
 FILLED = [b"A", "ä".encode(), b"d", b"\x7f", b"d", b"\x1b[D", b"x", b"\x01", b"\x1b[200~", b"two\nlines", b"\x1b[201~", b"\x1b", b"\x05", b"\x17", b"\r",
-          b"\t", b"s", "漢".encode(), b"\x7f", b"t", b"\x0c", b"\x1b[B", b"\x1b[C", b"\x1b[C", b" ", b"\x1b[F", b"\x1b[H", b"\x1b[8;3;30t", b"\x1b[8;9;30t", b"\0",
-          b"\r", b"\x1b[B", b" ", b" ", b" ", b"\x1b[Z", b"\t", b"\t", b"!", b"\x15", b"n", b"\x0b", b"\x1b[A", b"\t", b"\t", b"B", b"\x1b[3~", b"\x1b[8;12;40t",
-          b"o", b"\r"]
+          b"\x1b[C", b"\x1b[C", b" ", b"\x1b[F", b"\x1b[H", b"\x1b[8;3;30t", b"\x1b[8;9;30t", b"\0", b"\r", b" ", b" ", b" ",
+          b"\x1b[Z", b"\x1b[A", b"s", "漢".encode(), b"\x7f", b"t", b"\x0c", b"\t", b"\x1b[B", b"\t", b"!", b"\x15", b"n", b"\x0b",
+          b"\t", b"\x15", b"B", b"\x1b[3~", b"o", b"\x1b[8;12;40t", b"\r"]
 WANTED = {"name": "Bo", "secret": "st", "room": "lake", "rules": True, "note": "n"}
 
 
