@@ -203,18 +203,28 @@ def scene(text, width=20):
     return json.dumps({"width": width, "height": 2, "items": [{"area": [0, 0, width, 1], "widget": "paragraph", "text": text}]}) + "\n"
 
 
+def feed(tmux, name, lines):
+    """A script that gives scenes."""
+    script = tmux.folder / name
+    script.write_text(f"#!/bin/sh\n{lines}\n", encoding="utf-8")
+    script.chmod(0o755)
+
+
 def shows_scenes(tmux):
     """tui_view frames: scenes, a line that is none, Ctrl-Z and `fg`, and its ends."""
     if not is_built("tui_view"):
         return
-    (tmux.folder / "one").write_text(scene("one"), encoding="utf-8")
-    (tmux.folder / "two").write_text("\n" + scene("two") + "no scene\n", encoding="utf-8")
-    (tmux.folder / "three").write_text(scene("three", 30), encoding="utf-8")
-    tmux.start("tui_view frames", "one", "(cat one; sleep 2; cat two; sleep 2) | ")
+    for name, lines in (("one", scene("one")), ("two", "\n" + scene("two") + "no scene\n"), ("three", scene("three", 30))):
+        (tmux.folder / name).write_text(lines, encoding="utf-8")
+    feed(tmux, "both", "cat one; sleep 2; cat two; sleep 2")
+    feed(tmux, "other", "cat one; sleep 5; cat three; sleep 2")
+    feed(tmux, "hold", "cat one; sleep 5")
+    tmux.start("tui_view frames", "one", "./both | ")
     tmux.shows("the next scene, and a line that is none", "two", "refused: not JSON")
     tmux.ended("the end of scenes", 0)
-    tmux.start("tui_view frames", "one", "(cat one; sleep 4; cat three; sleep 2) | ")
+    tmux.start("tui_view frames", "one", "./other | ")
     tmux.resize(*NARROW)
+    tmux.shows("a scene on a narrow terminal", "one")
     tmux.resize(*SIZE)
     tmux.keys("C-z")
     tmux.shows("Ctrl-Z of scenes", "Stopped")
@@ -222,12 +232,12 @@ def shows_scenes(tmux):
     tmux.type("clear; fg; echo $? >status")
     tmux.shows("a scene of another size behind fg", "three")
     tmux.until("the end of scenes behind fg", lambda: tmux.status() == "0")
-    tmux.start("tui_view frames", "one", "(cat one; sleep 20) | ")
+    tmux.start("tui_view frames", "one", "./hold | ")
     tmux.keys("C-c")
     tmux.ended("Ctrl-C of scenes", 130)
-    tmux.start("tui_view frames", "one", "(cat one; sleep 20) | ")
-    os.kill(tmux.process("live"), signal.SIGTERM)
-    tmux.until("TERM of scenes", lambda: tmux.status() == "143")
+    tmux.start("tui_view frames", "one", "./hold | ")
+    os.kill(tmux.process("out/tui_view"), signal.SIGKILL)
+    tmux.ended("scenes: killed", 137)
     tmux.start("tui_view none", "refused")
     tmux.ended("tui_view none", 2, "refused: usage")
 

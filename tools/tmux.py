@@ -46,7 +46,13 @@ class Tmux:
         self.call("paste-buffer", "-p", "-d")
 
     def resize(self, width, height):
+        """Gives the terminal another size, and waits until it has it: tmux tells it a little later."""
         self.call("resize-window", "-x", str(width), "-y", str(height))
+        terminal = os.open(self.tells(["pane_tty"]).partition("=")[2], os.O_RDONLY | os.O_NOCTTY)
+        end = time.monotonic() + PATIENCE
+        while os.get_terminal_size(terminal) != (width, height) and time.monotonic() < end:
+            time.sleep(0.05)
+        os.close(terminal)
 
     def until(self, name, holds):
         """Waits for what is wanted, and tells where it doesn't come."""
