@@ -6,7 +6,7 @@ use Rattle.std.specs.Io.KnownBytes.{Appends}
 use Rattle.tui_app.specs.Behaviour.{Behaviour}
 use Rattle.tui_app.specs.Lives.{Stand}
 use Rattle.tui_app.specs.Parts.{Closed, Handled, HasBeen, IsBegun, Opened, Sent, Turned, stand_of}
-use Rattle.tui_app.specs.Run.{Counts, HasStopped, IsRun, Stops, cut, enters, leaves, shows, whole}
+use Rattle.tui_app.specs.Run.{Counts, HasStopped, IsAppRun, Stops, cut, enters, leaves, shows, whole}
 use Rattle.tui_app.specs.Session.{begins, goes_on, output_at}
 use Rattle.tui_app.specs.Tape.{Broke, Took, gave}
 use Rattle.tui_app.specs.declared.ending.AppEnd.{AppEnd}
@@ -65,7 +65,7 @@ been_first b o begin app area surface t now text begun full took = record {
 }
 
 pub not_opened : {A E : Type 0} (b : Behaviour A) (o : Output) (begin app : A) (area : Rect) (surface : Surface) (t now : Told) (e : E) →
-    IsBegun b begin area app surface → Opened o surface t now (Err e) → IsRun b o begin area t now app ends.WriteFault
+    IsBegun b begin area app surface → Opened o surface t now (Err e) → IsAppRun b o begin area t now app ends.WriteFault
 not_opened b o begin app area surface t now e begun h =
     elim h [
       | inl broke ↦ cut enter_text t.faults (enters (stand_of app surface) begun.first refl) broke.part broke.faults
@@ -110,7 +110,7 @@ turned {A} b o old new bytes t0 t1 t2 result took h = by_result result h
 -- what stopped is left, or a put fails
 stopped : {A : Type 0} (b : Behaviour A) (o : Output) (begin last : A) (area : Rect) (stand : Stand A) (end result : AppEnd) (t0 t1 t2 t3 : Told) (count : ℕ) (given : List ℕ) →
     HasBeen b o begin area stand t0 t1 count → Stops b stand count given last end → Counts end t0.faults t2.faults → Appends t1.bytes t2.bytes given →
-    ((result ≡ end) × Took t2 t3 leave_text) ⊎ ((result ≡ ends.WriteFault) × Broke t2 t3 leave_text) → IsRun b o begin area t0 t3 last result
+    ((result ≡ end) × Took t2 t3 leave_text) ⊎ ((result ≡ ends.WriteFault) × Broke t2 t3 leave_text) → IsAppRun b o begin area t0 t3 last result
 stopped {A} b o begin last area stand end result t0 t1 t2 t3 count given been stops counts appends c =
     let tape = been.tape ++ (given ++ leave_text) in
     let has : (now : ℕ) → Counts end t0.faults now → HasStopped b o begin area last end tape t0.faults now = λ now faults. record {
@@ -126,12 +126,12 @@ stopped {A} b o begin last area stand end result t0 t1 t2 t3 count given been st
     } in
     elim c [
       | inl left ↦
-          subst (λ (e : AppEnd). IsRun b o begin area t0 t3 last e) (sym left.0)
+          subst (λ (e : AppEnd). IsAppRun b o begin area t0 t3 last e) (sym left.0)
           (whole end tape (has t3.faults (subst (λ (n : ℕ). Counts end t0.faults n) (sym left.1.faults) counts))
           (Appends-then t0.bytes t1.bytes t3.bytes been.tape (given ++ leave_text) been.took.taken
           (Appends-then t1.bytes t2.bytes t3.bytes given leave_text appends left.1.taken)))
       | inr broke ↦
-          subst (λ (e : AppEnd). IsRun b o begin area t0 t3 last e) (sym broke.0)
+          subst (λ (e : AppEnd). IsAppRun b o begin area t0 t3 last e) (sym broke.0)
           (cut tape t2.faults (leaves end tape t2.faults (has t2.faults counts))
           (part_after t0.bytes t1.bytes t3.bytes been.tape (given ++ leave_text) been.took.taken
           (part_after t1.bytes t2.bytes t3.bytes given leave_text appends broke.1.part)) broke.1.faults)
@@ -139,15 +139,15 @@ stopped {A} b o begin last area stand end result t0 t1 t2 t3 count given been st
 
 -- a read ends the session
 pub has_ended : {A : Type 0} (b : Behaviour A) (o : Output) (begin : A) (area : Rect) (stand new : Stand A) (t0 t1 t2 t3 : Told) (count : ℕ) (end result : AppEnd) →
-    HasBeen b o begin area stand t0 t1 count → Turned b o stand new t1 t2 (Some end) → Closed end t2 t3 result → IsRun b o begin area t0 t3 new.app result
+    HasBeen b o begin area stand t0 t1 count → Turned b o stand new t1 t2 (Some end) → Closed end t2 t3 result → IsAppRun b o begin area t0 t3 new.app result
 has_ended {A} b o begin area stand new t0 t1 t2 t3 count end result been t c = by_end end t c
   where
-    by_end : (e : AppEnd) → Turned b o stand new t1 t2 (Some e) → Closed e t2 t3 result → IsRun b o begin area t0 t3 new.app result
+    by_end : (e : AppEnd) → Turned b o stand new t1 t2 (Some e) → Closed e t2 t3 result → IsAppRun b o begin area t0 t3 new.app result
     by_end ends.WriteFault t c =
         let tape = been.tape ++ (gave t.0 ++ t.1) in
         let sent = been.sent ++ t.1 in
         let broke : Broke t1 t3 (gave t.0 ++ t.1) = subst (λ (k : Told). Broke t1 k (gave t.0 ++ t.1)) (sym c.1) t.3 in
-        subst (λ (e : AppEnd). IsRun b o begin area t0 t3 new.app e) (sym c.0)
+        subst (λ (e : AppEnd). IsAppRun b o begin area t0 t3 new.app e) (sym c.0)
         (cut tape t0.faults (shows new (been.reads ++ t.0 ∷ []) tape sent (goes_on stand new been.reads been.tape been.sent t.0 t.1 been.session t.2) refl)
         (part_after t0.bytes t1.bytes t3.bytes been.tape (gave t.0 ++ t.1) been.took.taken broke.part)
         (subst (λ (n : ℕ). Rose n t3.faults) been.took.faults broke.faults))
@@ -164,6 +164,6 @@ has_ended {A} b o begin area stand new t0 t1 t2 t3 count end result been t c = b
 
 -- so many reads were made
 pub many_reads : {A : Type 0} (b : Behaviour A) (o : Output) (begin : A) (area : Rect) (stand : Stand A) (t0 t1 t3 : Told) (count : ℕ) (result : AppEnd) →
-    count ≡ 4294967296 → HasBeen b o begin area stand t0 t1 count → Closed ends.ManyReads t1 t3 result → IsRun b o begin area t0 t3 stand.app result
+    count ≡ 4294967296 → HasBeen b o begin area stand t0 t1 count → Closed ends.ManyReads t1 t3 result → IsAppRun b o begin area t0 t3 stand.app result
 many_reads b o begin area stand t0 t1 t3 count result all been c =
     stopped b o begin stand.app area stand ends.ManyReads result t0 t1 t1 t3 count [] been (refl, refl, all) been.took.faults (Appends-none t1.bytes) c

@@ -9,7 +9,7 @@ use Rattle.tui_app.specs.Tape.{read_room}
 use Rattle.tui_app.specs.declared.app.Flow.{Flow}
 use Rattle.tui_app.specs.declared.app.Flow.TheVariants.{Go, Redraw, Quit}
 use Rattle.tui_app.specs.declared.feed.Fed.{Fed}
-use Rattle.tui_app.specs.declared.feed.Reading.{Reading}
+use Rattle.tui_app.specs.declared.feed.AfterRead.{AfterRead}
 use Rattle.tui_app.specs.declared.feed.Size.{Size}
 use Rattle.tui_keys.proofs.Decoding.{one_piece}
 use Rattle.tui_keys.specs.Events.{events_of, events_read, keys_after, keys_read, made}
@@ -81,7 +81,7 @@ fed_more b begin old new keys pending bytes i step fed next h s been told =
 
 -- ---- the end of a read
 
-fed_paused : {A : Type 0} (b : Behaviour A) (old mid new : A) (keys : Keys) (bytes : List ℕ) (reading next : Reading) → nat_lt (length bytes) read_room ≡ true →
+fed_paused : {A : Type 0} (b : Behaviour A) (old mid new : A) (keys : Keys) (bytes : List ℕ) (reading next : AfterRead) → nat_lt (length bytes) read_room ≡ true →
     IsFed b old unfed (events_of keys bytes) (keys_after keys bytes) mid reading →
     IsFed b mid reading.fed (made (paused reading.keys)) (paused reading.keys).keys new next →
     IsFed b old unfed (heard keys bytes) (keys_heard keys bytes) new next
@@ -96,7 +96,7 @@ fed_paused b old mid new keys bytes reading next short fed more =
       keys_are = more.keys_are ∙ (ap (λ (l : Step). l.keys) p ∙ sym (cond-true _ (keys_read keys bytes) (keys_after keys bytes) short));
     }
 
-pub fed_end : {A E : Type 0} (b : Behaviour A) (old mid new : A) (keys : Keys) (bytes : List ℕ) (reading : Reading) (result : Result Reading E) →
+pub fed_end : {A E : Type 0} (b : Behaviour A) (old mid new : A) (keys : Keys) (bytes : List ℕ) (reading : AfterRead) (result : Result AfterRead E) →
     length bytes < read_room → IsFed b old unfed (events_of keys bytes) (keys_after keys bytes) mid reading →
     IfOk result (IsFed b mid reading.fed (made (paused reading.keys)) (paused reading.keys).keys new) →
     IfOk result (IsFed b old unfed (heard keys bytes) (keys_heard keys bytes) new)

@@ -57,7 +57,7 @@ pub record Stand (A : Type 0) : Type 0 where
   pub place : Option Position
 
 -- the first screen
-pub record IsFirst {A : Type 0} (b : Behaviour A) (begin : A) (area : Rect) (new : Stand A) : Type 0 where
+pub record IsFirstStand {A : Type 0} (b : Behaviour A) (begin : A) (area : Rect) (new : Stand A) : Type 0 where
   pub draws : b.draws begin new.screen new.place new.app
   pub area_is : new.screen.area ≡ area
   pub keys : new.keys ≡ start
@@ -78,6 +78,6 @@ pub record IsTurn {A : Type 0} (b : Behaviour A) (old : Stand A) (bytes : List �
 
 -- The app drew; then for each of these reads it took its events and drew.
 pub data Lives {A : Type 0} (b : Behaviour A) (begin : A) (area : Rect) : List (List ℕ) → Stand A → Type 0 where
-  drew : (first : Stand A) → IsFirst b begin area first → Lives b begin area [] first
+  drew : (first : Stand A) → IsFirstStand b begin area first → Lives b begin area [] first
   lived : (reads : List (List ℕ)) (bytes : List ℕ) (flow : Flow) (old new : Stand A) → Lives b begin area reads old → IsTurn b old bytes flow new
       → Lives b begin area (reads ++ bytes ∷ []) new

@@ -1,7 +1,7 @@
 -- What an app draws over reads.
 use Rattle.std.specs.Prelude.{◌≡◌, ◌⊎◌, ℕ, List, [], ◌∷◌, ◌++◌, Option, None, Some}
 use Rattle.tui_app.specs.Behaviour.{Behaviour}
-use Rattle.tui_app.specs.Lives.{IsFirst, IsTurn, Stand, Takes, heard}
+use Rattle.tui_app.specs.Lives.{IsFirstStand, IsTurn, Stand, Takes, heard}
 use Rattle.tui_app.specs.Tape.{IsRead}
 use Rattle.tui_app.specs.declared.app.Flow.{Flow}
 use Rattle.tui_app.specs.declared.app.Flow.TheVariants.{Go, Quit}
@@ -11,10 +11,10 @@ use Rattle.tui_cells.specs.Rect.{area_of}
 use Rattle.tui_cells.specs.declared.rect.Rect.{Rect}
 
 -- the screens of an app that lives: the first one, and one for each read
-pub data Draws {A : Type 0} (b : Behaviour A) (begin : A) (area : Rect) : List (List ℕ) → Stand A → List Screen → Type 0 where
-  draws_first : (first : Stand A) → IsFirst b begin area first → Draws b begin area [] first (first.screen ∷ [])
-  draws_next : (reads : List (List ℕ)) (bytes : List ℕ) (flow : Flow) (old new : Stand A) (screens : List Screen) → Draws b begin area reads old screens
-      → IsTurn b old bytes flow new → Draws b begin area (reads ++ bytes ∷ []) new (screens ++ new.screen ∷ [])
+pub data DrawsOver {A : Type 0} (b : Behaviour A) (begin : A) (area : Rect) : List (List ℕ) → Stand A → List Screen → Type 0 where
+  draws_first : (first : Stand A) → IsFirstStand b begin area first → DrawsOver b begin area [] first (first.screen ∷ [])
+  draws_next : (reads : List (List ℕ)) (bytes : List ℕ) (flow : Flow) (old new : Stand A) (screens : List Screen) → DrawsOver b begin area reads old screens
+      → IsTurn b old bytes flow new → DrawsOver b begin area (reads ++ bytes ∷ []) new (screens ++ new.screen ∷ [])
 
 -- this read quits; or it has no byte or too many, and ends the session
 abbrev pub IsLast : {A : Type 0} → Behaviour A → Stand A → List ℕ → A → Type 0
@@ -31,7 +31,7 @@ pub record RunsOver {A : Type 0} (b : Behaviour A) (begin : A) (area : Rect) (re
   pub left : List (List ℕ)
   pub reads_are : reads ≡ taken ++ left
   pub stand : Stand A
-  pub draws : Draws b begin area taken stand screens
+  pub draws : DrawsOver b begin area taken stand screens
   pub over : IsOver b stand left last
 
 -- ---- its parts

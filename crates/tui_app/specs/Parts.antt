@@ -1,7 +1,7 @@
 -- The parts of a run.
 use Rattle.std.specs.Prelude.{◌≡◌, ℕ, Bool, ◌⊎◌, List, [], ◌++◌, length, Option, None, Some, Result, Ok, Err}
 use Rattle.tui_app.specs.Behaviour.{Behaviour}
-use Rattle.tui_app.specs.Lives.{IsFirst, Stand, Takes, area_after, heard}
+use Rattle.tui_app.specs.Lives.{IsFirstStand, Stand, Takes, area_after, heard}
 use Rattle.tui_app.specs.Session.{IsText, Session, Turns, is_anew, output_at}
 use Rattle.tui_app.specs.Tape.{Broke, IsRead, Missed, Took, gave}
 use Rattle.tui_app.specs.declared.app.Flow.TheVariants.{Go, Quit}
@@ -20,7 +20,7 @@ abbrev pub stand_of : {A : Type 0} → A → Surface → Stand A
 stand_of app s = record { app = app; keys = s.keys; screen = s.shown; place = s.place }
 
 -- the next screen is drawn, and where no size was told the one before is spare
-pub record IsDrawn {A : Type 0} (b : Behaviour A) (size : Option Size) (app : A) (old : Surface) (moved : A) (new : Surface) : Type 0 where
+pub record IsSurfaceDrawn {A : Type 0} (b : Behaviour A) (size : Option Size) (app : A) (old : Surface) (moved : A) (new : Surface) : Type 0 where
   pub draws : b.draws app new.shown new.place moved
   pub area_is : new.shown.area ≡ area_after old.shown.area size
   pub areas : new.shown.area ≡ new.spare.area
@@ -36,15 +36,15 @@ pub record Sent {E : Type 0} (o : Output) (anew : Bool) (s : Surface) (k now : T
 -- the next screen is drawn, and its text put
 pub record HasShown {A E : Type 0} (b : Behaviour A) (o : Output) (fed : Fed) (app : A) (old : Surface) (moved : A) (new : Surface) (k now : Told)
     (result : Result (Unit {0}) E) : Type 0 where
-  pub drawn : IsDrawn b fed.size app old moved new
+  pub drawn : IsSurfaceDrawn b fed.size app old moved new
   pub text : List ℕ
   pub text_is : IsText o (is_anew fed.flow fed.size) old.shown new.shown new.place text
   pub writes : Writes k now result text
 
 -- or there is no memory to draw it
-abbrev pub IsShown : {A E F : Type 0} → Behaviour A → Output → Fed → A → Surface → A → Surface → Told → Told → Result (Result (Unit {0}) E) F → Type 0
-IsShown b o fed app old moved new k now (Ok result) = HasShown b o fed app old moved new k now result
-IsShown b o fed app old moved new k now (Err _) = now ≡ k
+abbrev pub IsSurfaceShown : {A E F : Type 0} → Behaviour A → Output → Fed → A → Surface → A → Surface → Told → Told → Result (Result (Unit {0}) E) F → Type 0
+IsSurfaceShown b o fed app old moved new k now (Ok result) = HasShown b o fed app old moved new k now result
+IsSurfaceShown b o fed app old moved new k now (Err _) = now ≡ k
 
 -- what becomes of the bytes of a read
 abbrev pub Handled : {A : Type 0} → Behaviour A → Output → Stand A → List ℕ → Stand A → Told → Told → Option AppEnd → Type 0
@@ -67,7 +67,7 @@ Turned b o old new t now (Some ends.ManyReads) = ⊥
 
 -- the first screen is drawn
 pub record IsBegun {A : Type 0} (b : Behaviour A) (begin : A) (area : Rect) (app : A) (surface : Surface) : Type 0 where
-  pub first : IsFirst b begin area (stand_of app surface)
+  pub first : IsFirstStand b begin area (stand_of app surface)
   pub areas : surface.shown.area ≡ surface.spare.area
 
 -- and sent

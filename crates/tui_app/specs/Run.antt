@@ -2,7 +2,7 @@
 use Rattle.std.specs.Prelude.{◌≡◌, ℕ, List, [], ◌++◌, length}
 use Rattle.std.specs.Io.KnownBytes.{Appends}
 use Rattle.tui_app.specs.Behaviour.{Behaviour}
-use Rattle.tui_app.specs.Lives.{IsFirst, Stand, Takes, heard}
+use Rattle.tui_app.specs.Lives.{IsFirstStand, Stand, Takes, heard}
 use Rattle.tui_app.specs.Session.{Session}
 use Rattle.tui_app.specs.Tape.{IsRead, gave}
 use Rattle.tui_app.specs.declared.app.Flow.TheVariants.{Go, Quit as Quits}
@@ -42,16 +42,16 @@ pub record HasStopped {A : Type 0} (b : Behaviour A) (o : Output) (begin : A) (a
 
 -- what is put, and what of the terminal has failed before
 pub data Sending {A : Type 0} (b : Behaviour A) (o : Output) (begin : A) (area : Rect) (last : A) (before : ℕ) : List ℕ → ℕ → Type 0 where
-  enters : (first : Stand A) → IsFirst b begin area first → last ≡ first.app → Sending b o begin area last before enter_text before
+  enters : (first : Stand A) → IsFirstStand b begin area first → last ≡ first.app → Sending b o begin area last before enter_text before
   shows : (stand : Stand A) (reads : List (List ℕ)) (tape sent : List ℕ) → Session b o begin area stand reads tape sent → last ≡ stand.app
       → Sending b o begin area last before tape before
   leaves : (end : AppEnd) (tape : List ℕ) (now : ℕ) → HasStopped b o begin area last end tape before now → Sending b o begin area last before tape now
 
 -- A run of an app on a terminal of an area, and the app at its end: a session stopped; a put failed, and the tape is a first part of it; or
 -- there was no memory for the first screen, and nothing was put.
-pub data IsRun {A : Type 0} (b : Behaviour A) (o : Output) (begin : A) (area : Rect) (old new : Told) (last : A) : AppEnd → Type 0 where
+pub data IsAppRun {A : Type 0} (b : Behaviour A) (o : Output) (begin : A) (area : Rect) (old new : Told) (last : A) : AppEnd → Type 0 where
   whole : (end : AppEnd) (tape : List ℕ) → HasStopped b o begin area last end tape old.faults new.faults → Appends old.bytes new.bytes tape
-      → IsRun b o begin area old new last end
+      → IsAppRun b o begin area old new last end
   cut : (tape : List ℕ) (faults : ℕ) → Sending b o begin area last old.faults tape faults → TakesPart old.bytes new.bytes tape → Rose faults new.faults
-      → IsRun b o begin area old new last WriteFault
-  nothing : new ≡ old → IsRun b o begin area old new last NoMemory
+      → IsAppRun b o begin area old new last WriteFault
+  nothing : new ≡ old → IsAppRun b o begin area old new last NoMemory

@@ -1,7 +1,7 @@
 -- Sessions: what a terminal gives, and what is put.
 use Rattle.std.specs.Prelude.{ℕ, Bool, true, false, List, [], ◌∷◌, ◌++◌, Option, None, Some, if◌then◌else◌}
 use Rattle.tui_app.specs.Behaviour.{Behaviour}
-use Rattle.tui_app.specs.Lives.{IsFirst, IsTurn, Stand, size_heard}
+use Rattle.tui_app.specs.Lives.{IsFirstStand, IsTurn, Stand, size_heard}
 use Rattle.tui_app.specs.Tape.{gave}
 use Rattle.tui_app.specs.declared.app.Flow.{Flow}
 use Rattle.tui_app.specs.declared.app.Flow.TheVariants.{Go}
@@ -43,7 +43,7 @@ pub record Turns {A : Type 0} (b : Behaviour A) (o : Output) (old : Stand A) (by
 
 -- A session that waits for input: where the app stands, the bytes of each read, the tape, and what was put of it.
 pub data Session {A : Type 0} (b : Behaviour A) (o : Output) (begin : A) (area : Rect) : Stand A → List (List ℕ) → List ℕ → List ℕ → Type 0 where
-  begins : (first : Stand A) (text : List ℕ) → IsFirst b begin area first → IsFull (output_at o first.place first.screen.area) first.screen text
+  begins : (first : Stand A) (text : List ℕ) → IsFirstStand b begin area first → IsFull (output_at o first.place first.screen.area) first.screen text
       → Session b o begin area first [] (enter_text ++ text) (enter_text ++ text)
   goes_on : (stand new : Stand A) (reads : List (List ℕ)) (tape sent bytes text : List ℕ) → Session b o begin area stand reads tape sent
       → Turns b o stand bytes new text → Session b o begin area new (reads ++ bytes ∷ []) (tape ++ (gave bytes ++ text)) (sent ++ text)

@@ -28,13 +28,13 @@ pub(crate) struct Fed {
 
 /// What a read leaves.
 #[derive(Clone, Copy, Debug, PartialEq, Eq)]
-pub(crate) struct Reading {
+pub(crate) struct AfterRead {
     pub(crate) keys: Keys,
     pub(crate) fed: Fed,
 }
 
 /// Hands the events of a read to the app. The end of one that was not full is a pause.
-pub(crate) fn feed<A: App>(alloc: Global, app: &mut A, keys: Keys, bytes: &[u8]) -> Mem<Reading>
+pub(crate) fn feed<A: App>(alloc: Global, app: &mut A, keys: Keys, bytes: &[u8]) -> Mem<AfterRead>
     ensures { IfOk result (IsFed A.behaviour app.old unfed (heard keys bytes.now) (keys_heard keys bytes.now) app.new) }
 {
     let reading = feed_bytes(alloc, app, keys, bytes)?;
@@ -46,7 +46,7 @@ pub(crate) fn feed<A: App>(alloc: Global, app: &mut A, keys: Keys, bytes: &[u8])
 }
 
 // Hands the events of bytes to the app.
-fn feed_bytes<A: App>(alloc: Global, app: &mut A, keys: Keys, bytes: &[u8]) -> Mem<Reading>
+fn feed_bytes<A: App>(alloc: Global, app: &mut A, keys: Keys, bytes: &[u8]) -> Mem<AfterRead>
     ensures { IfOk result (IsFed A.behaviour app.old unfed (events_of keys bytes.now) (keys_after keys bytes.now) app.new) }
 {
     let mut pending = keys;
@@ -59,16 +59,16 @@ fn feed_bytes<A: App>(alloc: Global, app: &mut A, keys: Keys, bytes: &[u8]) -> M
         fed = tell_step(alloc, app, step, fed)?;
         pending = step.keys;
     }
-    Ok(Reading { keys: pending, fed })
+    Ok(AfterRead { keys: pending, fed })
 }
 
 // Hands the events of a pause to the app.
-fn pause<A: App>(alloc: Global, app: &mut A, reading: Reading) -> Mem<Reading>
+fn pause<A: App>(alloc: Global, app: &mut A, reading: AfterRead) -> Mem<AfterRead>
     ensures { IfOk result (IsFed A.behaviour app.old reading.fed (made (paused reading.keys)) (paused reading.keys).keys app.new) }
 {
     let step = reading.keys.pause();
     let fed = tell_step(alloc, app, step, reading.fed)?;
-    Ok(Reading {
+    Ok(AfterRead {
         keys: step.keys,
         fed,
     })

@@ -1,7 +1,7 @@
 //! An app over reads, without a terminal: for tests.
 
 ghost use Rattle.std.specs.Prelude.{◌≡◌, ◌++◌, ◌∷◌, [], IfOk, IfSome, map};
-ghost use Rattle.tui_app.specs.Lives.{IsFirst, area_after};
+ghost use Rattle.tui_app.specs.Lives.{IsFirstStand, area_after};
 ghost use Rattle.tui_app.specs.Over.{IsSized, LivesOn, RunsOver, stand_at};
 ghost use Rattle.tui_app.specs.Tape.{IsRead};
 ghost use Rattle.tui_cells.specs.Rect.{area_of};
@@ -48,7 +48,7 @@ pub fn run_over<A: App>(
 }
 
 fn draw_first<A: App>(alloc: Global, app: &mut A, size: Size) -> Mem<Last>
-    ensures first { IfOk result (λ last. IsFirst A.behaviour app.old (area_of 0 0 size.width size.height) (stand_at app.new last)) }
+    ensures first { IfOk result (λ last. IsFirstStand A.behaviour app.old (area_of 0 0 size.width size.height) (stand_at app.new last)) }
     ensures sized { IfOk result IsSized }
 {
     let mut shown = blank(alloc, size)?;

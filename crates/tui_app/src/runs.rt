@@ -2,7 +2,7 @@
 
 ghost use Rattle.std.specs.Prelude.{◌≡◌, IfOk};
 ghost use Rattle.tui_app.specs.Parts.{Closed, IsBegun, Opened};
-ghost use Rattle.tui_app.specs.Run.{IsRun};
+ghost use Rattle.tui_app.specs.Run.{IsAppRun};
 ghost use Rattle.tui_cells.specs.Rect.{area_of};
 
 use crate::app::App;
@@ -31,7 +31,7 @@ pub fn run<A: App, T: Terminal>(
     height: u16,
     terminal: &mut T,
 ) -> AppEnd
-    ensures { IsRun A.behaviour output app.old (area_of 0 0 width height) (T.told terminal.old) (T.told terminal.new) app.new result }
+    ensures { IsAppRun A.behaviour output app.old (area_of 0 0 width height) (T.told terminal.old) (T.told terminal.new) app.new result }
 {
     let Ok(mut surface) = begin(alloc, app, Size { width, height }) else {
         return AppEnd::NoMemory;

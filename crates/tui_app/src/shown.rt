@@ -1,7 +1,7 @@
 //! Drawing, and sending what was drawn.
 
 ghost use Rattle.std.specs.Prelude.{◌≡◌, IfOk, None, OnOk};
-ghost use Rattle.tui_app.specs.Parts.{IsDrawn, IsShown, Sent};
+ghost use Rattle.tui_app.specs.Parts.{IsSurfaceDrawn, IsSurfaceShown, Sent};
 ghost use Rattle.tui_app.specs.Session.{cursor_for, is_anew, output_at};
 ghost use Rattle.tui_cells.specs.Rect.{area_of};
 ghost use Rattle.tui_tty.specs.Shows.{IsPlace};
@@ -50,7 +50,7 @@ pub(crate) fn show<A: App, K: Sink>(
     sink: &mut K,
 ) -> Mem<Result<(), WriteFault>>
     requires { surface.old.shown.area ≡ surface.old.spare.area }
-    ensures { IsShown A.behaviour output fed app.old surface.old app.new surface.new (K.told sink.old) (K.told sink.new) result }
+    ensures { IsSurfaceShown A.behaviour output fed app.old surface.old app.new surface.new (K.told sink.old) (K.told sink.new) result }
 {
     draw_next(alloc, app, surface, fed.size)?;
     Ok(send(output, surface, is_anew(fed), sink))
@@ -72,7 +72,7 @@ fn draw_next<A: App>(
     size: Option<Size>,
 ) -> Mem<()>
     requires { surface.old.shown.area ≡ surface.old.spare.area }
-    ensures { OnOk result (IsDrawn A.behaviour size app.old surface.old app.new surface.new) }
+    ensures { OnOk result (IsSurfaceDrawn A.behaviour size app.old surface.old app.new surface.new) }
 {
     match size {
         None => draw_again(alloc, app, surface),
@@ -83,7 +83,7 @@ fn draw_next<A: App>(
 // Draws into the spare buffer, and the two change places.
 fn draw_again<A: App>(alloc: Global, app: &mut A, surface: &mut Surface) -> Mem<()>
     requires { surface.old.shown.area ≡ surface.old.spare.area }
-    ensures { OnOk result (IsDrawn A.behaviour None app.old surface.old app.new surface.new) }
+    ensures { OnOk result (IsSurfaceDrawn A.behaviour None app.old surface.old app.new surface.new) }
 {
     surface.place = draw(alloc, app, &mut surface.spare)?;
     mem::swap(&mut surface.shown, &mut surface.spare);
@@ -92,7 +92,7 @@ fn draw_again<A: App>(alloc: Global, app: &mut A, surface: &mut Surface) -> Mem<
 
 // Draws into a new buffer.
 fn draw_at<A: App>(alloc: Global, app: &mut A, surface: &mut Surface, size: Size) -> Mem<()>
-    ensures { OnOk result (IsDrawn A.behaviour (Some size) app.old surface.old app.new surface.new) }
+    ensures { OnOk result (IsSurfaceDrawn A.behaviour (Some size) app.old surface.old app.new surface.new) }
 {
     let mut shown = blank(alloc, size)?;
     let spare = blank(alloc, size)?;

@@ -11,7 +11,7 @@ use Rattle.tui_tty.specs.Terminal.{Command, Tty, nothing, run}
 use Rattle.tui_tty.specs.declared.output.Output.{Output}
 
 -- any terminal that the output fits, with room for the screen, shows it behind these commands, with the cursor, whatever it showed before them
-pub record IsShown {A : Type 0} (o : Output) (stand : Stand A) (commands : List Command) (knows : List ℕ → Bool) (t : Tty) : Type 0 where
+pub record IsStandShown {A : Type 0} (o : Output) (stand : Stand A) (commands : List Command) (knows : List ℕ → Bool) (t : Tty) : Type 0 where
   pub screen : Shows (output_at o stand.place stand.screen.area) knows (run knows commands t) stand.screen
   pub cursor : HasCursor (cursor_for stand.place stand.screen.area) (run knows commands t)
 
@@ -24,7 +24,7 @@ pub record IsPresent {A : Type 0} (b : Behaviour A) (o : Output) (begin : A) (ar
   pub text : List ℕ
   pub spelled : IsSpelled o.trust (earlier ++ commands) text
   pub sent_is : sent ≡ enter_text ++ text
-  pub shown : (knows : List ℕ → Bool) (t : Tty) → Trusts o.trust knows → HasRoom t stand.screen → IsShown o stand commands knows t
+  pub shown : (knows : List ℕ → Bool) (t : Tty) → Trusts o.trust knows → HasRoom t stand.screen → IsStandShown o stand commands knows t
   -- and what leaves it gives the main screen back, on a terminal that has an alternate one
   pub back : (knows : List ℕ → Bool) (t : Tty) → t.whole ≡ true → t.alternates ≡ true → t.screen ≡ nothing →
       IsBack t (run knows (enter_commands ++ ((earlier ++ commands) ++ leave_commands)) t)

@@ -10,7 +10,7 @@ use Rattle.tui_app_laws.specs.Showing.{WaitingShows}
 use Rattle.tui_browse_lib.proofs.Pressing.{after_more}
 use Rattle.tui_browse_lib.specs.Asked.{asked, asked_ctrl, calls_for, has_room, letter}
 use Rattle.tui_browse_lib.specs.Laws.{IsOnScreen, PagerIsShown}
-use Rattle.tui_browse_lib.specs.Paging.{Draws, first_of, paging}
+use Rattle.tui_browse_lib.specs.Paging.{PagerDraws, first_of, paging}
 use Rattle.tui_browse_lib.specs.declared.asking.Asked.{Asked}
 use Rattle.tui_browse_lib.specs.declared.asking.Asked.TheVariants as asks
 use Rattle.tui_browse_lib.specs.declared.paging.PagerApp.{PagerApp}
@@ -168,9 +168,9 @@ lives_kept entries width height begin _ _ first (lived reads bytes flow old new 
     subst (λ (r : Rect). Kept entries r new.app.pager) (sym turn.area_is)
     (subst (Kept entries (area_after old.screen.area (size_heard old.keys bytes))) (sym turn.draws.0) moved)
 
-lives_drawn : (begin : PagerApp) (area : Rect) (reads : List (List ℕ)) (stand : Stand PagerApp) → Lives paging begin area reads stand → Draws stand.app.pager stand.screen
-lives_drawn begin area _ _ (drew stand is) = subst (λ (p : PagerData). Draws p stand.screen) (sym is.draws.0) is.draws.2
-lives_drawn begin area _ _ (lived reads bytes flow old new lives turn) = subst (λ (p : PagerData). Draws p new.screen) (sym turn.draws.0) turn.draws.2
+lives_drawn : (begin : PagerApp) (area : Rect) (reads : List (List ℕ)) (stand : Stand PagerApp) → Lives paging begin area reads stand → PagerDraws stand.app.pager stand.screen
+lives_drawn begin area _ _ (drew stand is) = subst (λ (p : PagerData). PagerDraws p stand.screen) (sym is.draws.0) is.draws.2
+lives_drawn begin area _ _ (lived reads bytes flow old new lives turn) = subst (λ (p : PagerData). PagerDraws p new.screen) (sym turn.draws.0) turn.draws.2
 
 page_is : (width height : ℕ) → width ≤ 65535 → height ≤ 65535 → page_area width height ≡ area_of 0 0 width height
 page_is width height wide high =

@@ -19,7 +19,7 @@ abbrev pub IsPage : PagerData → Screen → Type 0
 IsPage p screen = IsBlankUnder (pager_layers p) (page_area p.width p.height) screen
 
 -- The pager's screen where it has the pager's area, and elsewhere that it is too small. A pager's area is one that a screen can have.
-pub record Draws (p : PagerData) (screen : Screen) : Type 0 where
+pub record PagerDraws (p : PagerData) (screen : Screen) : Type 0 where
   pub wide : p.width ≤ 65535
   pub high : p.height ≤ 65535
   pub page : screen.area ≡ page_area p.width p.height → IsPage p screen
@@ -29,5 +29,5 @@ pub record Draws (p : PagerData) (screen : Screen) : Type 0 where
 abbrev pub paging : Behaviour PagerApp
 paging = record {
   steps = λ old event new flow. (new.pager ≡ after_calls old.pager (calls_for (asked event) old.pager)) × (flow ≡ flow_of (asked event));
-  draws = λ old screen place new. (new.pager ≡ old.pager) × (place ≡ None) × Draws old.pager screen;
+  draws = λ old screen place new. (new.pager ≡ old.pager) × (place ≡ None) × PagerDraws old.pager screen;
 }

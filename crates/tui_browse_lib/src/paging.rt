@@ -2,7 +2,7 @@
 
 ghost use Rattle.std.specs.Prelude.{◌≡◌, ◌≤◌, IfOk, OnOk, map, replicate};
 ghost use Rattle.tui_browse_lib.specs.Asked.{calls_for, flow_of, size_calls};
-ghost use Rattle.tui_browse_lib.specs.Paging.{Draws, first_of};
+ghost use Rattle.tui_browse_lib.specs.Paging.{PagerDraws, first_of};
 ghost use Rattle.tui_cells.specs.Buffer.{IsFilled};
 ghost use Rattle.tui_cells.specs.Cell.{blank};
 ghost use Rattle.tui_pager_lib.specs.Entry.{entry_data};
@@ -120,7 +120,7 @@ fn take_size(pager: &mut Pager<'_>, width: u16, height: u16) -> Mem<()>
 /// Shows a pager in a blank buffer of its area; in another one, that it is too small.
 fn draw_pager(pager: &Pager<'_>, buf: &mut Buffer) -> Mem<()>
     requires { IsFilled buf.old.area blank buf.old }
-    ensures draws { OnOk result (Draws pager.now buf.new) }
+    ensures draws { OnOk result (PagerDraws pager.now buf.new) }
     ensures area { OnOk result (buf.new.area ≡ buf.old.area) }
 {
     if page_area(pager) == buf.area() {

@@ -3,7 +3,7 @@ use Rattle.std.proofs.Common.{◌≡◌, ℕ, List, [], ◌∷◌, map, Ok, Err,
 use Rattle.std.specs.Prelude.{Some, IsUtf8}
 use Rattle.serde_json.specs.Data.{Data}
 use Rattle.serde_json.specs.Read.{read}
-use Rattle.tui_app.specs.Run.{IsRun}
+use Rattle.tui_app.specs.Run.{IsAppRun}
 use Rattle.tui_app.specs.Run as runs
 use Rattle.tui_app.specs.declared.ending.AppEnd.{AppEnd}
 use Rattle.tui_app.specs.declared.ending.AppEnd.TheVariants as ends
@@ -12,7 +12,7 @@ use Rattle.tui_browse_lib.specs.declared.paging.PagerApp.{PagerApp}
 use Rattle.tui_browse_run.specs.Ends.{EndsOver, refused, shown, wanting}
 use Rattle.tui_browse_run.specs.Input.{Said, SaysEntries, SaysPieces, SaysText, SaysValue, entries_of}
 use Rattle.tui_browse_run.specs.Pieces.{AreAllPieces, entry_of, piece_data}
-use Rattle.tui_browse_run.specs.Shown.{IsShown, app_of}
+use Rattle.tui_browse_run.specs.Shown.{AreEntriesShown, app_of}
 use Rattle.tui_browse_run.specs.declared.ended.BrowseEnded.{BrowseEnded}
 use Rattle.tui_browse_run.specs.declared.piece.Piece.{Piece}
 use Rattle.tui_browse_run.specs.declared.refusal.Refusal.TheVariants.{TooLong, NotJson, NotText, BadInput}
@@ -35,13 +35,13 @@ unput t = record { held = Keeps-self t.bytes; quiet = refl }
 -- ---- sessions
 
 pub shown_by : (o : Output) (entries : List EntryData) (width height : ℕ) (app : PagerApp) (old new : Told) (last : PagerApp) (end : AppEnd) →
-    app.pager ≡ first_of entries width height → IsRun paging o app (area_of 0 0 width height) old new last end → IsShown o entries width height old new end
+    app.pager ≡ first_of entries width height → IsAppRun paging o app (area_of 0 0 width height) old new last end → AreEntriesShown o entries width height old new end
 shown_by o entries width height app old new last end is run = record {
   last = last;
-  run = subst (λ (a : PagerApp). IsRun paging o a (area_of 0 0 width height) old new last end) (ap (λ p. record { pager = p }) is) run;
+  run = subst (λ (a : PagerApp). IsAppRun paging o a (area_of 0 0 width height) old new last end) (ap (λ p. record { pager = p }) is) run;
 }
 
-pub not_shown : (o : Output) (entries : List EntryData) (width height : ℕ) (t : Told) → IsShown o entries width height t t ends.NoMemory
+pub not_shown : (o : Output) (entries : List EntryData) (width height : ℕ) (t : Told) → AreEntriesShown o entries width height t t ends.NoMemory
 not_shown o entries width height t = record { last = app_of entries width height; run = runs.nothing refl }
 
 -- ---- what is said

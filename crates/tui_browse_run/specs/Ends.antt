@@ -10,7 +10,7 @@ use Rattle.tui_app.specs.declared.ending.AppEnd.{AppEnd}
 use Rattle.tui_browse_run.specs.Ended.{ended_as, refused_as}
 use Rattle.tui_browse_run.specs.Input.{Said, Says}
 use Rattle.tui_browse_run.specs.Refusals.{line_of}
-use Rattle.tui_browse_run.specs.Shown.{IsShown}
+use Rattle.tui_browse_run.specs.Shown.{AreEntriesShown}
 use Rattle.tui_browse_run.specs.Words.{NameNone, Names}
 use Rattle.tui_browse_run.specs.declared.ended.BrowseEnded.{BrowseEnded}
 use Rattle.tui_browse_run.specs.declared.ended.BrowseEnded.TheVariants.{Usage, ReadFault, WriteFault, NoMemory}
@@ -29,7 +29,7 @@ Refuses x old new e = ((e ≡ refused_as x) × PutsAll old new (line_of x)) ⊎ 
 -- How a run ends over a file that says this: what is refused of it is; or its entries are shown; or memory was wanting before anything was put.
 pub data EndsOver (setting : Setting) (says : Said → Type 0) (old new : Told) : BrowseEnded → Type 0 where
   refused : (x : Refusal) (e : BrowseEnded) → says (Err x) → Refuses x old new e → EndsOver setting says old new e
-  shown : (entries : List EntryData) (end : AppEnd) → says (Ok entries) → IsShown setting.output entries setting.width setting.height old new end
+  shown : (entries : List EntryData) (end : AppEnd) → says (Ok entries) → AreEntriesShown setting.output entries setting.width setting.height old new end
       → EndsOver setting says old new (ended_as end)
   wanting : Unput old new → EndsOver setting says old new NoMemory
 

@@ -1,6 +1,6 @@
 -- A session of a pager.
 use Rattle.std.specs.Prelude.{ℕ, List}
-use Rattle.tui_app.specs.Run.{IsRun}
+use Rattle.tui_app.specs.Run.{IsAppRun}
 use Rattle.tui_app.specs.declared.ending.AppEnd.{AppEnd}
 use Rattle.tui_browse_lib.specs.Paging.{first_of, paging}
 use Rattle.tui_browse_lib.specs.declared.paging.PagerApp.{PagerApp}
@@ -14,6 +14,6 @@ abbrev pub app_of : List EntryData → ℕ → ℕ → PagerApp
 app_of entries width height = record { pager = first_of entries width height }
 
 -- its run on a terminal, which told these before and then, and how it ended
-pub record IsShown (o : Output) (entries : List EntryData) (width height : ℕ) (old new : Told) (end : AppEnd) : Type 0 where
+pub record AreEntriesShown (o : Output) (entries : List EntryData) (width height : ℕ) (old new : Told) (end : AppEnd) : Type 0 where
   pub last : PagerApp
-  pub run : IsRun paging o (app_of entries width height) (area_of 0 0 width height) old new last end
+  pub run : IsAppRun paging o (app_of entries width height) (area_of 0 0 width height) old new last end

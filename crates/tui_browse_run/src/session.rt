@@ -1,7 +1,7 @@
 //! A session.
 
 ghost use Rattle.std.specs.Prelude.{map};
-ghost use Rattle.tui_browse_run.specs.Shown.{IsShown};
+ghost use Rattle.tui_browse_run.specs.Shown.{AreEntriesShown};
 ghost use Rattle.tui_pager_lib.specs.Entry.{entry_data};
 
 use std::alloc::Global;
@@ -21,7 +21,7 @@ pub fn show<T: Terminal>(
     height: u16,
     terminal: &mut T,
 ) -> AppEnd
-    ensures { IsShown output (map entry_data entries.entry.items) width height (T.told terminal.old) (T.told terminal.new) result }
+    ensures { AreEntriesShown output (map entry_data entries.entry.items) width height (T.told terminal.old) (T.told terminal.new) result }
 {
     match PagerApp::new(alloc, width, height, entries) {
         Ok(app) => {

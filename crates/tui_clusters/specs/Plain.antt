@@ -117,7 +117,7 @@ BeginsPrintable text = (is_printable (slice_index text 0) ≡ true) × (1 < leng
 
 -- the text begins with n printable bytes, each of which is a cluster by itself: past the last one the text ends, or a byte tells
 -- that a plain character begins
-pub record IsRun (text : List ℕ) (n : ℕ) : Type 0 where
+pub record IsPlainRun (text : List ℕ) (n : ℕ) : Type 0 where
   pub within : n ≤ length text
   pub printable : list_all is_printable (take n text) ≡ true
   pub apart : 0 < n → n < length text → 0 < plain_len (slice_index text n)

@@ -2,7 +2,7 @@
 
 ghost use Rattle.std.specs.Prelude.{◌≡◌, ◌<◌, ◌≤◌, ◌↔◌, ◌&&◌, nat_le, [], ◌∷◌, ◌++◌, chars, length, encode_utf8, None, IfSome, IsTrue};
 ghost use Rattle.std.specs.Str.{IsUtf8};
-ghost use Rattle.tui_clusters.specs.Plain.{is_plain, is_sign_start, plain_len, BeginsPrintable, IsIdeograph, IsLetter, IsPlainChar, IsPlainFirst, IsRun, IsSeam, IsSign};
+ghost use Rattle.tui_clusters.specs.Plain.{is_plain, is_sign_start, plain_len, BeginsPrintable, IsIdeograph, IsLetter, IsPlainChar, IsPlainFirst, IsPlainRun, IsSeam, IsSign};
 
 use crate::printable::{is_printable, printable_len};
 
@@ -106,7 +106,7 @@ pub(crate) fn told_len(text: &str) -> usize
 /// How many printable bytes a text begins with, `room` at most, each of them a cluster by itself.
 #[inline]
 pub(crate) fn run_len(text: &str, room: usize) -> usize
-    ensures run { IsRun text.now result }
+    ensures run { IsPlainRun text.now result }
     ensures room { result ≤ room }
 {
     let bytes = text.as_bytes();

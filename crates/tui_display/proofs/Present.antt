@@ -104,7 +104,7 @@ record Lasts (calls : Calls) (o : Output) (lines : List (List ℕ)) (screen : Sc
   showing : IsShowing o screen text
 
 lasts_more : (calls : Calls) (o : Output) (lines : List (List ℕ)) (line : List ℕ) (old new : Screen) (sent text : List ℕ) → Lasts calls o lines old sent →
-    sessions.Shows calls o line old new text → Lasts calls o (lines ++ line ∷ []) new (sent ++ text)
+    sessions.ShowsLine calls o line old new text → Lasts calls o (lines ++ line ∷ []) new (sent ++ text)
 lasts_more calls o lines line old new sent text was shown = record {
   follows = next lines line old new was.follows shown.makes;
   text = was.text ++ text;

@@ -9,8 +9,8 @@ use Rattle.tui_cells.specs.Buffer.{IsFilled, Screen}
 use Rattle.tui_cells.specs.Cell.{blank}
 use Rattle.tui_display.proofs.Cutting.{cut_first}
 use Rattle.tui_display.proofs.Taking.{Broke-after, Calls, Took-then, part_after}
-use Rattle.tui_display.specs.Parts.{Ends, Feeds, Goes, GoesOn, HasBeen, HasEnded, HasRead, IsClosed, IsFinished, IsOpened, IsShown, IsTurned}
-use Rattle.tui_display.specs.Run.{Counts, HasStopped, IsRun, cut, enters, last_text, leaves, whole}
+use Rattle.tui_display.specs.Parts.{Ends, Feeds, Goes, GoesOn, HasBeen, HasEnded, HasRead, IsClosed, IsFinished, IsLineShown, IsOpened, IsTurned}
+use Rattle.tui_display.specs.Run.{Counts, HasStopped, IsDisplayRun, cut, enters, last_text, leaves, whole}
 use Rattle.tui_display.specs.Run as runs
 use Rattle.tui_display.specs.Session.{begins, ends, first_area, reads, shown_by}
 use Rattle.tui_display.specs.declared.ending.DisplayEnd.{DisplayEnd}
@@ -52,7 +52,7 @@ read_first calls o t now line screen text e filled full took = record {
 }
 
 pub not_opened : {E : Type 0} (calls : Calls) (o : Output) (first : Screen) (t now : Told) (e : E) → IsFilled first_area blank first → IsOpened o first t now (Err e) →
-    IsRun calls o t now last.WriteFault
+    IsDisplayRun calls o t now last.WriteFault
 not_opened calls o first t now e filled h =
     elim h [
       | inl broke ↦ cut enter_text t.faults enters broke.part broke.faults
@@ -108,7 +108,7 @@ pub finished : (calls : Calls) (o : Output) (line begun : List ℕ) (old new : S
 finished calls o line begun old new k m now end took h t all been = h t k all been took
 
 -- and the last line is shown
-pub finished_all : (calls : Calls) (o : Output) (line : List ℕ) (old new : Screen) (k now : Told) → IsShown calls o old line new k now None →
+pub finished_all : (calls : Calls) (o : Output) (line : List ℕ) (old new : Screen) (k now : Told) → IsLineShown calls o old line new k now None →
     IsFinished calls o line old k now last.Ended
 finished_all calls o line old new k now h t m all been took =
     let s = h been.within in
@@ -128,11 +128,11 @@ finished_all calls o line old new k now h t m all been took =
     }
 
 -- or not
-pub finished_early : (calls : Calls) (o : Output) (line : List ℕ) (old new : Screen) (k now : Told) (end : DisplayEnd) → IsShown calls o old line new k now (Some end) →
+pub finished_early : (calls : Calls) (o : Output) (line : List ℕ) (old new : Screen) (k now : Told) (end : DisplayEnd) → IsLineShown calls o old line new k now (Some end) →
     IsFinished calls o line old k now end
 finished_early calls o line old new k now end h t m all been took = by_end end h
   where
-    by_end : (e : DisplayEnd) → IsShown calls o old line new k now (Some e) → Ends calls o t now e
+    by_end : (e : DisplayEnd) → IsLineShown calls o old line new k now (Some e) → Ends calls o t now e
     by_end last.WriteFault h =
         let s = h been.within in
         let tape = been.tape ++ (gave [] ++ s.0) in
@@ -175,7 +175,7 @@ read_more calls o t k now count line begun old new has turn =
 
 -- what stopped is left, or a put fails
 left : (calls : Calls) (o : Output) (t m now : Told) (end result : DisplayEnd) → HasEnded calls o t m end →
-    ((result ≡ end) × Took m now (last_text end)) ⊎ ((result ≡ last.WriteFault) × Broke m now (last_text end)) → IsRun calls o t now result
+    ((result ≡ end) × Took m now (last_text end)) ⊎ ((result ≡ last.WriteFault) × Broke m now (last_text end)) → IsDisplayRun calls o t now result
 left calls o t m now end result e c =
     let tape = e.been ++ (e.given ++ last_text end) in
     let regroup : (e.been ++ e.given) ++ last_text end ≡ tape = append_assoc e.been e.given (last_text end) in
@@ -193,22 +193,22 @@ left calls o t m now end result e c =
     } in
     elim c [
       | inl took ↦
-          subst (λ (r : DisplayEnd). IsRun calls o t now r) (sym took.0)
+          subst (λ (r : DisplayEnd). IsDisplayRun calls o t now r) (sym took.0)
           (whole end tape (has now.faults (subst (λ (n : ℕ). Counts end t.faults n) (sym took.1.faults) e.faults))
           (subst (λ (l : List ℕ). Appends t.bytes now.bytes l) regroup
           (Appends-then t.bytes m.bytes now.bytes (e.been ++ e.given) (last_text end) e.taken took.1.taken)))
       | inr broke ↦
-          subst (λ (r : DisplayEnd). IsRun calls o t now r) (sym broke.0)
+          subst (λ (r : DisplayEnd). IsDisplayRun calls o t now r) (sym broke.0)
           (cut tape m.faults (leaves end tape m.faults (has m.faults e.faults))
           (subst (λ (l : List ℕ). TakesPart t.bytes now.bytes l) regroup
           (part_after t.bytes m.bytes now.bytes (e.been ++ e.given) (last_text end) e.taken broke.1.part))
           broke.1.faults)
     ]
 
-pub has_ended : (calls : Calls) (o : Output) (t m now : Told) (end result : DisplayEnd) → Ends calls o t m end → IsClosed end m now result → IsRun calls o t now result
+pub has_ended : (calls : Calls) (o : Output) (t m now : Told) (end result : DisplayEnd) → Ends calls o t m end → IsClosed end m now result → IsDisplayRun calls o t now result
 has_ended calls o t m now last.WriteFault result e c =
     let broke : Broke t now e.tape = subst (λ (n : Told). Broke t n e.tape) (sym c.1) e.broke in
-    subst (λ (r : DisplayEnd). IsRun calls o t now r) (sym c.0) (cut e.tape t.faults e.sending broke.part broke.faults)
+    subst (λ (r : DisplayEnd). IsDisplayRun calls o t now r) (sym c.0) (cut e.tape t.faults e.sending broke.part broke.faults)
 has_ended calls o t m now last.Ended result e c = left calls o t m now last.Ended result e c
 has_ended calls o t m now last.TooLong result e c = left calls o t m now last.TooLong result e c
 has_ended calls o t m now last.ReadFault result e c = left calls o t m now last.ReadFault result e c

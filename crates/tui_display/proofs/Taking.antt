@@ -7,9 +7,9 @@ use Rattle.std.specs.Io.KnownBytes.{Appends}
 use Rattle.tui_app.specs.Tape.{Broke, Took}
 use Rattle.tui_cells.specs.Buffer.{Screen}
 use Rattle.tui_display.proofs.Cutting.{cut_added, cut_ended}
-use Rattle.tui_display.specs.Parts.{Feeds, Goes, HasBeen, HasEnded, IsAdded, IsPut, IsShown}
+use Rattle.tui_display.specs.Parts.{Feeds, Goes, HasBeen, HasEnded, IsAdded, IsLineShown, IsPut}
 use Rattle.tui_display.specs.Run as runs
-use Rattle.tui_display.specs.Session.{IsNext, Session, Shows, shows}
+use Rattle.tui_display.specs.Session.{IsNext, Session, ShowsLine, shows}
 use Rattle.tui_display.specs.declared.ending.DisplayEnd.{DisplayEnd}
 use Rattle.tui_display.specs.declared.ending.DisplayEnd.TheVariants as ends
 use Rattle.tui_outside.proofs.Outside.{Appends-then}
@@ -69,13 +69,13 @@ ended_here calls o t now all before after line screen end been stops counts = re
 
 -- the line ends
 pub line_ended : (calls : Calls) (o : Output) (line : List ℕ) (old new : Screen) (k now : Told) (result : Option DisplayEnd) →
-    IsShown calls o old line new k now result → Feeds calls o (10 ∷ []) line old [] new k now result
+    IsLineShown calls o old line new k now result → Feeds calls o (10 ∷ []) line old [] new k now result
 line_ended calls o line old new k now result h t all before after been = by_result result h
   where
-    next_session : (text : List ℕ) → Shows calls o line old new text → Session calls o all (been.lines ++ line ∷ []) new (been.tape ++ text) (been.sent ++ text)
+    next_session : (text : List ℕ) → ShowsLine calls o line old new text → Session calls o all (been.lines ++ line ∷ []) new (been.tape ++ text) (been.sent ++ text)
     next_session text shown = shows all been.lines old new been.tape been.sent before line after text been.session been.input been.cut shown
 
-    by_result : (r : Option DisplayEnd) → IsShown calls o old line new k now r → Goes calls o t now all (before ++ 10 ∷ []) after [] new r
+    by_result : (r : Option DisplayEnd) → IsLineShown calls o old line new k now r → Goes calls o t now all (before ++ 10 ∷ []) after [] new r
     by_result None h =
         let s = h been.within in
         record {
@@ -183,15 +183,15 @@ some_of (suc n) m f e = omega (arith, e)
 
 -- the screen that it calls for is sent
 pub line_shown : (calls : Calls) (o : Output) (line was : List ℕ) (old new made : Screen) (k now : Told) (result : Option DisplayEnd) (text : List ℕ) → 0 < length line →
-    was ≡ line → new ≡ made → calls was old made → IsNext o old made text → IsPut k now text result → IsShown calls o old line new k now result
+    was ≡ line → new ≡ made → calls was old made → IsNext o old made text → IsPut k now text result → IsLineShown calls o old line new k now result
 line_shown calls o line was old new made k now result text some e f calls_for is put =
     rw f (by_line line result some (subst (λ (l : List ℕ). calls l old made) e calls_for) put)
   where
-    shown : (l : List ℕ) → 0 < length l → calls l old made → length l ≤ limit → Shows calls o l old made text
+    shown : (l : List ℕ) → 0 < length l → calls l old made → length l ≤ limit → ShowsLine calls o l old made text
     shown [] some c within = absurd (omega (arith, some))
     shown (b ∷ bs) some c within = record { within = within; makes = c; put = is }
 
-    by_line : (l : List ℕ) (r : Option DisplayEnd) → 0 < length l → calls l old made → IsPut k now text r → IsShown calls o old l made k now r
+    by_line : (l : List ℕ) (r : Option DisplayEnd) → 0 < length l → calls l old made → IsPut k now text r → IsLineShown calls o old l made k now r
     by_line l None some c put = λ within. (text, shown l some c within, put)
     by_line l (Some ends.WriteFault) some c put = λ within. (text, shown l some c within, put)
     by_line l (Some ends.NoMemory) some c put = absurd put

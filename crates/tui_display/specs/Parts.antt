@@ -7,7 +7,7 @@ use Rattle.tui_cells.specs.Buffer.{IsFilled, Screen}
 use Rattle.tui_cells.specs.Cell.{blank}
 use Rattle.tui_display.specs.Lines.{IsCut}
 use Rattle.tui_display.specs.Run.{Counts, Sending, Stops, last_text}
-use Rattle.tui_display.specs.Session.{Session, Shows, first_area, shown_by}
+use Rattle.tui_display.specs.Session.{Session, ShowsLine, first_area, shown_by}
 use Rattle.tui_display.specs.declared.display.Display.{Display}
 use Rattle.tui_display.specs.declared.ending.DisplayEnd.{DisplayEnd}
 use Rattle.tui_display.specs.declared.ending.DisplayEnd.TheVariants as ends
@@ -36,11 +36,11 @@ IsPut k now text (Some ends.WriteFault) = Broke k now text
 IsPut k now text (Some end) = ⊥
 
 -- what becomes of a line
-abbrev pub IsShown : (List ℕ → Screen → Screen → Type 0) → Output → Screen → List ℕ → Screen → Told → Told → Option DisplayEnd → Type 0
-IsShown calls o old line new k now None = length line ≤ limit → (text : List ℕ) × Shows calls o line old new text × Took k now text
-IsShown calls o old line new k now (Some ends.WriteFault) = length line ≤ limit → (text : List ℕ) × Shows calls o line old new text × Broke k now text
-IsShown calls o old line new k now (Some ends.NoMemory) = now ≡ k
-IsShown calls o old line new k now (Some end) = ⊥
+abbrev pub IsLineShown : (List ℕ → Screen → Screen → Type 0) → Output → Screen → List ℕ → Screen → Told → Told → Option DisplayEnd → Type 0
+IsLineShown calls o old line new k now None = length line ≤ limit → (text : List ℕ) × ShowsLine calls o line old new text × Took k now text
+IsLineShown calls o old line new k now (Some ends.WriteFault) = length line ≤ limit → (text : List ℕ) × ShowsLine calls o line old new text × Broke k now text
+IsLineShown calls o old line new k now (Some ends.NoMemory) = now ≡ k
+IsLineShown calls o old line new k now (Some end) = ⊥
 
 -- one byte of a line
 abbrev pub IsAdded : List ℕ → ℕ → List ℕ → Option DisplayEnd → Type 0

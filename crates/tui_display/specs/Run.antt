@@ -55,9 +55,9 @@ pub data Sending (calls : List ℕ → Screen → Screen → Type 0) (o : Output
 
 -- A run of a display on a terminal: a session stopped; a put failed, and the tape is a first part of it; or there was no memory for the first screen,
 -- and nothing was put.
-pub data IsRun (calls : List ℕ → Screen → Screen → Type 0) (o : Output) (old new : Told) : DisplayEnd → Type 0 where
+pub data IsDisplayRun (calls : List ℕ → Screen → Screen → Type 0) (o : Output) (old new : Told) : DisplayEnd → Type 0 where
   whole : (end : DisplayEnd) (tape : List ℕ) → HasStopped calls o end tape old.faults new.faults → Appends old.bytes new.bytes tape
-      → IsRun calls o old new end
+      → IsDisplayRun calls o old new end
   cut : (tape : List ℕ) (faults : ℕ) → Sending calls o old.faults tape faults → TakesPart old.bytes new.bytes tape → Rose faults new.faults
-      → IsRun calls o old new WriteFault
-  nothing : new ≡ old → IsRun calls o old new NoMemory
+      → IsDisplayRun calls o old new WriteFault
+  nothing : new ≡ old → IsDisplayRun calls o old new NoMemory

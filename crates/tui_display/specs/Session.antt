@@ -44,7 +44,7 @@ IsPutFor o [] old new text = text ≡ []
 IsPutFor o (b ∷ bs) old new text = IsNext o old new text
 
 -- what becomes of the screen, and what is put for it
-pub record Shows (calls : List ℕ → Screen → Screen → Type 0) (o : Output) (line : List ℕ) (old new : Screen) (text : List ℕ) : Type 0 where
+pub record ShowsLine (calls : List ℕ → Screen → Screen → Type 0) (o : Output) (line : List ℕ) (old new : Screen) (text : List ℕ) : Type 0 where
   pub within : length line ≤ limit
   pub makes : Makes calls line old new
   pub put : IsPutFor o line old new text
@@ -64,8 +64,8 @@ pub data Session (calls : List ℕ → Screen → Screen → Type 0) (o : Output
       → IsCut (concat all) lines begun → length begun ≤ limit → IsRead bytes
       → Session calls o (all ++ bytes ∷ []) lines screen (tape ++ gave bytes) sent
   shows : (all lines : List (List ℕ)) (old new : Screen) (tape sent before line after text : List ℕ) → Session calls o all lines old tape sent
-      → concat all ≡ before ++ 10 ∷ after → IsCut before lines line → Shows calls o line old new text
+      → concat all ≡ before ++ 10 ∷ after → IsCut before lines line → ShowsLine calls o line old new text
       → Session calls o all (lines ++ line ∷ []) new (tape ++ text) (sent ++ text)
   ends : (all lines : List (List ℕ)) (old new : Screen) (tape sent line text : List ℕ) → Session calls o all lines old tape sent
-      → IsCut (concat all) lines line → Shows calls o line old new text
+      → IsCut (concat all) lines line → ShowsLine calls o line old new text
       → Session calls o all (lines ++ line ∷ []) new (tape ++ (gave [] ++ text)) (sent ++ text)

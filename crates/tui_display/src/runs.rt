@@ -1,7 +1,7 @@
 //! Whole runs.
 
 ghost use Rattle.tui_display.specs.Parts.{IsClosed, IsOpened};
-ghost use Rattle.tui_display.specs.Run.{IsRun, last_text};
+ghost use Rattle.tui_display.specs.Run.{IsDisplayRun, last_text};
 ghost use Rattle.tui_outside.specs.Causes.{Writes};
 
 use crate::display::Display;
@@ -29,7 +29,7 @@ pub fn show_lines<P: Painter, T: Terminal>(
     output: Output,
     terminal: &mut T,
 ) -> DisplayEnd
-    ensures { IsRun (P.calls_for painter.now) output (T.told terminal.old) (T.told terminal.new) result }
+    ensures { IsDisplayRun (P.calls_for painter.now) output (T.told terminal.old) (T.told terminal.new) result }
 {
     let Ok(mut display) = Display::new(alloc) else {
         return DisplayEnd::NoMemory;

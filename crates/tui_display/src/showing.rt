@@ -1,7 +1,7 @@
 //! One line.
 
 ghost use Rattle.std.specs.Prelude.{◌≡◌, ℕ, List};
-ghost use Rattle.tui_display.specs.Parts.{IsPut, IsShown};
+ghost use Rattle.tui_display.specs.Parts.{IsLineShown, IsPut};
 ghost use Rattle.tui_display.specs.Session.{IsNext};
 
 use crate::display::Display;
@@ -21,7 +21,7 @@ pub(crate) fn show_line<P: Painter, K: Sink>(
     display: &mut Display,
     sink: &mut K,
 ) -> Option<DisplayEnd>
-    ensures shown { IsShown (P.calls_for painter.now) output display.old.shown display.old.line.items display.new.shown
+    ensures shown { IsLineShown (P.calls_for painter.now) output display.old.shown display.old.line.items display.new.shown
         (K.told sink.old) (K.told sink.new) result }
     ensures line { display.new.line ≡ display.old.line }
 {

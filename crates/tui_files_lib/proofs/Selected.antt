@@ -9,7 +9,7 @@ use Rattle.tui_app_laws.specs.Showing.{WaitingShows}
 use Rattle.tui_cells.specs.Buffer.{Screen}
 use Rattle.tui_cells.specs.Rect.{is_empty}
 use Rattle.tui_cells.specs.declared.rect.Rect.{Rect}
-use Rattle.tui_files_lib.specs.Drawing.{Draws, ShowsNames, has_room, names_area, names_list, row_item, row_label, selected_row, selecting}
+use Rattle.tui_files_lib.specs.Drawing.{BrowserDraws, ShowsNames, has_room, names_area, names_list, row_item, row_label, selected_row, selecting}
 use Rattle.tui_files_lib.specs.Laws.{NamesAreSeen, NamesAreShown, files}
 use Rattle.tui_files_lib.specs.declared.browser.Browser.{Browser}
 use Rattle.tui_files_lib.specs.declared.files.FilesApp.{FilesApp}
@@ -56,7 +56,7 @@ names_seen old new screen room shows =
     }
 
 lives_drawn : (F : Type 0) (begin : FilesApp F) (area : Rect) (reads : List (List ℕ)) (stand : Stand (FilesApp F)) → Lives (files F) begin area reads stand →
-    (old : Browser) × Draws old stand.screen stand.place stand.app.browser
+    (old : Browser) × BrowserDraws old stand.screen stand.place stand.app.browser
 lives_drawn F begin area _ _ (drew stand is) = (begin.browser, is.draws)
 lives_drawn F begin area _ _ (lived reads bytes flow old new lives turn) = (turn.moved.browser, turn.draws)
 

@@ -119,13 +119,13 @@ pub record Narrows (old new : Browser) : Type 0 where
   pub listed : IsListed new
 
 -- another folder is shown
-pub record Shows (folder : List ℕ) (old new : Browser) : Type 0 where
+pub record ShowsFolder (folder : List ℕ) (old new : Browser) : Type 0 where
   pub folder_is : string_bytes new.folder ≡ folder
   pub narrows : Narrows (record (without_part old) { folder = new.folder; title = new.title; listing = new.listing }) new
 
 -- or it is told that it can't be read
 abbrev pub Opens : List ℕ → Browser → Browser → Type 0
-Opens folder old new = Shows folder old new ⊎ (new ≡ record old { notice = new.notice })
+Opens folder old new = ShowsFolder folder old new ⊎ (new ≡ record old { notice = new.notice })
 
 -- the folder that a folder stands in is shown; above the root there is none
 abbrev pub GoesOut : Option (List ℕ) → Option (List ℕ) → Browser → Browser → Type 0

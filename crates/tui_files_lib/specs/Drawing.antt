@@ -97,7 +97,7 @@ pub record DrawsPart (old : Browser) (screen : Screen) (place : Option Position)
 
 -- The names and the part, where there is room, and else that the screen is too small. Of the browser the list's state alone changes, how far a page goes, and
 -- from where on the part is shown.
-pub record Draws (old : Browser) (screen : Screen) (place : Option Position) (new : Browser) : Type 0 where
+pub record BrowserDraws (old : Browser) (screen : Screen) (place : Option Position) (new : Browser) : Type 0 where
   pub stays : new ≡ record old { state = new.state; page = new.page; part = new.part }
   pub names : has_room screen.area ≡ true → ShowsNames (names_list new) (selecting old.state) new.state screen
   pub part : has_room screen.area ≡ true → DrawsPart old screen place new

@@ -11,7 +11,7 @@ use Rattle.tui_cells.specs.Layers.{layers_at}
 use Rattle.tui_cells.specs.Rect.{covers}
 use Rattle.tui_cells.specs.declared.rect.Rect.{Rect}
 use Rattle.tui_files_lib.specs.Browsing.{Steps, flow_of}
-use Rattle.tui_files_lib.specs.Drawing.{Draws, ShowsCursor, has_room, names_area, names_list}
+use Rattle.tui_files_lib.specs.Drawing.{BrowserDraws, ShowsCursor, has_room, names_area, names_list}
 use Rattle.tui_files_lib.specs.declared.browser.Browser.{Browser}
 use Rattle.tui_files_lib.specs.declared.files.FilesApp.{FilesApp}
 use Rattle.tui_frames.specs.InBlock.{inner_of}
@@ -24,7 +24,7 @@ use Rattle.tui_tty.specs.declared.output.Output.{Output}
 abbrev pub files : (F : Type 0) → Behaviour (FilesApp F)
 files F = record {
   steps = λ old event new flow. (flow ≡ flow_of old.browser event) × Steps old.browser event new.browser;
-  draws = λ old screen place new. Draws old.browser screen place new.browser;
+  draws = λ old screen place new. BrowserDraws old.browser screen place new.browser;
 }
 
 -- In the left half of the screen stands the list of the names on blank cells. Where there are names one is selected, and it is one of those that the list draws

@@ -2,7 +2,7 @@
 
 ghost use Rattle.std.specs.Option.{option_copied};
 ghost use Rattle.std.specs.Prelude.{◌≡◌, ◌-◌, IfOk, OnOk, length, min, string_bytes};
-ghost use Rattle.tui_files_lib.specs.Browsing.{IsBegun, Narrows, Shows, asked, row_after, selected_kind, selected_name, selecting_in, without_part};
+ghost use Rattle.tui_files_lib.specs.Browsing.{IsBegun, Narrows, ShowsFolder, asked, row_after, selected_kind, selected_name, selecting_in, without_part};
 ghost use Rattle.tui_files_lib.specs.Drawing.{selected_row};
 
 use crate::asking::{Asked, Motion, browsed, typing};
@@ -75,7 +75,7 @@ impl Browser {
         mut listing: Listing,
         name: &str,
     ) -> Mem<()>
-        ensures { OnOk result (Shows (string_bytes folder) self.old self.new) }
+        ensures { OnOk result (ShowsFolder (string_bytes folder) self.old self.new) }
     {
         listing.names.sort_unstable();
         self.title = without_controls(alloc, folder.as_str())?;

@@ -6,7 +6,7 @@ ghost use Rattle.tui_cells.specs.Cell.{blank};
 ghost use Rattle.tui_cells.specs.Layers.{KeptOutside, Painted};
 ghost use Rattle.tui_cells.specs.Rect.{covers, intersection_of};
 ghost use Rattle.tui_files_lib.specs.Drawing.{
-  Draws,
+  BrowserDraws,
   DrawsPart,
   ShowsNames,
   TypesIn,
@@ -51,7 +51,7 @@ impl Browser {
     /// are, or the part that is typed. Answers where its cursor is shown. Where there is no room for that it says so.
     pub(crate) fn draw(&mut self, alloc: Global, buf: &mut Buffer) -> Mem<Option<Position>>
         requires { IsFilled buf.old.area blank buf.old }
-        ensures draws { IfOk result (λ place. Draws self.old buf.new place self.new) }
+        ensures draws { IfOk result (λ place. BrowserDraws self.old buf.new place self.new) }
         ensures area { OnOk result (buf.new.area ≡ buf.old.area) }
     {
         if has_room(buf.area()) {

@@ -20,7 +20,7 @@ use Rattle.tui_form_lib.proofs.Listed.{length-items, low, rows_of}
 use Rattle.tui_form_lib.proofs.Settled.{layers_settle, selected_at}
 use Rattle.tui_form_lib.specs.Asked.{asked}
 use Rattle.tui_form_lib.specs.Drawing.{
-  Draws,
+  FormDraws,
   ShowsForm,
   cursor_over,
   field_drawn,
@@ -117,7 +117,7 @@ takes_focused (e ∷ es) Redraw last old new focused h =
     takes_focused es (joined Redraw h.1) last h.0 new (subst IsFocused (sym h.2.0) (after_focused (form_data old) e focused)) h.3
 
 -- what is drawn has the focus of what draws it
-drawn_if : (f new : FormData) (screen : Screen) (place : Option Position) (room : Bool) → has_room screen.area ≡ room → Draws f screen place new → IsFocused f → IsFocused new
+drawn_if : (f new : FormData) (screen : Screen) (place : Option Position) (room : Bool) → has_room screen.area ≡ room → FormDraws f screen place new → IsFocused f → IsFocused new
 drawn_if f new screen place true room drawn focused =
     subst IsFocused (sym (drawn.shows room).new_is) (changed_focused f (field_drawn (row_in f screen.area)) focused)
 drawn_if f new screen place false room drawn focused = subst IsFocused (sym (drawn.stays room)) focused
@@ -126,7 +126,7 @@ drawn_if f new screen place false room drawn focused = subst IsFocused (sym (dra
 record WasDrawn (stand : Stand Form) : Type 0 where
   before : FormData
   had_focus : IsFocused before
-  draws : Draws before stand.screen stand.place (form_data stand.app)
+  draws : FormDraws before stand.screen stand.place (form_data stand.app)
   focused : IsFocused (form_data stand.app)
 
 was_drawn : (begin : Form) (area : Rect) (reads : List (List ℕ)) (stand : Stand Form) → IsFocused (form_data begin) →

@@ -129,7 +129,7 @@ pub record ShowsForm (f : FormData) (screen : Screen) (place : Option Position) 
   pub cursor : place ≡ cursor_over (row_in f screen.area) new.fields new.focus
 
 -- the form, where there is room, and else that the screen is too small
-pub record Draws (f : FormData) (screen : Screen) (place : Option Position) (new : FormData) : Type 0 where
+pub record FormDraws (f : FormData) (screen : Screen) (place : Option Position) (new : FormData) : Type 0 where
   pub shows : has_room screen.area ≡ true → ShowsForm f screen place new
   pub other : has_room screen.area ≡ false → SaysTooSmall screen
   pub stays : has_room screen.area ≡ false → new ≡ f

@@ -11,7 +11,7 @@ use Rattle.tui_cells.specs.Layers.{layers_at}
 use Rattle.tui_cells.specs.Rect.{covers}
 use Rattle.tui_cells.specs.declared.position.Position.{Position}
 use Rattle.tui_cells.specs.declared.rect.Rect.{Rect}
-use Rattle.tui_form_lib.specs.Drawing.{Draws, cursor_over, focused_row, form_layers, form_list, has_room, inside}
+use Rattle.tui_form_lib.specs.Drawing.{FormDraws, cursor_over, focused_row, form_layers, form_list, has_room, inside}
 use Rattle.tui_form_lib.specs.Form.{FormData, form_data}
 use Rattle.tui_form_lib.specs.Steps.{IsFocused, after_event, flow_after}
 use Rattle.tui_form_lib.specs.Value.{ValueData, typed_value}
@@ -25,7 +25,7 @@ use Rattle.tui_tty.specs.declared.output.Output.{Output}
 abbrev pub form_behaviour : Behaviour Form
 form_behaviour = record {
   steps = λ old event new flow. (form_data new ≡ after_event (form_data old) event) × (flow ≡ flow_after (form_data old) event);
-  draws = λ old screen place new. Draws (form_data old) screen place (form_data new);
+  draws = λ old screen place new. FormDraws (form_data old) screen place (form_data new);
 }
 
 -- the value of the focused field

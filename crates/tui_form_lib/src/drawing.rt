@@ -6,7 +6,7 @@ ghost use Rattle.tui_cells.specs.Cell.{blank};
 ghost use Rattle.tui_cells.specs.Layers.{Painted};
 ghost use Rattle.tui_cells.specs.Rect.{intersection_of};
 ghost use Rattle.tui_form_lib.specs.Drawing.{
-  Draws,
+  FormDraws,
   ShowsForm,
   cursor_over,
   field_drawn,
@@ -51,7 +51,7 @@ impl Form {
     /// each with its value below its label. Where there is no room for that it says so.
     pub(crate) fn draw_form(&mut self, alloc: Global, buf: &mut Buffer) -> Mem<Option<Position>>
         requires { IsFilled buf.old.area blank buf.old }
-        ensures draws { IfOk result (λ place. Draws (form_data self.old) buf.new place (form_data self.new)) }
+        ensures draws { IfOk result (λ place. FormDraws (form_data self.old) buf.new place (form_data self.new)) }
         ensures area { OnOk result (buf.new.area ≡ buf.old.area) }
     {
         if has_room(buf.area()) {

@@ -4,7 +4,7 @@ use Rattle.std.proofs.lemmas.Iterator.Adapters.{position_from-zero}
 use Rattle.std.specs.List.{position_from}
 use Rattle.std.specs.Prelude.{◌==◌, if◌then◌else◌, is_some}
 use Rattle.tui_app.specs.Lives.{Stand, Takes, heard, joined}
-use Rattle.tui_app.specs.Run.{IsRun, whole}
+use Rattle.tui_app.specs.Run.{IsAppRun, whole}
 use Rattle.tui_app.specs.Session.{Session, begins, goes_on}
 use Rattle.tui_app.specs.declared.app.Flow.{Flow}
 use Rattle.tui_app.specs.declared.app.Flow.TheVariants.{Go, Quit, Redraw}
@@ -13,7 +13,7 @@ use Rattle.tui_cells.specs.Buffer.{Screen}
 use Rattle.tui_cells.specs.declared.position.Position.{Position}
 use Rattle.tui_cells.specs.declared.rect.Rect.{Rect}
 use Rattle.tui_form_lib.specs.Asked.{asked, asked_ctrl}
-use Rattle.tui_form_lib.specs.Drawing.{Draws, field_drawn, has_room, row_in}
+use Rattle.tui_form_lib.specs.Drawing.{FormDraws, field_drawn, has_room, row_in}
 use Rattle.tui_form_lib.specs.Field.{FieldData, is_missing}
 use Rattle.tui_form_lib.specs.Form.{FormData, form_data}
 use Rattle.tui_form_lib.specs.Laws.{form_behaviour}
@@ -214,18 +214,18 @@ takes_goes names (e ∷ es) Redraw last old new goes h =
 
 -- ---- drawings
 
-drawn_open : (f new : FormData) (screen : Screen) (place : Option Position) (room : Bool) → has_room screen.area ≡ room → Draws f screen place new →
+drawn_open : (f new : FormData) (screen : Screen) (place : Option Position) (room : Bool) → has_room screen.area ≡ room → FormDraws f screen place new →
     f.outcome ≡ Open → new.outcome ≡ Open
 drawn_open f new screen place true room drawn is_open = ap (λ (g : FormData). g.outcome) (drawn.shows room).new_is ∙ is_open
 drawn_open f new screen place false room drawn is_open = ap (λ (g : FormData). g.outcome) (drawn.stays room) ∙ is_open
 
-drawn_names : (f new : FormData) (screen : Screen) (place : Option Position) (room : Bool) → has_room screen.area ≡ room → Draws f screen place new →
+drawn_names : (f new : FormData) (screen : Screen) (place : Option Position) (room : Bool) → has_room screen.area ≡ room → FormDraws f screen place new →
     names_of new ≡ names_of f
 drawn_names f new screen place true room drawn =
     ap names_of (drawn.shows room).new_is ∙ names_changed (field_drawn (row_in f screen.area)) (λ g. refl) f.focus f.fields
 drawn_names f new screen place false room drawn = ap names_of (drawn.stays room)
 
-drawn_goes : (names : List (List ℕ)) (f new : FormData) (screen : Screen) (place : Option Position) → Draws f screen place new → f.outcome ≡ Open →
+drawn_goes : (names : List (List ℕ)) (f new : FormData) (screen : Screen) (place : Option Position) → FormDraws f screen place new → f.outcome ≡ Open →
     names_of f ≡ names → Goes names Go new
 drawn_goes names f new screen place drawn is_open named = record {
   named = drawn_names f new screen place (has_room screen.area) refl drawn ∙ named;
@@ -247,16 +247,16 @@ session_goes o begin area _ _ _ _ is_open (goes_on stand new reads tape sent byt
     (still_open turns.flow (form_data turn.moved) turn.not_quit moved.went) moved.named
 
 quit_goes : (o : Output) (begin last : Form) (area : Rect) (old new : Told) → (form_data begin).outcome ≡ Open →
-    IsRun form_behaviour o begin area old new last ends.Quit → Goes (names_of (form_data begin)) Quit (form_data last)
+    IsAppRun form_behaviour o begin area old new last ends.Quit → Goes (names_of (form_data begin)) Quit (form_data last)
 quit_goes o begin last area old new is_open (whole _ tape stopped put) =
     let h = stopped.stops in
     let before = session_goes o begin area stopped.stand stopped.reads stopped.waited stopped.sent is_open stopped.session in
     takes_goes (names_of (form_data begin)) (heard stopped.stand.keys h.0) Go Quit stopped.stand.app last before h.3
 
 pub quit_is_meant : (o : Output) (begin last : Form) (area : Rect) (old new : Told) → (form_data begin).outcome ≡ Open →
-    IsRun form_behaviour o begin area old new last ends.Quit → IsMeant (form_data last)
+    IsAppRun form_behaviour o begin area old new last ends.Quit → IsMeant (form_data last)
 quit_is_meant o begin last area old new is_open run = (quit_goes o begin last area old new is_open run).went
 
 pub quit_keeps_names : (o : Output) (begin last : Form) (area : Rect) (old new : Told) → (form_data begin).outcome ≡ Open →
-    IsRun form_behaviour o begin area old new last ends.Quit → names_of (form_data last) ≡ names_of (form_data begin)
+    IsAppRun form_behaviour o begin area old new last ends.Quit → names_of (form_data last) ≡ names_of (form_data begin)
 quit_keeps_names o begin last area old new is_open run = (quit_goes o begin last area old new is_open run).named

@@ -6,7 +6,7 @@ use Rattle.std.specs.declared.io.ErrorKind.TheVariants.{OutOfMemory}
 use Rattle.std.specs.declared.vec.IntoIter.{IntoIter}
 use Rattle.std.specs.IoError.{error_kind}
 use Rattle.std.specs.Vec.Iter.{into_iter_items}
-use Rattle.tui_app.specs.Run.{IsRun}
+use Rattle.tui_app.specs.Run.{IsAppRun}
 use Rattle.tui_app.specs.declared.ending.AppEnd.{AppEnd}
 use Rattle.tui_cells.specs.Rect.{area_of}
 use Rattle.tui_form_lib.specs.Field.{FieldData}
@@ -57,7 +57,7 @@ pub data EndsOver (setting : Setting) (says : Said → Type 0) (old new answers 
   refused : (x : Refusal) (e : FormEnded) → says (Err x) → Refuses x old new e → Unput answers answers_then → EndsOver setting says old new answers answers_then e
   unplaced : (form : FormData) → says (Ok form) → Unput old new → HasNoPlace answers answers_then → EndsOver setting says old new answers answers_then WriteFault
   shown : (begin last : code.Form) (end : AppEnd) (e : FormEnded) → says (Ok (form_data begin)) →
-      IsRun form_behaviour setting.output begin (area_of 0 0 setting.width setting.height) old new last end →
+      IsAppRun form_behaviour setting.output begin (area_of 0 0 setting.width setting.height) old new last end →
       EndsAnswering (form_data last) end answers answers_then e → EndsOver setting says old new answers answers_then e
   wanting : Unput old new → Unput answers answers_then → EndsOver setting says old new answers answers_then NoMemory
 

@@ -93,8 +93,8 @@ Filled = Bool × ValueData
 abbrev pub typed_at_first : Option ℕ → Option (List ℕ) → TypedText
 typed_at_first most text = typed_all (empty_input (unwrap_or most 1000)) (chars (unwrap_or text []))
 
-unfoldable pub text_of : ℕ → Data → Result Filled BadForm
-text_of i d = do
+unfoldable pub typed_text_of : ℕ → Data → Result Filled BadForm
+typed_text_of i d = do
   most ← optional (within 1 1000) (Some i) keys.Most d
   mask ← optional as_bool (Some i) keys.Mask d
   needed ← optional as_bool (Some i) keys.Needed d
@@ -129,7 +129,7 @@ check_of i d = do
   Ok (unwrap_or needed false, check (unwrap_or is_on false))
 
 abbrev pub filled_of : FieldKind → ℕ → Data → Result Filled BadForm
-filled_of Text = text_of
+filled_of Text = typed_text_of
 filled_of Choice = choice_of
 filled_of Check = check_of
 

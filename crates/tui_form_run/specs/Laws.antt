@@ -1,7 +1,7 @@
 -- What holds of all runs of the program.
 use Rattle.std.specs.Prelude.{◌≡◌, ◌⊎◌, ℕ, false, List, map, slice_get, Contains, Some}
 use Rattle.json.specs.Json.{document, object}
-use Rattle.tui_app.specs.Run.{IsRun}
+use Rattle.tui_app.specs.Run.{IsAppRun}
 use Rattle.tui_app.specs.declared.ending.AppEnd.TheVariants.{Quit}
 use Rattle.tui_cells.specs.declared.rect.Rect.{Rect}
 use Rattle.tui_form_lib.specs.Field.{FieldData, is_missing}
@@ -32,6 +32,6 @@ names_of f = map (λ field. field.name) f.fields
 -- How a session of an open form stands where the user ended it: the form was meant so, and its fields have the names that they had.
 pub record IsAskedFor : Type 0 where
   pub meant : (o : Output) (begin last : Form) (area : Rect) (old new : Told) → (form_data begin).outcome ≡ Open →
-      IsRun form_behaviour o begin area old new last Quit → IsMeant (form_data last)
+      IsAppRun form_behaviour o begin area old new last Quit → IsMeant (form_data last)
   pub names : (o : Output) (begin last : Form) (area : Rect) (old new : Told) → (form_data begin).outcome ≡ Open →
-      IsRun form_behaviour o begin area old new last Quit → names_of (form_data last) ≡ names_of (form_data begin)
+      IsAppRun form_behaviour o begin area old new last Quit → names_of (form_data last) ≡ names_of (form_data begin)

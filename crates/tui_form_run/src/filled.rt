@@ -2,7 +2,7 @@
 
 ghost use Rattle.std.specs.Prelude.{◌≡◌, IfOk, Some, map, option_map, string_bytes};
 ghost use Rattle.serde_json.specs.View.{view};
-ghost use Rattle.tui_form_run.specs.Input.{check_of, choice_of, chosen_at_first, filled_of, place_of, text_of, typed_at_first};
+ghost use Rattle.tui_form_run.specs.Input.{check_of, choice_of, chosen_at_first, filled_of, place_of, typed_at_first, typed_text_of};
 ghost use Rattle.tui_form_run.specs.Filled.{filled_data};
 ghost use Rattle.tui_form_run.specs.Refusals.{bad_form};
 ghost use Rattle.tui_json.specs.Refusals.{Gives, or_refuse};
@@ -43,9 +43,9 @@ pub(crate) fn read_filled(
     }
 }
 
-#[tactic(auto, unfolding(crate::specs::Input::text_of))]
+#[tactic(auto, unfolding(crate::specs::Input::typed_text_of))]
 fn read_text(alloc: Global, number: usize, value: &Json) -> Result<Filled, InputError<BadForm>>
-    ensures { Gives filled_data result (text_of number (view value.now)) }
+    ensures { Gives filled_data result (typed_text_of number (view value.now)) }
 {
     let at = Some(number);
     let most: Option<Within<1, 1000>> = optional(alloc, at, FormKey::Most, value)?;

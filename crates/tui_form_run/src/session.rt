@@ -1,6 +1,6 @@
 //! A session.
 
-ghost use Rattle.tui_app.specs.Run.{IsRun};
+ghost use Rattle.tui_app.specs.Run.{IsAppRun};
 ghost use Rattle.tui_cells.specs.Rect.{area_of};
 ghost use Rattle.tui_form_lib.specs.Laws.{form_behaviour};
 
@@ -17,7 +17,7 @@ pub fn show_form<T: Terminal>(
     form: &mut Form,
     terminal: &mut T,
 ) -> AppEnd
-    ensures { IsRun form_behaviour setting.output form.old (area_of 0 0 setting.width setting.height)
+    ensures { IsAppRun form_behaviour setting.output form.old (area_of 0 0 setting.width setting.height)
         (T.told terminal.old) (T.told terminal.new) form.new result }
 {
     run(

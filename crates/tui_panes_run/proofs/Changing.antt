@@ -12,8 +12,8 @@ use Rattle.tui_panes_run.specs.Input.{InputData}
 use Rattle.tui_panes_run.specs.Shown.{AreChanged, leaves_of, screen_area}
 
 -- what is still to be changed leads to what all changes lead to
-abbrev pub GoesOn : List PlacedData → Screen → List ChangeData → List PlacedData → Screen → List ChangeData → Type 0
-GoesOn leaves before all now screen rest =
+abbrev pub ChangesGoOn : List PlacedData → Screen → List ChangeData → List PlacedData → Screen → List ChangeData → Type 0
+ChangesGoOn leaves before all now screen rest =
     (last : List PlacedData) (after : Screen) → AreChanged now screen rest last after → AreChanged leaves before all last after
 
 abbrev pub AreBelow : List PlacedData → List ChangeData → Type 0

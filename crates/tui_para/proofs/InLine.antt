@@ -10,7 +10,7 @@ use Rattle.tui_para.specs.declared.counting.line_end.LineEnd.{LineEnd}
 use Rattle.tui_para.specs.declared.counting.line_end.LineEnd.TheVariants.{BeforeWord, WithinWord, BehindBlank}
 use Rattle.tui_para.specs.Wrapped.{next_piece, after_break, IsNextLine, line_start}
 use Rattle.tui_para.specs.Counting.{Fits, end_word, add_blank, skip_blank, add_letter, overflows, after_piece, left_from, line_end, no_lines, read_in}
-use Rattle.tui_para.proofs.Reading.{IsPiece, fresh, GoesOn, Reads, to_come, going, to_letter, untrimmed, word_ended, blank_goes, letter_stays, blank_is_next, letters_are_next, soft_line, hard_line, here_some, letter_added, blank_added, blank_skipped}
+use Rattle.tui_para.proofs.Reading.{IsPiece, fresh, LetterGoesOn, Reads, to_come, going, to_letter, untrimmed, word_ended, blank_goes, letter_stays, blank_is_next, letters_are_next, soft_line, hard_line, here_some, letter_added, blank_added, blank_skipped}
 
 -- a line stands at the front of the graphemes, and this is left behind it
 pub record HasFront {A : Type 0} (rule : Rule A) (xs rest : List A) : Type 0 where
@@ -68,7 +68,7 @@ module _ {A : Type 0} (rule : Rule A) (c : Counter) (here : List A) where
         record { some = here_some rule c here x zs r; line = r.gap ++ r.part; next = subst (IsNextLine rule here (r.gap ++ r.part)) rest (hard_line rule c here x zs r y o t) })
         (cases_Bool c.begun)
 
-    pub goes_on : PieceGoesOn rule c x → GoesOn rule r.part x
+    pub goes_on : PieceGoesOn rule c x → LetterGoesOn rule r.part x
     goes_on = ⊎_elim (λ i. inl (no_part i)) (λ e. inr e)
 
     -- a line ends before the word that is under way
@@ -100,7 +100,7 @@ module _ {A : Type 0} (rule : Rule A) (c : Counter) (here : List A) where
 pub data Went {A : Type 0} (rule : Rule A) (c : Counter) (here : List A) (x : A) (zs : List A) (r : Reads rule c here (x ∷ zs)) : Option LineEnd → Counter → Type 0 where
   left_out : c.in_word ≡ false → Reads rule (skip_blank c) here zs → Went rule c here x zs r None (skip_blank c)
   took_blank : c.in_word ≡ false → Reads rule (add_blank c (rule.size x)) here zs → Went rule c here x zs r None (add_blank c (rule.size x))
-  took_letter : rule.blank x ≡ false → GoesOn rule r.part x → c.used + rule.size x ≤ rule.width → Went rule c here x zs r None (add_letter c (rule.size x))
+  took_letter : rule.blank x ≡ false → LetterGoesOn rule r.part x → c.used + rule.size x ≤ rule.width → Went rule c here x zs r None (add_letter c (rule.size x))
   at_blank : (k : Counter) → HasFront rule here zs → Went rule c here x zs r (Some BehindBlank) k
   in_word : (k : Counter) → rule.blank x ≡ false → HasFront rule here (x ∷ zs) → Went rule c here x zs r (Some WithinWord) k
   before_word : (k : Counter) → rule.blank x ≡ false → HasFront rule here (r.part ++ x ∷ zs) → Went rule c here x zs r (Some BeforeWord) k

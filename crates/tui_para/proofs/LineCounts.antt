@@ -9,7 +9,7 @@ use Rattle.tui_para.specs.declared.counting.line_end.LineEnd.{LineEnd}
 use Rattle.tui_para.specs.declared.counting.line_end.LineEnd.TheVariants.{BeforeWord, WithinWord, BehindBlank}
 use Rattle.tui_para.specs.Wrapped.{without_blanks, HasLines, WrapsKept, line_start}
 use Rattle.tui_para.specs.Counting.{end_word, end_line, take_word_along, add_letter, overflows, after_word, after_piece, ended_with, read_at, step, steps, counted, no_lines}
-use Rattle.tui_para.proofs.Reading.{IsPiece, GoesOn, Reads, Counts, fresh, to_letter, word_ended, letter_added}
+use Rattle.tui_para.proofs.Reading.{IsPiece, LetterGoesOn, Reads, Counts, fresh, to_letter, word_ended, letter_added}
 use Rattle.tui_para.proofs.InLine.{HasFront, PieceGoesOn, Went, left_out, took_blank, took_letter, at_blank, in_word, before_word, ends_in_word, goes_on, last_line, went}
 use Rattle.tui_para.proofs.Unique.{same_lines}
 use Rattle.tui_para.proofs.Filled.{append_cons}
@@ -22,7 +22,7 @@ line_ends rule m n here rest f h = λ lines g. let e = h (f.line ∷ lines) (f.s
 
 module _ {A : Type 0} (rule : Rule A) (x : A) (zs : List A) (n : ℕ) (small : rule.size x ≤ rule.width) where
   -- a grapheme of a word is read, where the line has room for it
-  letter_read : (c : Counter) → rule.blank x ≡ false → c.used + rule.size x ≤ rule.width → (h : Counts rule c (x ∷ zs) n) → GoesOn rule h.reads.part x → Counts rule (add_letter c (rule.size x)) zs n
+  letter_read : (c : Counter) → rule.blank x ≡ false → c.used + rule.size x ≤ rule.width → (h : Counts rule c (x ∷ zs) n) → LetterGoesOn rule h.reads.part x → Counts rule (add_letter c (rule.size x)) zs n
   letter_read c b room h goes = record { here = h.here; reads = letter_added rule c h.here x zs b room h.reads goes; lines = h.lines }
 
   -- a line ends before it
@@ -32,7 +32,7 @@ module _ {A : Type 0} (rule : Rule A) (x : A) (zs : List A) (n : ℕ) (small : r
       letter_read (record no_lines { lines = m + 1 }) b (omega arith) (record { here = x ∷ zs; reads = fresh rule (m + 1) (x ∷ zs); lines = line_ends rule m n here (x ∷ zs) f h }) (inl refl)
 
   -- a line ends before its word
-  word_read : (c : Counter) (h : Counts rule c (x ∷ zs) n) → rule.blank x ≡ false → GoesOn rule h.reads.part x → HasFront rule h.here (h.reads.part ++ x ∷ zs)
+  word_read : (c : Counter) (h : Counts rule c (x ∷ zs) n) → rule.blank x ≡ false → LetterGoesOn rule h.reads.part x → HasFront rule h.here (h.reads.part ++ x ∷ zs)
       → Counts rule (ended_with rule.width c (rule.size x) BeforeWord) zs n
   word_read c h b goes f =
       let r = h.reads in
@@ -66,7 +66,7 @@ module _ {A : Type 0} (rule : Rule A) (x : A) (zs : List A) (n : ℕ) (small : r
       start_stays [] true l = cond-false (rule.blank x) (without_blanks rule.blank zs) (x ∷ zs) b
       start_stays (y ∷ part) true l = cond-false (rule.blank y) (without_blanks rule.blank (part ++ x ∷ zs)) (y ∷ (part ++ x ∷ zs)) l.0
 
-  counted_on : (c : Counter) (h : Counts rule c (x ∷ zs) n) (goes : GoesOn rule h.reads.part x) (end : Option LineEnd) (k : Counter) → Went rule c h.here x zs h.reads end k
+  counted_on : (c : Counter) (h : Counts rule c (x ∷ zs) n) (goes : LetterGoesOn rule h.reads.part x) (end : Option LineEnd) (k : Counter) → Went rule c h.here x zs h.reads end k
       → Counts rule (read_at rule.width c (rule.size x) k end) zs n
   counted_on c h goes None k (left_out i q) = record { here = h.here; reads = q; lines = h.lines }
   counted_on c h goes None k (took_blank i q) = record { here = h.here; reads = q; lines = h.lines }

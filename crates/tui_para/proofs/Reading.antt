@@ -154,10 +154,10 @@ blank_is_next rule x zs b =
     rw b (omega arith)
 
 -- a letter that comes goes on with the piece under way, or there is none
-abbrev pub GoesOn : {A : Type 0} → Rule A → List A → A → Type 0
-GoesOn rule part x = (part ≡ []) ⊎ (ends_piece rule x ≡ false)
+abbrev pub LetterGoesOn : {A : Type 0} → Rule A → List A → A → Type 0
+LetterGoesOn rule part x = (part ≡ []) ⊎ (ends_piece rule x ≡ false)
 
-pub letters_are_next : {A : Type 0} (rule : Rule A) (part : List A) (x : A) (zs : List A) → IsPiece rule part → rule.blank x ≡ false → GoesOn rule part x →
+pub letters_are_next : {A : Type 0} (rule : Rule A) (part : List A) (x : A) (zs : List A) → IsPiece rule part → rule.blank x ≡ false → LetterGoesOn rule part x →
     sum_by rule.size part + rule.size x ≤ sum_by rule.size (next_piece rule (part ++ x ∷ zs))
 letters_are_next rule [] x zs h b goes =
     let c = sum_by-cons rule.size x (up_to (ends_piece rule) zs) in
@@ -215,7 +215,7 @@ up_to_push : {A : Type 0} (test : A → Bool) (part : List A) (x : A) → up_to 
 up_to_push test [] x h b = grind arith
 up_to_push test (y ∷ part) x h b = grind (arith, up_to_push test part x)
 
-pub piece_push : {A : Type 0} (rule : Rule A) (part : List A) (x : A) → IsPiece rule part → rule.blank x ≡ false → GoesOn rule part x → IsPiece rule (part ++ x ∷ [])
+pub piece_push : {A : Type 0} (rule : Rule A) (part : List A) (x : A) → IsPiece rule part → rule.blank x ≡ false → LetterGoesOn rule part x → IsPiece rule (part ++ x ∷ [])
 piece_push rule [] x h b goes = (b, refl)
 piece_push rule (y ∷ part) x h b goes = (h.0, up_to_push (ends_piece rule) part x h.1 (⊎_elim (λ e. absurd (cc)) (λ e. e) goes))
 
@@ -223,7 +223,7 @@ pub blank_push : {A : Type 0} (blank : A → Bool) (gap : List A) (x : A) → Al
 blank_push blank [] x h b = (b, tt)
 blank_push blank (y ∷ gap) x h b = (h.0, blank_push blank gap x h.1 b)
 
-abbrev pub letter_added : {A : Type 0} (rule : Rule A) (c : Counter) (here : List A) (x : A) (zs : List A) → rule.blank x ≡ false → c.used + rule.size x ≤ rule.width → (r : Reads rule c here (x ∷ zs)) → GoesOn rule r.part x → Reads rule (add_letter c (rule.size x)) here zs
+abbrev pub letter_added : {A : Type 0} (rule : Rule A) (c : Counter) (here : List A) (x : A) (zs : List A) → rule.blank x ≡ false → c.used + rule.size x ≤ rule.width → (r : Reads rule c here (x ∷ zs)) → LetterGoesOn rule r.part x → Reads rule (add_letter c (rule.size x)) here zs
 letter_added rule c here x zs b o r goes =
     let u = r.used_is in
     let p = r.part_is in

@@ -12,7 +12,7 @@ use Rattle.tui_frames.specs.InBlock.{inner_of}
 use Rattle.tui_frames.specs.Strokes.{block_layers}
 use Rattle.tui_para.specs.Lines.{GlyphLine}
 use Rattle.tui_para.specs.Paragraph.{ParagraphData}
-use Rattle.tui_para.specs.Shows.{Shows}
+use Rattle.tui_para.specs.Shows.{AreaShows}
 use Rattle.tui_para.specs.Strokes.{glyph_lines_layers}
 use Rattle.tui_para.specs.WrappedText.{WrappedText, TruncatedText, wrap_text, truncate_text}
 
@@ -28,7 +28,7 @@ base_of (Some b) style c = dressed style (dressed b.style (dressed style c))
 -- the area inside the block, if it is not empty, shows these lines from the scroll line on, over cells with these styles
 pub record ParagraphShows (p : ParagraphData) (clip : Rect) (before after : Screen) : Type 0 where
   pub shown : is_empty (inner_of p.block clip) ≡ false → (lines : List GlyphLine) × ParagraphLines p (inner_of p.block clip).width lines
-      × Shows (inner_of p.block clip) (base_of p.block p.style) (drop p.scroll_y lines) before after
+      × AreaShows (inner_of p.block clip) (base_of p.block p.style) (drop p.scroll_y lines) before after
 
 -- the lines as a function
 abbrev pub paragraph_lines : ParagraphData → ℕ → List GlyphLine

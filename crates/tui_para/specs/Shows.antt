@@ -24,7 +24,7 @@ with_line rect None x c = c
 with_line rect (Some s) x c = with_grapheme (stands_in (rect.x + start_of s.alignment rect.width (sum_by glyph_width s.glyphs)) s.glyphs x) c
 
 -- each cell of the area is the base of the cell before, under the line of its row: line r stands in row r
-pub record Shows (rect : Rect) (base : Look → Look) (lines : List GlyphLine) (before after : Screen) : Type 0 where
+pub record AreaShows (rect : Rect) (base : Look → Look) (lines : List GlyphLine) (before after : Screen) : Type 0 where
   pub area : after.area ≡ before.area
   pub cells : (x y : ℕ) → covers rect x y ≡ true →
       cell_at after x y ≡ option_map (λ c. with_line rect (slice_get lines (y - rect.y)) x (base c)) (cell_at before x y)

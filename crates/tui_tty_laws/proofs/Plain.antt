@@ -102,11 +102,11 @@ becomes_has knows pen f b m cs t (inr h) has =
     subst (λ (ds : List Command). Has (pen_from f b m) (run knows ds t)) (sym h) (subst (Has (pen_from f b m)) (sym (pen_set knows f b m t has.whole)) there)
 
 -- each cell is drawn by its own pen, and the pen is at rest behind the last one
-record Draws (depth : Depth) (knows : List ℕ → Bool) (ps : List Placed) (cs : List Command) (t : Tty) : Type 0 where
+record CommandsDraw (depth : Depth) (knows : List ℕ → Bool) (ps : List Placed) (cs : List Command) (t : Tty) : Type 0 where
   drawn : drawn_by knows cs t ≡ map (inked depth) ps
   has : Has rest (run knows cs t)
 
-draws : (depth : Depth) (knows : List ℕ → Bool) (pen : Pen) (ps : List Placed) (cs : List Command) (t : Tty) → StyledRow depth pen ps cs → Has pen t → Draws depth knows ps cs t
+draws : (depth : Depth) (knows : List ℕ → Bool) (pen : Pen) (ps : List Placed) (cs : List Command) (t : Tty) → StyledRow depth pen ps cs → Has pen t → CommandsDraw depth knows ps cs t
 draws depth knows pen [] cs t h has = record {
   drawn =
       ap (λ (ds : List Command). drawn_by knows ds t) (sym (append-nil cs)) ∙ paints_draw_none knows pen rest cs [] t h;

@@ -6,7 +6,7 @@ ghost use Rattle.tui_cells.specs.Buffer.{IsFilled};
 ghost use Rattle.tui_cells.specs.Cell.{blank};
 ghost use Rattle.tui_cells.specs.Layers.{Painted};
 ghost use Rattle.tui_cells.specs.Rect.{area_of};
-ghost use Rattle.tui_display.specs.Run.{IsRun};
+ghost use Rattle.tui_display.specs.Run.{IsDisplayRun};
 ghost use Rattle.tui_schema.specs.Scene.{reading_data};
 ghost use Rattle.tui_view_run.specs.Frames.{IsFrame, IsFrameOf, IsSceneShown, IsTold, frames_output, refusal_line, told_layers};
 
@@ -46,7 +46,7 @@ impl Painter for Frames {
 
 /// Shows on a terminal of so many colours the scene of each line that it gives, as `show_lines` does.
 pub fn show_frames<T: Terminal>(alloc: Global, depth: Depth, terminal: &mut T) -> DisplayEnd
-    ensures { IsRun IsFrame (frames_output depth) (T.told terminal.old) (T.told terminal.new) result }
+    ensures { IsDisplayRun IsFrame (frames_output depth) (T.told terminal.old) (T.told terminal.new) result }
 {
     let output = Output {
         depth,
