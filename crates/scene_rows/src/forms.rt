@@ -16,7 +16,7 @@ use tui_program::put_refused_field;
 /// The bytes that the answers may take.
 const ROOM: usize = 65_536;
 
-/// A form on a terminal of so many columns and rows.
+/// A form on a terminal of `width` columns and `height` rows.
 #[derive(Drop, Deserialize)]
 #[serde(deny_unknown_fields)]
 pub(crate) struct Asking {

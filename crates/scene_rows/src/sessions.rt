@@ -14,7 +14,7 @@ use tui_rows::write_rows;
 /// The bytes that the rows of a screen may take.
 const ROOM: usize = 65_536;
 
-/// A pager on a terminal of so many columns and rows.
+/// A pager on a terminal of `width` columns and `height` rows.
 #[derive(Drop, Deserialize)]
 #[serde(deny_unknown_fields)]
 pub(crate) struct Session {

@@ -162,7 +162,7 @@ has_ended {A} b o begin area stand new t0 t1 t2 t3 count end result been t c = b
         (Appends-keeps t1.bytes t1.bytes t2.bytes [] (Appends-none t1.bytes) t.0.kept) c
     by_end ends.ManyReads t c = absurd t
 
--- so many reads were made
+-- 4,294,967,296 reads were made
 pub many_reads : {A : Type 0} (b : Behaviour A) (o : Output) (begin : A) (area : Rect) (stand : Stand A) (t0 t1 t3 : Told) (count : ℕ) (result : AppEnd) →
     count ≡ 4294967296 → HasBeen b o begin area stand t0 t1 count → Closed ends.ManyReads t1 t3 result → IsAppRun b o begin area t0 t3 stand.app result
 many_reads b o begin area stand t0 t1 t3 count result all been c =

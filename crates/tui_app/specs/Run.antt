@@ -13,8 +13,8 @@ use Rattle.tui_outside.specs.Causes.{Rose, TakesPart, Told}
 use Rattle.tui_tty.specs.Session.{enter_text, leave_text}
 use Rattle.tui_tty.specs.declared.output.Output.{Output}
 
--- Why a session of so many reads stops where it stands, what the terminal has given last, and the app then: an event of this read quits; it is the
--- end; it failed; there is no memory for what it asks; or so many reads were made.
+-- Why a session of `count` reads stops where it stands, what the terminal has given last, and the app then: an event of this read quits; it is the
+-- end; it failed; there is no memory for what it asks; or 4,294,967,296 reads were made.
 abbrev pub Stops : {A : Type 0} → Behaviour A → Stand A → ℕ → List ℕ → A → AppEnd → Type 0
 Stops b s count given last Quit = (bytes : List ℕ) × IsRead bytes × (given ≡ gave bytes) × Takes b s.app Go (heard s.keys bytes) last Quits
 Stops b s count given last Ended = (given ≡ gave []) × (last ≡ s.app)
@@ -29,7 +29,8 @@ Counts ReadFault before now = Rose before now
 Counts _ before now = now ≡ before
 
 -- a session stopped, and was left
-pub record HasStopped {A : Type 0} (b : Behaviour A) (o : Output) (begin : A) (area : Rect) (last : A) (end : AppEnd) (tape : List ℕ) (before now : ℕ) : Type 0 where
+pub record HasStopped {A : Type 0} (b : Behaviour A) (o : Output) (begin : A) (area : Rect) (last : A) (end : AppEnd) (tape : List ℕ)
+    (before now : ℕ) : Type 0 where
   pub stand : Stand A
   pub reads : List (List ℕ)
   pub waited : List ℕ

@@ -187,7 +187,8 @@ impl Terminal for MemTerminal {
     fn wait(&mut self, into: &mut [u8; READ_ROOM]) -> Result<usize, Failed>
         ensures bound { ReadsAtMost result into.new }
         ensures tape { MatchResult result
-            (λ n. Took (record { bytes = Some self.old.tape; faults = self.old.faults }) (record { bytes = Some self.new.tape; faults = self.new.faults }) (gave (take n into.new)))
+            (λ n. Took (record { bytes = Some self.old.tape; faults = self.old.faults }) (record { bytes = Some self.new.tape; faults = self.new.faults })
+            (gave (take n into.new)))
             (λ _. Missed (record { bytes = Some self.old.tape; faults = self.old.faults }) (record { bytes = Some self.new.tape; faults = self.new.faults })) }
 
         // Exactly which calls fail, what is given, and what stays.

@@ -17,7 +17,8 @@ pub record IsStandShown {A : Type 0} (o : Output) (stand : Stand A) (commands : 
 
 -- The app has taken the events of these reads and drawn. What was put is what enters, and then commands: `earlier` ones, and those from the last
 -- screen on that was sent whole. A terminal with room for that screen's area when they came shows what was drawn, whatever it showed before them.
-pub record IsPresent {A : Type 0} (b : Behaviour A) (o : Output) (begin : A) (area : Rect) (stand : Stand A) (reads : List (List ℕ)) (sent : List ℕ) : Type 0 where
+pub record IsPresent {A : Type 0} (b : Behaviour A) (o : Output) (begin : A) (area : Rect) (stand : Stand A) (reads : List (List ℕ))
+    (sent : List ℕ) : Type 0 where
   pub lives : Lives b begin area reads stand
   pub earlier : List Command
   pub commands : List Command

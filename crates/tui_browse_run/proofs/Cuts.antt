@@ -8,7 +8,7 @@ use Rattle.std.proofs.lemmas.List.Sums.{count_by-le-length}
 use Rattle.tui_browse_run.specs.Pieces.{AreAllPieces, HasMorePieces, ArePieces, EndsPiece, PieceData, feeds, is_feed, no_pieces, one_more, piece_data}
 use Rattle.tui_browse_run.specs.declared.piece.Piece.{Piece}
 
--- so many first pieces of a text
+-- the first `count` pieces of a text
 pub record HasCut (text : List ℕ) (count : ℕ) (pieces : List PieceData) (line : ℕ) (rest : List ℕ) : Type 0 where
   pub are : ArePieces text pieces line rest
   pub counted : length pieces ≡ count

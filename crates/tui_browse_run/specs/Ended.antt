@@ -3,7 +3,19 @@ use Rattle.std.specs.Prelude.{ℕ}
 use Rattle.tui_app.specs.declared.ending.AppEnd.{AppEnd}
 use Rattle.tui_app.specs.declared.ending.AppEnd.TheVariants as ends
 use Rattle.tui_browse_run.specs.declared.ended.BrowseEnded.{BrowseEnded}
-use Rattle.tui_browse_run.specs.declared.ended.BrowseEnded.TheVariants.{Quit, Ended, Usage, TooLong, NotJson, NotText, BadInput, ReadFault, WriteFault, NoMemory, ManyReads}
+use Rattle.tui_browse_run.specs.declared.ended.BrowseEnded.TheVariants.{
+  Quit,
+  Ended,
+  Usage,
+  TooLong,
+  NotJson,
+  NotText,
+  BadInput,
+  ReadFault,
+  WriteFault,
+  NoMemory,
+  ManyReads,
+}
 use Rattle.tui_browse_run.specs.declared.refusal.Refusal.{Refusal}
 use Rattle.tui_browse_run.specs.declared.refusal.Refusal.TheVariants as refusals
 

@@ -2,7 +2,19 @@
 
 ghost use Rattle.std.specs.Prelude.{◌≡◌, ◌<◌, ◌≤◌, ◌↔◌, ◌&&◌, nat_le, [], ◌∷◌, ◌++◌, chars, length, encode_utf8, None, IfSome, IsTrue};
 ghost use Rattle.std.specs.Str.{IsUtf8};
-ghost use Rattle.tui_clusters.specs.Plain.{is_plain, is_sign_start, plain_len, BeginsPrintable, IsIdeograph, IsLetter, IsPlainChar, IsPlainFirst, IsPlainRun, IsSeam, IsSign};
+ghost use Rattle.tui_clusters.specs.Plain.{
+  is_plain,
+  is_sign_start,
+  plain_len,
+  BeginsPrintable,
+  IsIdeograph,
+  IsLetter,
+  IsPlainChar,
+  IsPlainFirst,
+  IsPlainRun,
+  IsSeam,
+  IsSign,
+};
 
 use crate::printable::{is_printable, printable_len};
 

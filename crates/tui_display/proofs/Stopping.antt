@@ -215,7 +215,7 @@ has_ended calls o t m now last.ReadFault result e c = left calls o t m now last.
 has_ended calls o t m now last.NoMemory result e c = left calls o t m now last.NoMemory result e c
 has_ended calls o t m now last.ManyReads result e c = left calls o t m now last.ManyReads result e c
 
--- so many reads were made
+-- 4,294,967,296 reads were made
 pub many_reads : (calls : Calls) (o : Output) (t now : Told) (count : ℕ) (line : List ℕ) (screen : Screen) → count ≡ 4294967296 →
     HasRead calls o t now count line screen → Ends calls o t now last.ManyReads
 many_reads calls o t now count line screen all_of has = record {

@@ -111,7 +111,7 @@ abbrev pub IsTurned : (List ℕ → Screen → Screen → Type 0) → Output →
 IsTurned calls o line old begun new k now result = (t : Told) (all : List (List ℕ)) →
     HasBeen calls o t k all (concat all) [] line old → GoesOn calls o t now all begun new result
 
--- so many reads, and a session that waits
+-- `count` reads, and a session that waits
 pub record HasRead (calls : List ℕ → Screen → Screen → Type 0) (o : Output) (t now : Told) (count : ℕ) (line : List ℕ) (screen : Screen) : Type 0 where
   pub all : List (List ℕ)
   pub counted : length all ≡ count

@@ -14,7 +14,7 @@ use Rattle.tui_tty.specs.Session.{enter_text, leave_text}
 use Rattle.tui_tty.specs.declared.output.Output.{Output}
 
 -- Why a session of these reads and lines stops where it stands, and what the terminal has given last: all lines are shown; the next one has too many
--- bytes; a read failed; there is no memory for the next line, or for the last one behind the end; or so many reads were made.
+-- bytes; a read failed; there is no memory for the next line, or for the last one behind the end; or 4,294,967,296 reads were made.
 abbrev pub Stops : List (List ℕ) → List (List ℕ) → List ℕ → DisplayEnd → Type 0
 Stops all lines given Ended = (given ≡ []) × (pieces (concat all) ≡ lines)
 Stops all lines given TooLong = (given ≡ []) × (before : List ℕ) × (after : List ℕ) × (begun : List ℕ) × (concat all ≡ before ++ after)

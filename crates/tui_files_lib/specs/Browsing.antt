@@ -72,7 +72,7 @@ path_of folder name = (folder ++ slash_behind folder) ++ name
 abbrev pub chosen_path : Browser → List ℕ
 chosen_path b = unwrap_or (option_map (λ name. path_of (string_bytes b.folder) (string_bytes name.text)) (selected_name b)) (string_bytes b.folder)
 
--- a list's state with one of so many rows selected, at most the last one; where there is none, none is
+-- a list's state with one of `rows` rows selected, at most the last one; where there is none, none is
 abbrev pub selecting_in : ℕ → ℕ → ListState → ListState
 selecting_in rows row s = if rows == 0 then at_rest else record s { selected = Some (min row (rows - 1)) }
 

@@ -37,7 +37,8 @@ pub record NamesAreSeen (b : Browser) (screen : Screen) : Type 0 where
 
 -- The terminal shows the screen that was drawn last; if that has room for the names they are seen, and the cursor of the part while it is typed. Else it says
 -- that it is too small.
-pub record IsOnScreen {F : Type 0} (o : Output) (begin : FilesApp F) (area : Rect) (stand : Stand (FilesApp F)) (reads : List (List ℕ)) (sent : List ℕ) : Type 0 where
+pub record IsOnScreen {F : Type 0} (o : Output) (begin : FilesApp F) (area : Rect) (stand : Stand (FilesApp F)) (reads : List (List ℕ))
+    (sent : List ℕ) : Type 0 where
   pub present : IsPresent (files F) o begin area stand reads sent
   pub names : has_room stand.screen.area ≡ true → NamesAreSeen stand.app.browser stand.screen
   pub cursor : has_room stand.screen.area ≡ true → stand.app.browser.types ≡ true → ShowsCursor stand.app.browser.part stand.screen stand.place

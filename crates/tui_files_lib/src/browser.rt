@@ -179,7 +179,7 @@ impl Browser {
     }
 }
 
-/// The state of a list of so many rows with one of them selected, at most the last one; none where there is none.
+/// The state of a list of `rows` rows with one of them selected, at most the last one; none where there is none.
 fn selecting_in(rows: usize, row: usize, state: ListState) -> ListState
     ensures { result ≡ selecting_in rows row state }
 {

@@ -51,7 +51,7 @@ is_empty_value (typed_value text is_masked) = length (text_of text) == 0
 is_empty_value (choice texts chosen) = is_none (chosen_text texts chosen)
 is_empty_value (check is_on) = not is_on
 
--- ---- places among so many, round about
+-- ---- places among `count`, round about
 
 -- the one behind a place; the first behind none, and behind the last
 abbrev pub place_behind : ℕ → Option ℕ → ℕ
@@ -70,7 +70,7 @@ abbrev pub is_blank : Event → Bool
 is_blank (events.Char c) = c == 32
 is_blank _ = false
 
--- the place among so many that an event chooses, if it chooses one
+-- the place among `count` that an event chooses, if it chooses one
 abbrev pub chosen_by : ℕ → Option ℕ → Event → Option ℕ
 chosen_by count chosen events.Left = Some (place_before count chosen)
 chosen_by count chosen events.Right = Some (place_behind count chosen)

@@ -2,7 +2,20 @@
 
 ghost use Rattle.std.specs.Prelude.{◌≡◌, [], ◌∷◌, ◌++◌, codes, IfOk, OnOk, length, map, replicate, string_bytes, true};
 ghost use Rattle.tui_form_lib.specs.Field.{field_data};
-ghost use Rattle.tui_form_lib.specs.Lines.{bold, box_text, choice_spans, field_item, is_told, items_from, label_line, needed_mark, told_mark, text_spans, value_line, value_spans};
+ghost use Rattle.tui_form_lib.specs.Lines.{
+  bold,
+  box_text,
+  choice_spans,
+  field_item,
+  is_told,
+  items_from,
+  label_line,
+  needed_mark,
+  told_mark,
+  text_spans,
+  value_line,
+  value_spans,
+};
 ghost use Rattle.tui_form_lib.specs.Value.{value_data};
 ghost use Rattle.tui_lists.specs.ListItem.{list_item_data};
 ghost use Rattle.tui_text.specs.Line.{line_data};

@@ -1,4 +1,4 @@
-//! Places among so many, round about.
+//! Places among `count`, round about.
 
 ghost use Rattle.std.specs.Prelude.{◌≡◌};
 ghost use Rattle.tui_form_lib.specs.Value.{place_before, place_behind};

@@ -3,7 +3,19 @@
 ghost use Rattle.std.specs.Prelude.{◌≡◌, IfOk, OnOk, if◌then◌else◌, map};
 ghost use Rattle.tui_form_lib.specs.Field.{field_data};
 ghost use Rattle.tui_form_lib.specs.Form.{form_data};
-ghost use Rattle.tui_form_lib.specs.Steps.{accepting, after_event, escaped_after, first_missing, flow_after, flow_for, obeyed, skipped, still_told, taken, takes};
+ghost use Rattle.tui_form_lib.specs.Steps.{
+  accepting,
+  after_event,
+  escaped_after,
+  first_missing,
+  flow_after,
+  flow_for,
+  obeyed,
+  skipped,
+  still_told,
+  taken,
+  takes,
+};
 
 use crate::asking::{Asked, asked_by};
 use crate::field::FormField;

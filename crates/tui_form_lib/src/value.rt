@@ -86,7 +86,7 @@ pub(crate) fn chosen_or_empty(texts: &[String], chosen: Option<usize>) -> &str
     }
 }
 
-/// The place among so many that an event chooses, if it chooses one.
+/// The place among `count` that an event chooses, if it chooses one.
 fn chosen_by(count: usize, chosen: Option<usize>, event: Event) -> Option<usize>
     ensures { result ≡ chosen_by count chosen event }
 {

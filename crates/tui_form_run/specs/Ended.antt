@@ -5,7 +5,19 @@ use Rattle.tui_app.specs.declared.ending.AppEnd.TheVariants as ends
 use Rattle.tui_form_lib.specs.declared.form.Outcome.{Outcome}
 use Rattle.tui_form_lib.specs.declared.form.Outcome.TheVariants as outcomes
 use Rattle.tui_form_run.specs.declared.ended.FormEnded.{FormEnded}
-use Rattle.tui_form_run.specs.declared.ended.FormEnded.TheVariants.{Accepted, Left, Ended, Usage, TooLong, NotJson, BadForm, ReadFault, WriteFault, NoMemory, ManyReads}
+use Rattle.tui_form_run.specs.declared.ended.FormEnded.TheVariants.{
+  Accepted,
+  Left,
+  Ended,
+  Usage,
+  TooLong,
+  NotJson,
+  BadForm,
+  ReadFault,
+  WriteFault,
+  NoMemory,
+  ManyReads,
+}
 use Rattle.tui_form_run.specs.declared.refusal.Refusal.{Refusal}
 use Rattle.tui_form_run.specs.declared.refusal.Refusal.TheVariants as refusals
 

@@ -54,8 +54,10 @@ EndsAnswering last end old new e = EndsAs last.fields old new (ended_as end last
 -- the answers have no place, and the terminal is not entered; or its form is shown, the terminal is left, and then it is answered; or memory was wanting
 -- before anything was put.
 pub data EndsOver (setting : Setting) (says : Said → Type 0) (old new answers answers_then : Told) : FormEnded → Type 0 where
-  refused : (x : Refusal) (e : FormEnded) → says (Err x) → Refuses x old new e → Unput answers answers_then → EndsOver setting says old new answers answers_then e
-  unplaced : (form : FormData) → says (Ok form) → Unput old new → HasNoPlace answers answers_then → EndsOver setting says old new answers answers_then WriteFault
+  refused : (x : Refusal) (e : FormEnded) → says (Err x) → Refuses x old new e → Unput answers answers_then
+      → EndsOver setting says old new answers answers_then e
+  unplaced : (form : FormData) → says (Ok form) → Unput old new → HasNoPlace answers answers_then
+      → EndsOver setting says old new answers answers_then WriteFault
   shown : (begin last : code.Form) (end : AppEnd) (e : FormEnded) → says (Ok (form_data begin)) →
       IsAppRun form_behaviour setting.output begin (area_of 0 0 setting.width setting.height) old new last end →
       EndsAnswering (form_data last) end answers answers_then e → EndsOver setting says old new answers answers_then e
@@ -76,7 +78,7 @@ pub data EndsReading (setting : Setting) (t : Transcript) (answers answers_then 
 abbrev pub EndsUsage : Told → Told → FormEnded → Type 0
 EndsUsage old new e = ((e ≡ Usage) × PutsAll old new (codes "refused: usage\n")) ⊎ ((e ≡ WriteFault) × PutsPart old new (codes "refused: usage\n"))
 
--- How a run by so many words ends. Where they name no form nothing is read, and the place for the answers is left alone.
+-- How a run by `count` words ends. Where they name no form nothing is read, and the place for the answers is left alone.
 abbrev pub EndsBy : Setting → ℕ → Transcript → Told → Told → FormEnded → Type 0
 EndsBy setting count t answers answers_then e =
     ((are_named count ≡ true) × EndsReading setting t answers answers_then e)
@@ -85,5 +87,6 @@ EndsBy setting count t answers answers_then e =
 -- By the words that the system gives. Where it refuses a word nothing is read; where it has no memory for one nothing is put either.
 abbrev pub EndsFrom : Setting → Result (IntoIter (String Global) Global) Error → Transcript → Told → Told → FormEnded → Type 0
 EndsFrom setting (Ok all) t answers answers_then e = EndsBy setting (length (drop 1 (into_iter_items all))) t answers answers_then e
-EndsFrom setting (Err error) t answers answers_then e = Unread t × Unput answers answers_then × (((error_kind error ≢ OutOfMemory) × EndsUsage t.sink t.sink_then e)
+EndsFrom setting (Err error) t answers answers_then e =
+    Unread t × Unput answers answers_then × (((error_kind error ≢ OutOfMemory) × EndsUsage t.sink t.sink_then e)
     ⊎ ((error_kind error ≡ OutOfMemory) × (e ≡ NoMemory) × Unput t.sink t.sink_then))

@@ -24,7 +24,7 @@ columns_fall ps j k le =
 
 -- ---- counting from the end
 
--- from the end of the clusters on, so many columns of a room are free
+-- the clusters from the one at `start` on leave `free` columns of a room
 pub record IsCounting (room : ℕ) (ps left : List (List ℕ)) (start free : ℕ) : Type 0 where
   pub behind : List (List ℕ)
   pub parts : ps ≡ left ++ behind
@@ -120,7 +120,7 @@ unfolding start_in
 start_lowest room [] = record { within = omega arith; fits = omega arith; lowest = λ other lt. absurd (omega arith) }
 start_lowest room (c ∷ cs) = first_fits room c cs (nat_le (columns (c ∷ cs)) room) refl (start_lowest room cs)
 
--- where the text behind takes so many columns, the greatest place from which on no columns are left free
+-- where the text behind takes `behind` columns, the greatest place from which on no columns are left free
 record IsHighest (width behind low high : ℕ) (ps : List (List ℕ)) : Type 0 where
   within : high ≤ length ps
   above : low ≤ high

@@ -1,5 +1,26 @@
 -- A text input as plain data, its strokes, and the state that a drawing leaves.
-use Rattle.std.specs.Prelude.{◌≡◌, ℕ, ◌+◌, ◌-◌, ◌==◌, Bool, true, false, IsSome, List, [], ◌∷◌, ◌++◌, length, drop, Option, None, Some, option_map, if◌then◌else◌}
+use Rattle.std.specs.Prelude.{
+  ◌≡◌,
+  ℕ,
+  ◌+◌,
+  ◌-◌,
+  ◌==◌,
+  Bool,
+  true,
+  false,
+  IsSome,
+  List,
+  [],
+  ◌∷◌,
+  ◌++◌,
+  length,
+  drop,
+  Option,
+  None,
+  Some,
+  option_map,
+  if◌then◌else◌,
+}
 use Rattle.std.specs.Option.{option_copied}
 use Rattle.tui_cells.specs.declared.position.Position.{Position}
 use Rattle.tui_cells.specs.declared.rect.Rect.{Rect}

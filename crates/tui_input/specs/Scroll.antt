@@ -48,7 +48,7 @@ cursor_columns mask s = max (columns (take 1 (shown mask s.after))) 1
 abbrev pub cursor_column : Option (List ℕ) → TypedText → ℕ
 cursor_column mask s = columns_from (shown mask s.before) s.first
 
--- a first cluster serves in so many columns
+-- a first cluster serves in `width` columns
 pub record Serves (mask : Option (List ℕ)) (width : ℕ) (s : TypedText) (first : ℕ) : Type 0 where
   pub within : first ≤ length (shown mask s.before)
   -- the columns that are kept for the cursor are seen
@@ -61,7 +61,7 @@ pub record MovesLeast (mask : Option (List ℕ)) (width : ℕ) (s : TypedText) (
   pub serves : Serves mask width s first
   pub least : (other : ℕ) → Serves mask width s other → distance first s.first ≤ distance other s.first
 
--- a drawing in so many columns moves the first cluster least, so that the cursor is seen, and the cluster right of it whole where it is
+-- a drawing in `width` columns moves the first cluster least, so that the cursor is seen, and the cluster right of it whole where it is
 -- no wider
 pub record IsScrolled (mask : Option (List ℕ)) (width : ℕ) (old new : TypedText) : Type 0 where
   pub moves : MovesLeast mask width old new.first
@@ -89,6 +89,6 @@ highest mask width s =
 abbrev pub shown_from : TypedText → ℕ → TypedText
 shown_from s first = record s { first = first }
 
--- what a drawing in so many columns leaves
+-- what a drawing in `width` columns leaves
 abbrev pub scrolled : Option (List ℕ) → ℕ → TypedText → TypedText
 scrolled mask width s = shown_from s (min (max s.first (lowest mask width s)) (highest mask width s))

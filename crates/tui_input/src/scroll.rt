@@ -115,7 +115,7 @@ impl InputState {
         }
     }
 
-    /// The first grapheme that a drawing in so many columns shows.
+    /// The first grapheme that a drawing in `width` columns shows.
     pub(crate) fn first_in(&self, mask: Option<&str>, width: u16) -> usize
         ensures is { shown_from self.now result ≡ scrolled (option_copied mask.entry) width self.now }
         ensures moves { IsScrolled (option_copied mask.entry) width self.now (shown_from self.now result) }

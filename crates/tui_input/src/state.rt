@@ -36,7 +36,7 @@ use tui_cells::Mem;
 use unicode_width::UnicodeWidthChar;
 
 /// A text of one line that is typed, with a cursor that stands at the end of a grapheme of the text before it: what is typed there stays
-/// left of it, whatever it would join with what stands behind. At most so many characters are taken, none of them a control character.
+/// left of it, whatever it would join with what stands behind. At most `most` characters are taken, none of them a control character.
 /// What a drawing begins with, the first grapheme that is shown, is kept too. Only a character wants memory.
 pub struct InputState {
     text: String,
@@ -72,7 +72,7 @@ impl Model for InputState {
 }
 
 impl InputState {
-    /// An empty text, which may have so many characters. It takes no memory.
+    /// An empty text, which may have up to `most` characters. It takes no memory.
     pub fn new(alloc: Global, most: usize) -> InputState
         ensures { result ≡ empty_input most }
     {
@@ -231,6 +231,7 @@ impl InputState {
     {
         match self.text.replace_range(from..to, "") {
             Ok(()) => self.at = from,
+            // No bytes are put in the place of these, so no room is wanted.
             Err(_) => unreachable!(),
         }
     }

@@ -19,9 +19,10 @@ const REACH: usize = 512;
 /// How many bytes are searched for two printable characters of one byte.
 const SEAM_REACH: usize = 64;
 
-/// A first part of the text that has the same first `count` lines, where it is wrapped. It ends behind the first newline from byte `near` on, or little more than a line behind that byte, between two
-/// printable characters of one byte. Where there is no such place in reach, or the part has no line more than these, it is the whole
-/// text. The work is that of these lines and of some hundred bytes. It takes no memory.
+/// A first part of the text that has the same first `count` lines, where it is wrapped. It ends behind the first newline from byte
+/// `near` on, or little more than a line behind that byte, between two printable characters of one byte. Where there is no such place
+/// in reach, or the part has no line more than these, it is the whole text. The work is that of these lines and of some hundred bytes.
+/// It takes no memory.
 pub fn first_part(text: &str, lines: Lines, count: usize, near: usize) -> &str
     ensures same { HaveSameLines lines.width lines.trim count text.now result.now }
     ensures part { (rest : List ℕ) × (text.now ≡ result.now ++ rest) }

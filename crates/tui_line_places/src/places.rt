@@ -19,7 +19,8 @@ pub fn from_line(text: &str, lines: Lines, line: usize) -> Option<&str>
 }
 
 pub(crate) fn rest_from(text: &str, lines: Lines, line: usize) -> Option<&str>
-    ensures { MatchOption result (HasAtMost lines.width lines.trim text.now line) (λ rest. IsUtf8 rest.now × IsFromLine lines.width lines.trim line text.now rest.now) }
+    ensures { MatchOption result (HasAtMost lines.width lines.trim text.now line)
+        (λ rest. IsUtf8 rest.now × IsFromLine lines.width lines.trim line text.now rest.now) }
 {
     let mut rest = text;
     for _line in 0..line {

@@ -112,7 +112,7 @@ impl<'v> Panes<'v> {
     /// nothing is drawn then. Ok: the buffer and the states are those of a run over the leaves in that order; where no widget has a
     /// shadow, those of the leaves from first to last, whatever the order. `NoMemory`: the leaves before the one named, as the order
     /// has them, are drawn and have their states moved; that one may have changed cells of its footprint and has its state as before;
-    /// the others have done nothing. Where each widget takes no memory or does not meet the buffer, the answer is Ok.
+    /// the others have done nothing. For a right order the answer is Ok where each widget takes no memory or does not meet the buffer.
     pub fn draw(
         &mut self,
         alloc: Global,

@@ -7,4 +7,6 @@ use Rattle.tui_para.specs.declared.truncating.truncation.Truncation.{Truncation}
 
 -- what is shown of the graphemes to come: nothing where one didn't fit, and else what fits of those that the offset leaves
 abbrev pub shown_of : Truncation → List Glyph → List Glyph
-shown_of truncation glyphs = if truncation.full then [] else fitting_prefix glyph_width truncation.room (left_by glyph_width truncation.offset (not_wider glyph_width truncation.width glyphs))
+shown_of truncation glyphs =
+    if truncation.full then []
+    else fitting_prefix glyph_width truncation.room (left_by glyph_width truncation.offset (not_wider glyph_width truncation.width glyphs))

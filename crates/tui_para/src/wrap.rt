@@ -7,7 +7,7 @@ ghost use Rattle.std.specs.Prelude.{◌≡◌, false};
 pub struct Wrap {
     /// Each line begins without its blanks.
     pub trim: bool,
-    /// A line may also end after a `-` that stands in a word between two graphemes that aren't `-`.
+    /// A line may also end after a `-` that stands in a word directly between two graphemes that aren't `-`.
     pub hyphens: bool,
 }
 

@@ -16,7 +16,7 @@ sides = record { digits = 4; least = 1; most = 1000 }
 abbrev pub IsSide : List ℕ → ℕ → ℕ → Type 0
 IsSide text otherwise side = Write sides text side ⊎ (((n : ℕ) → Write sides text n → ⊥) × (side ≡ otherwise))
 
--- what is sent to a terminal of so many colours
+-- what is sent to a terminal of as many colours as `depth` says
 abbrev pub hidden : Depth → Output
 hidden depth = record { depth = depth; trust = Common; cursor = Hidden; hold = false }
 

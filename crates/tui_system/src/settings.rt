@@ -15,8 +15,8 @@ pub struct Setting {
 }
 
 impl Setting {
-    /// A terminal of so many colours, which is trusted with common symbols, and of the columns and rows that two variables of the environment say, each
-    /// a number from 1 to 1000. Where one says none there are 80 columns, and 24 rows.
+    /// A terminal of as many colours as `depth` says, which is trusted with common symbols, and of the columns and rows that two variables of the
+    /// environment say, each a number from 1 to 1000. Where one says none there are 80 columns, and 24 rows.
     pub fn said_by(depth: Depth, columns: &str, lines: &str) -> Setting
         ensures output { result.output ≡ hidden depth }
         ensures width { IsSide columns.now 80 result.width }

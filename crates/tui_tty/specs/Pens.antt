@@ -2,7 +2,19 @@
 use Rattle.std.specs.Prelude.{◌≡◌, ℕ, ◌+◌, Bool, true, false, not, ◌&&◌, ◌||◌, bit_and, ◌==◌, List, [], ◌∷◌, ◌++◌, length, if◌then◌else◌}
 use Rattle.tui_cells.specs.declared.attributes.Attributes.{Attributes}
 use Rattle.tui_cells.specs.declared.color.Color.{Color}
-use Rattle.tui_cells.specs.declared.color.Color.TheVariants.{Reset, DarkGray, LightRed, LightGreen, LightYellow, LightBlue, LightMagenta, LightCyan, White, Rgb, Indexed}
+use Rattle.tui_cells.specs.declared.color.Color.TheVariants.{
+  Reset,
+  DarkGray,
+  LightRed,
+  LightGreen,
+  LightYellow,
+  LightBlue,
+  LightMagenta,
+  LightCyan,
+  White,
+  Rgb,
+  Indexed,
+}
 use Rattle.tui_cells.specs.Cell.{Look}
 use Rattle.tui_cells.specs.contracts.color.ColorPartialEq as color
 use Rattle.tui_tty.specs.declared.depth.Depth.{Depth}

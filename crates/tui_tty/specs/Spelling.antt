@@ -2,7 +2,26 @@
 use Rattle.std.specs.Prelude.{ℕ, ◌+◌, Bool, true, false, List, [], ◌∷◌, ◌++◌, codes, decimal, flat_map}
 use Rattle.tui_cells.specs.declared.color.Color.{Color}
 use Rattle.tui_cells.specs.declared.color.Color.TheVariants as colors
-use Rattle.tui_tty.specs.Terminal.{Setting, mark, front, back, Mode, autowrap, visible, held, bracketed, alternate, Command, tame, place, across, paint, add, print, turn}
+use Rattle.tui_tty.specs.Terminal.{
+  Setting,
+  mark,
+  front,
+  back,
+  Mode,
+  autowrap,
+  visible,
+  held,
+  bracketed,
+  alternate,
+  Command,
+  tame,
+  place,
+  across,
+  paint,
+  add,
+  print,
+  turn,
+}
 
 -- ESC, and the bytes that begin a control sequence
 abbrev pub esc : List ℕ
@@ -69,7 +88,8 @@ next_setting_text s = codes ";" ++ setting_text s
 -- whole screen, ASCII, no shift, no autowrap
 unfoldable pub tame_text : List ℕ
 tame_text =
-    24 ∷ 27 ∷ 92 ∷ (csi ++ codes "?2026l" ++ csi ++ codes "?69l" ++ csi ++ codes "?6l" ++ csi ++ codes "4l" ++ csi ++ codes "r" ++ esc ++ codes "(B" ++ 15 ∷ (csi ++ codes "?7l"))
+    24 ∷ 27 ∷ 92 ∷ (csi ++ codes "?2026l" ++ csi ++ codes "?69l" ++ csi ++ codes "?6l" ++ csi ++ codes "4l"
+    ++ csi ++ codes "r" ++ esc ++ codes "(B" ++ 15 ∷ (csi ++ codes "?7l"))
 
 -- the number of a mode
 abbrev pub mode_text : Mode → List ℕ

@@ -1,7 +1,19 @@
 -- Laws of terminals, as statements.
 use Rattle.std.specs.Prelude.{◌≡◌, ℕ, ◌+◌, ◌≤◌, Bool, true, false, List, [], ◌∷◌, ◌++◌, All, Contains, flat_map}
 use Rattle.tui_cells.specs.Buffer.{IsScreen, Screen}
-use Rattle.tui_cells.specs.Symbols.{BarData, BorderData, LineData, ScrollbarData, bar_sets, block_symbols, border_sets, line_sets, line_symbols, scrollbar_sets, shade_symbols}
+use Rattle.tui_cells.specs.Symbols.{
+  BarData,
+  BorderData,
+  LineData,
+  ScrollbarData,
+  bar_sets,
+  block_symbols,
+  border_sets,
+  line_sets,
+  line_symbols,
+  scrollbar_sets,
+  shade_symbols,
+}
 use Rattle.tui_cells.specs.declared.color.Color.{Color}
 use Rattle.tui_tty.specs.declared.cursor.Cursor.TheVariants.{Keep}
 use Rattle.tui_tty.specs.declared.depth.Depth.{Depth}

@@ -51,7 +51,8 @@ IsTold refused old new = Painted (told_layers old.area (without_newline (refusal
 
 -- what a value calls for
 abbrev pub IsFrameOf : Data → Screen → Screen → Type 0
-IsFrameOf d old new = ((s : SceneData) × (scene_of d ≡ Ok s) × IsSceneShown s new) ⊎ ((refused : BadField) × (scene_of d ≡ Err refused) × IsTold refused old new)
+IsFrameOf d old new = ((s : SceneData) × (scene_of d ≡ Ok s) × IsSceneShown s new)
+    ⊎ ((refused : BadField) × (scene_of d ≡ Err refused) × IsTold refused old new)
 
 -- and a line
 abbrev pub IsFrame : List ℕ → Screen → Screen → Type 0

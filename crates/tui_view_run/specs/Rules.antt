@@ -32,7 +32,7 @@ AreFrames (Err e) = ⊥
 abbrev pub Names : ViewCommand → List (String Global) → Type 0
 Names c words = AreRows words
 
--- what the command does with a value, for a terminal of so many colours: nothing is written before all is drawn
+-- what the command does with a value, for a terminal of as many colours as `depth` says: nothing is written before all is drawn
 abbrev pub rows_job : Depth → JobRules BadField
 rows_job depth = record {
   Input = SceneData;

@@ -7,6 +7,6 @@ use Rattle.tui_schema.specs.Scene.{SceneData}
 use Rattle.tui_tty.specs.Styled.{AreStyledRows}
 use Rattle.tui_tty.specs.declared.depth.Depth.{Depth}
 
--- the rows of the screen that its drawing on a blank buffer leaves, in so many colours
+-- the rows of the screen that its drawing on a blank buffer leaves, in as many colours as `depth` says
 abbrev pub AreRowsShown : Depth → SceneData → List ℕ → Type 0
 AreRowsShown depth s text = (new : List PlacedData) × (last : Screen) × IsDrawn s.width s.height s.items new last × AreStyledRows depth last text

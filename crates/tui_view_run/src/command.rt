@@ -26,7 +26,7 @@ pub(crate) fn are_rows(words: &[String]) -> bool
     is_word(words, "rows") || begin(words, 2, "rows")
 }
 
-/// What the command does with a scene, for a terminal of so many colours.
+/// What the command does with a scene, for a terminal of as many colours as `depth` says.
 #[derive(Clone, Copy)]
 pub(crate) struct Rows {
     pub(crate) depth: Depth,

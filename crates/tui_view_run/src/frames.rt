@@ -44,7 +44,7 @@ impl Painter for Frames {
     }
 }
 
-/// Shows on a terminal of so many colours the scene of each line that it gives, as `show_lines` does.
+/// Shows on a terminal of as many colours as `depth` says the scene of each line that it gives, as `show_lines` does.
 pub fn show_frames<T: Terminal>(alloc: Global, depth: Depth, terminal: &mut T) -> DisplayEnd
     ensures { IsDisplayRun IsFrame (frames_output depth) (T.told terminal.old) (T.told terminal.new) result }
 {

@@ -18,8 +18,8 @@ use tui_program::{Broken, Ending, Leftovers, Written, first_words, run_json};
 use tui_schema::BadField;
 use tui_tty::Depth;
 
-/// Reads a scene in JSON (docs/SCENE.md) from the source, draws it, and writes the rows of its screen to the sink, one under another, in so many
-/// colours. The words are `rows`, alone or with a FILE; the source is what they name.
+/// Reads a scene in JSON (docs/SCENE.md) from the source, draws it, and writes the rows of its screen to the sink, one under another, in as
+/// many colours as `depth` says. The words are `rows`, alone or with a FILE; the source is what they name.
 ///
 /// It ends `Ok` only where the source was read to its end within 1,048,576 bytes, these bytes are JSON that the schema accepts, no read and no put
 /// failed, and the sink holds what it held and then, for the buffer that a run over the scene's widgets reaches from a blank one, each row with what

@@ -17,7 +17,7 @@ use tui_cells::{Buffer, Mem, Position};
 use tui_keys::Event;
 use tui_layout::{Constraint, Flex, split};
 
-/// The rows of the headline, the gauges, the sparklines and the processes. Where there are not so many, the first of them are shown.
+/// The rows of the headline, the gauges, the sparklines and the processes. Where there are fewer, the first of them are shown.
 const ROWS: [Constraint; 4] = [
     Constraint::Length(1),
     Constraint::Length(3),

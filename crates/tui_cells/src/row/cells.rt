@@ -1,6 +1,25 @@
 //! Neighbouring cells.
 
-ghost use Rattle.std.specs.Prelude.{◌≡◌, ◌↔◌, ◌+◌, ◌≤◌, ◌<◌, [], ℕ, All, IfOk, IsAscii, IsOk, IsTrue, OnErr, OnOk, length, replicate, slice_index_or, vec_capacity};
+ghost use Rattle.std.specs.Prelude.{
+  ◌≡◌,
+  ◌↔◌,
+  ◌+◌,
+  ◌≤◌,
+  ◌<◌,
+  [],
+  ℕ,
+  All,
+  IfOk,
+  IsAscii,
+  IsOk,
+  IsTrue,
+  OnErr,
+  OnOk,
+  length,
+  replicate,
+  slice_index_or,
+  vec_capacity,
+};
 ghost use Rattle.tui_cells.specs.Buffer.{RowEdited};
 ghost use Rattle.tui_cells.specs.Copying.{IsEitherRow};
 ghost use Rattle.tui_cells.specs.Keeping.{row_cells};

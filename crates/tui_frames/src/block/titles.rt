@@ -165,7 +165,8 @@ impl<'a> Block<'a> {
         requires { column < strip.row.width }
         ensures ok { IfOk result (λ next. (ts : List LineData) (final : Screen)
             → Painted (titles_cut (block_data self.now) strip.clip strip.row cut next ts) buf.new final
-            → Painted (titles_cut (block_data self.now) strip.clip strip.row cut column (titles_in (block_data self.now) place (title_data title.now ∷ []) ++ ts))
+            → Painted (titles_cut (block_data self.now) strip.clip strip.row cut column
+            (titles_in (block_data self.now) place (title_data title.now ∷ []) ++ ts))
             buf.old final) }
         ensures kept { KeptOutside (covers strip.clip) buf.old buf.new }
         ensures light { AreLight (title_data title.now).line.spans → IsOk result }
@@ -188,7 +189,8 @@ impl<'a> Block<'a> {
     /// Paints the titles of a place, cut at both ends, while there is room.
     fn paint_cut(&self, buf: &mut Buffer, strip: Strip, cut: u128, place: Place) -> Mem<()>
         ensures ok { OnOk result
-            (Painted (titles_cut (block_data self.now) strip.clip strip.row cut 0 (titles_in (block_data self.now) place (block_data self.now).titles)) buf.old buf.new) }
+            (Painted (titles_cut (block_data self.now) strip.clip strip.row cut 0
+            (titles_in (block_data self.now) place (block_data self.now).titles)) buf.old buf.new) }
         ensures kept { KeptOutside (covers strip.clip) buf.old buf.new }
         ensures light { AreLightTitles (block_data self.now).titles → IsOk result }
     {
@@ -228,7 +230,8 @@ impl<'a> Block<'a> {
     /// Paints the titles of a place in the middle of a strip.
     fn paint_middle(&self, buf: &mut Buffer, strip: Strip, place: Place) -> Mem<()>
         ensures ok { OnOk result
-            (Painted (titles_in_middle (block_data self.now) strip.clip strip.row (titles_in (block_data self.now) place (block_data self.now).titles)) buf.old buf.new) }
+            (Painted (titles_in_middle (block_data self.now) strip.clip strip.row
+            (titles_in (block_data self.now) place (block_data self.now).titles)) buf.old buf.new) }
         ensures kept { KeptOutside (covers strip.clip) buf.old buf.new }
         ensures light { AreLightTitles (block_data self.now).titles → IsOk result }
     {
@@ -276,7 +279,8 @@ impl<'a> Block<'a> {
     /// Paints the titles of a place up to the end of a strip, the last one first, while there is room.
     fn paint_to_end(&self, buf: &mut Buffer, strip: Strip, place: Place) -> Mem<()>
         ensures ok { OnOk result
-            (Painted (titles_to_end (block_data self.now) strip.clip strip.row (titles_in (block_data self.now) place (block_data self.now).titles)) buf.old buf.new) }
+            (Painted (titles_to_end (block_data self.now) strip.clip strip.row
+            (titles_in (block_data self.now) place (block_data self.now).titles)) buf.old buf.new) }
         ensures kept { KeptOutside (covers strip.clip) buf.old buf.new }
         ensures light { AreLightTitles (block_data self.now).titles → IsOk result }
     {

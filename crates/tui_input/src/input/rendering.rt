@@ -97,7 +97,8 @@ fn put_graphemes(
     mut graphemes: Graphemes<'_>,
 ) -> Mem<u16>
     requires { at.x + room ≤ farthest_edge }
-    ensures ok { OnOk result (Painted (set_clusters at.x at.y room no_style (map (unwrap_or (option_copied mask.entry)) (graphemes_left graphemes.entry))) buf.old buf.new) }
+    ensures ok { OnOk result
+        (Painted (set_clusters at.x at.y room no_style (map (unwrap_or (option_copied mask.entry)) (graphemes_left graphemes.entry))) buf.old buf.new) }
     ensures end { IfOk result (λ x. x ≡ set_end at.x room (map (unwrap_or (option_copied mask.entry)) (graphemes_left graphemes.entry))) }
     ensures within { IfOk result (λ x. (at.x ≤ x) × (x ≤ at.x + room)) }
     ensures kept { KeptOutside (covers (cells_at at.x at.y room)) buf.old buf.new }

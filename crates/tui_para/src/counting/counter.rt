@@ -108,7 +108,8 @@ impl Counter {
     fn read_blank(&mut self, size: u16, width: u16, trim: bool)
         requires small { size ≤ width }
         requires fits { Fits width self.old }
-        ensures read { saturated_count self.new ≡ saturated_count (read_at width self.old size (read_in trim self.old size true) (line_end width trim self.old size true)) }
+        ensures read { saturated_count self.new
+            ≡ saturated_count (read_at width self.old size (read_in trim self.old size true) (line_end width trim self.old size true)) }
         ensures fits { Fits width self.new }
     {
         if trim && !self.begun {
@@ -125,7 +126,8 @@ impl Counter {
     fn read_letter(&mut self, size: u16, width: u16, trim: bool)
         requires small { size ≤ width }
         requires fits { Fits width self.old }
-        ensures read { saturated_count self.new ≡ saturated_count (read_at width self.old size (read_in trim self.old size false) (line_end width trim self.old size false)) }
+        ensures read { saturated_count self.new
+            ≡ saturated_count (read_at width self.old size (read_in trim self.old size false) (line_end width trim self.old size false)) }
         ensures fits { Fits width self.new }
     {
         if self.overflows(size, width) {
