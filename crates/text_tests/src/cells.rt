@@ -2,11 +2,14 @@
 
 use bitflags::Flags;
 use std::alloc::Global;
+use std::fmt::Debug;
 use std::test::Fail;
 use test_help::{attributes_at, shows, symbol_at};
 use tui_cells::{
-    Attributes, Buffer, Cell, Color, Mem, Modifier, ParseError, Position, Rect, Style,
+    Attributes, Buffer, Cell, Color, Mem, Modifier, Offset, ParseError, Position, Rect, Style,
 };
+use tui_layout::{Constraint, Segment};
+use tui_text::Span;
 
 #[test]
 fn areas(rt: HostRuntime) {
@@ -69,15 +72,34 @@ const COLORS: [(Color, &str); 19] = [
     (Color::Indexed(7), "Indexed(7)"),
 ];
 
-fn is_written(alloc: Global, color: Color, text: &str) -> Mem<bool> {
-    Ok(format!(in alloc; "{color:?}")?.as_str() == text)
+fn is_written<T: Debug>(alloc: Global, value: &T, text: &str) -> Mem<bool> {
+    Ok(format!(in alloc; "{value:?}")?.as_str() == text)
 }
 
 #[test]
 fn colors(rt: HostRuntime) -> Result<(), Fail> {
     for &(color, text) in &COLORS {
-        assert!(rt; is_written(rt.alloc(), color, text)?);
+        assert!(rt; is_written(rt.alloc(), &color, text)?);
     }
+    Ok(())
+}
+
+/// What Debug writes of a red span.
+const RED_SPAN: &str =
+    "Span { content: \"a\", style: Style { fg: Some(Red), bg: None, add_modifier: Modifier { bits: 4 }, sub_modifier: Modifier { bits: 0 } } }";
+
+#[test]
+fn values_are_written_field_by_field(rt: HostRuntime) -> Result<(), Fail> {
+    let alloc = rt.alloc();
+    let area = Rect::new(1, 2, 3, 4);
+    assert!(rt; is_written(alloc, &area, "Rect { x: 1, y: 2, width: 3, height: 4 }")?);
+    assert!(rt; is_written(alloc, &Position::new(1, 2), "Position { x: 1, y: 2 }")?);
+    assert!(rt; is_written(alloc, &Offset { x: -1, y: 2 }, "Offset { x: -1, y: 2 }")?);
+    assert!(rt; is_written(alloc, &Constraint::Ratio(1, 2), "Ratio(1, 2)")?);
+    let column = Segment { start: 1, width: 2 };
+    assert!(rt; is_written(alloc, &column, "Segment { start: 1, width: 2 }")?);
+    let style = Style::new().fg(Color::Red).add_modifier(Modifier::ITALIC);
+    assert!(rt; is_written(alloc, &Span::styled("a", style), RED_SPAN)?);
     Ok(())
 }
 

@@ -25,13 +25,15 @@ use crate::scene::DrawError;
 use crate::style::{Color, Modifier, ParseError, Style};
 use crate::symbols::MergeStrategy;
 use crate::terminal::{Cursor, Depth, Event, Keys, Modifiers, Motion, Output, Step, Trust};
-use crate::text::{Span, StyledGrapheme};
+use crate::text::{Lines, Span, StyledGrapheme};
 use crate::widgets::{
     BorderType, Borders, Clear, Dimmed, Fill, GaugeError, HighlightSpacing, ListDirection,
     ListState, Padding, RatatuiLogo, RenderDirection, ScrollDirection, Scrollbar,
     ScrollbarOrientation, ScrollbarState, Shadow, Size, SparklineBar, TableState, TitlePosition,
     WidthsError, Wrap, WrappedLine,
 };
+use tui_cells::{bar, border, line, scrollbar};
+use tui_para::{Counter, LineEnd, Mark};
 
 /// A value without texts and lists, which is copied. `==` answers true for equal values alone, and a clone is the value.
 pub trait Plain: Copy + Eq {
@@ -40,7 +42,7 @@ pub trait Plain: Copy + Eq {
     ghost cloned: { (a b : Self) → Self.is_clone a b → b ≡ a };
 }
 
-/// A value that lends texts, which is copied. A clone is the value.
+/// A value that lends texts, or that `==` does not compare, which is copied. A clone is the value.
 pub trait Copied: Copy {
     ghost cloned: { (a b : Self) → Self.is_clone a b → b ≡ a };
 }
@@ -286,6 +288,12 @@ impl Plain for Step {
     ghost cloned = { Prim.search rules };
 }
 
+impl Plain for Lines {
+    ghost same = { Prim.search rules };
+
+    ghost cloned = { Prim.search rules };
+}
+
 impl Plain for BorderType {
     ghost same = { Prim.search rules };
 
@@ -406,7 +414,23 @@ impl Plain for Wrap {
     ghost cloned = { Prim.search rules };
 }
 
+impl Plain for LineEnd {
+    ghost same = { Prim.search rules };
+
+    ghost cloned = { Prim.search rules };
+}
+
+impl Plain for Mark {
+    ghost same = { Prim.search rules };
+
+    ghost cloned = { Prim.search rules };
+}
+
 impl<'a> Copied for Column<'a> {
+    ghost cloned = { Prim.search rules };
+}
+
+impl Copied for Counter {
     ghost cloned = { Prim.search rules };
 }
 
@@ -419,6 +443,22 @@ impl<'a> Copied for Fill<'a> {
 }
 
 impl<'a> Copied for Scrollbar<'a> {
+    ghost cloned = { Prim.search rules };
+}
+
+impl<'a> Copied for bar::Set<'a> {
+    ghost cloned = { Prim.search rules };
+}
+
+impl<'a> Copied for border::Set<'a> {
+    ghost cloned = { Prim.search rules };
+}
+
+impl<'a> Copied for line::Set<'a> {
+    ghost cloned = { Prim.search rules };
+}
+
+impl<'a> Copied for scrollbar::Set<'a> {
     ghost cloned = { Prim.search rules };
 }
 

@@ -15,6 +15,7 @@ ghost use Rattle.std.specs.Prelude.{
   IfOk,
   IsErr,
   MatchResult,
+  OnErr,
   OnOk,
   Some,
   drop,
@@ -104,13 +105,16 @@ impl MemTerminal {
         })
     }
 
-    /// Adds a read, behind those that it was told before.
+    /// Adds a read, behind those that it was told before. At `NoMemory` nothing has changed.
     pub fn will_give(&mut self, bytes: &[u8]) -> Mem<()>
         requires { length bytes.now ≤ READ_ROOM }
-        ensures { OnOk result (self.new ≡ record self.old { left = self.old.left ++ bytes.now; lengths = self.old.lengths ++ length bytes.now ∷ [] }) }
+        ensures ok { OnOk result (self.new ≡ record self.old { left = self.old.left ++ bytes.now; lengths = self.old.lengths ++ length bytes.now ∷ [] }) }
+        ensures err { OnErr result (self.new ≡ self.old) }
     {
+        // The room for its length is reserved first, so that no read is added in part.
+        self.lengths.reserve(1)?;
         self.input.extend_from_slice(bytes)?;
-        self.lengths.push(bytes.len())?;
+        self.lengths.push(bytes.len()).unwrap();
         Ok(())
     }
 

@@ -1,9 +1,11 @@
-//! What holds of all sessions of a browser.
+//! What holds of all sessions of a browser, and what `==` and a clone tell.
 
+ghost use Rattle.std.specs.Prelude.{◌≡◌, true};
 ghost use Rattle.tui_files_lib.specs.Laws.{NamesAreShown};
+ghost use Rattle.tui_files_lib.specs.declared.folders.Kind.{Kind};
 
 use crate::files::FilesApp;
-use crate::folders::Folders;
+use crate::folders::{Folders, Kind};
 use tui_app_laws::waiting_law;
 use tui_tty::Output;
 
@@ -15,3 +17,9 @@ pub fn files_law<F: Folders + Drop>(output: Output)
 {
     waiting_law::<FilesApp<F>>(output);
 }
+
+/// Kinds of names are equal by `==` only where they are the same, and a clone is the value.
+pub fn kind_laws()
+    ensures kind { (a b : Kind) → ⟦<Kind as PartialEq>⟧.eq a b ≡ true → a ≡ b }
+    ensures kind_clone { (a b : Kind) → ⟦<Kind as Clone>⟧.is_clone a b → b ≡ a }
+{}

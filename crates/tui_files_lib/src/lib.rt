@@ -12,4 +12,4 @@ mod rows;
 
 pub use files::FilesApp;
 pub use folders::{Folders, HEAD_BYTES, Kind, Listing, MOST_NAMES, Name};
-pub use laws::files_law;
+pub use laws::{files_law, kind_laws};

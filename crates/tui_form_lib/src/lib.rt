@@ -13,5 +13,5 @@ mod value;
 
 pub use field::{Answer, FormField};
 pub use form::{Form, Outcome};
-pub use laws::form_law;
+pub use laws::{form_law, outcome_laws};
 pub use value::Value;

@@ -5,6 +5,7 @@ ghost use Rattle.std.specs.Prelude.{◌≡◌, true};
 
 use crate::broken::Broken;
 use crate::ending::Ending;
+use crate::json::JsonError;
 use crate::leftovers::Leftovers;
 use crate::numerals::Numerals;
 use crate::stop::Stop;
@@ -29,6 +30,12 @@ impl<R: Plain> Plain for Ending<R> {
     ghost same = { Prim.search (rules, R.Plain.same) };
 
     ghost cloned = { Prim.search (rules, R.Plain.cloned) };
+}
+
+impl Plain for JsonError {
+    ghost same = { Prim.search rules };
+
+    ghost cloned = { Prim.search rules };
 }
 
 impl Plain for Leftovers {

@@ -5,6 +5,7 @@
 mod answers;
 mod asking;
 mod environment;
+mod plain;
 mod settings;
 
 pub use answers::unless_memory;
