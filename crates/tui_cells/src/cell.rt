@@ -171,8 +171,7 @@ impl Cell {
         ensures err { OnErr result (self.new ≡ self.old) }
         ensures light { IsLight other.now.symbol → IsOk result }
     {
-        self.content = other.content.duplicate()?;
-        Ok(())
+        self.content.copy_from(&other.content)
     }
 
     /// Another cell that shows the same.

@@ -205,6 +205,26 @@ impl Content {
         }
     }
 
+    /// Shows what another content shows, in its place where both are short. At NoMemory the content is as before.
+    #[inline]
+    pub(crate) fn copy_from(&mut self, other: &Content) -> Mem<()>
+        ensures ok { OnOk result (content_look self.new ≡ content_look other.now) }
+        ensures err { OnErr result (self.new ≡ self.old) }
+        ensures light { IsLight (content_look other.now).symbol → IsOk result }
+    {
+        match (self, other) {
+            (Content::Short(attributes, place), Content::Short(others, symbol)) => {
+                *attributes = *others;
+                *place = *symbol;
+                Ok(())
+            }
+            (content, _) => {
+                *content = other.duplicate()?;
+                Ok(())
+            }
+        }
+    }
+
     /// The same content; a long symbol is shared. A text of at most 8 bytes takes no memory.
     #[inline]
     pub(crate) fn duplicate(&self) -> Mem<Content>

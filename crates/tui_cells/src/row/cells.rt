@@ -80,7 +80,8 @@ pub(crate) fn rest_end(cells: &[Cell]) -> usize
     cells.len()
 }
 
-/// Whether two rows show the same.
+/// Whether two rows show the same. Never inlined, so that its loop keeps what it counts in registers.
+#[inline(never)]
 pub(crate) fn are_same(one: &[Cell], other: &[Cell]) -> bool
     ensures { IsTrue result ↔ (one.now ≡ other.now) }
 {
