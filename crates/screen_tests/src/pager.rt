@@ -3,8 +3,8 @@
 use std::alloc::Global;
 use std::test::Fail;
 use test_help::shows;
-use tui_cells::Mem;
-use tui_pager_lib::{Entry, Key, Pager, PagerError, PagerState, pager_laws};
+use tui_cells::{Buffer, Mem};
+use tui_pager_lib::{Entry, Key, Pager, PagerError, PagerSize, PagerState, PagerView, pager_laws};
 
 fn entries(alloc: Global) -> Mem<Vec<Entry<'static>>> {
     let mut entries = Vec::new(alloc);
@@ -37,16 +37,17 @@ const LAST: PagerState = PagerState {
     line: 0,
 };
 
-/// Whether the screen is that of the last of three entries, as a refused size leaves it too.
-fn shows_the_last(alloc: Global, pager: &Pager<'_>) -> Mem<bool> {
-    let rows = "\
+const LAST_ROWS: &str = "\
 ┌Ent┐┌────────┐
 │ b ││y       █
 │>c ││        █
 └───┘└────────┘
 3/3            
 ";
-    Ok(pager.state() == LAST && shows(alloc, pager.screen(), rows)?)
+
+/// Whether the screen is that of the last of three entries, as a refused size leaves it too.
+fn shows_the_last(alloc: Global, pager: &Pager<'_>) -> Mem<bool> {
+    Ok(pager.state() == LAST && shows(alloc, pager.screen(), LAST_ROWS)?)
 }
 
 #[test]
@@ -60,5 +61,26 @@ fn keys_move_and_a_refused_size_changes_nothing(rt: HostRuntime) -> Result<(), F
     assert!(&rt; shows_the_last(alloc, &pager)?);
     pager.resize(12, 7)?;
     assert!(&rt; pager.state() == LAST);
+    Ok(())
+}
+
+#[test]
+fn a_view_draws_into_the_callers_buffer(rt: HostRuntime) -> Result<(), Fail> {
+    let alloc = rt.alloc();
+    let narrow = PagerSize {
+        width: 12,
+        height: 5,
+    };
+    let mut view = PagerView::with_size(alloc, narrow, entries(alloc)?)?;
+    view.key(Key::Last)?;
+    view.take_size(PagerSize {
+        width: 15,
+        height: 5,
+    })?;
+    assert!(&rt; view.state() == LAST);
+    assert!(&rt; view.size().width == 15);
+    let mut buf = Buffer::empty(alloc, view.area())?;
+    view.draw(alloc, &mut buf)?;
+    assert!(&rt; shows(alloc, &buf, LAST_ROWS)?);
     Ok(())
 }

@@ -1,3 +1,4 @@
+pub mod Change
 pub mod Contents
 pub mod Entry
 pub mod Key

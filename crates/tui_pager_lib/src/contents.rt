@@ -1,6 +1,8 @@
 //! What a pager keeps of its entries.
 
 ghost use Rattle.std.specs.Prelude.{◌≡◌, ◌-◌, IfOk, OnOk, length, map};
+ghost use Rattle.tui_cells.specs.Buffer.{IsFilled};
+ghost use Rattle.tui_cells.specs.Cell.{blank};
 ghost use Rattle.tui_lists.specs.ListItem.{heights_of};
 ghost use Rattle.tui_pager_lib.specs.Entry.{entry_data};
 ghost use Rattle.tui_pager_lib.specs.Laws.{SelectsEntry};
@@ -10,7 +12,7 @@ ghost use Rattle.tui_pager_lib.specs.Screen.{IsBlankUnder, body_of, page_area, p
 ghost use Rattle.tui_pager_lib.specs.Steps.{settled};
 
 use crate::body::selected_body;
-use crate::drawing::{draw_bar, draw_body, draw_place, draw_titles, wipe_page};
+use crate::drawing::{draw_bar, draw_body, draw_place, draw_titles};
 use crate::entry::Entry;
 use crate::making::{heights, title_items, titles_list};
 use crate::size::PagerSize;
@@ -115,7 +117,7 @@ impl<'a> Contents<'a> {
         follow(*self.entries.allocator(), &self.heights, rows, state)
     }
 
-    /// The screen of a state, by itself, whatever the buffer held. `places` are where the lines of the selected body begin.
+    /// Draws the screen of a state on a blank one of its size. `places` are where the lines of the selected body begin.
     pub(crate) fn draw(
         &self,
         alloc: Global,
@@ -126,10 +128,11 @@ impl<'a> Contents<'a> {
     ) -> Mem<()>
         requires place { SelectsEntry (length self.now) state.selected }
         requires places { HavePlaces self.now size.width state.selected places.now }
-        ensures { OnOk result (IsBlankUnder (pager_layers (record { width = size.width; height = size.height; entries = self.now; state = state }))
+        requires page { IsFilled (page_area size.width size.height) blank screen.old }
+        ensures drawn { OnOk result (IsBlankUnder (pager_layers (record { width = size.width; height = size.height; entries = self.now; state = state }))
             (page_area size.width size.height) screen.new) }
+        ensures area { screen.new.area ≡ screen.old.area }
     {
-        wipe_page(alloc, size, screen)?;
         draw_titles(alloc, &self.titles, size, state, screen)?;
         let body = self.body(state.selected);
         draw_body(alloc, body, places, state.line, size, screen)?;

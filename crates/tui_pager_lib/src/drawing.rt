@@ -45,7 +45,8 @@ pub(crate) fn draw_titles(
     buf: &mut Buffer,
 ) -> Mem<()>
     requires { buf.old.area ≡ page_area size.width size.height }
-    ensures { OnOk result (Painted (list_layers (list_data titles.now) (list_state state) (titles_area size.width size.height)) buf.old buf.new) }
+    ensures drawn { OnOk result (Painted (list_layers (list_data titles.now) (list_state state) (titles_area size.width size.height)) buf.old buf.new) }
+    ensures area { buf.new.area ≡ buf.old.area }
 {
     let area = Rect {
         x: 0,
@@ -62,7 +63,8 @@ pub(crate) fn draw_titles(
 /// A body from one of its lines on, at the right.
 fn draw_lines(alloc: Global, body: &str, line: u16, size: PagerSize, buf: &mut Buffer) -> Mem<()>
     requires { buf.old.area ≡ page_area size.width size.height }
-    ensures { OnOk result (Painted (paragraph_layers (body_paragraph body.now line) (body_area size.width size.height)) buf.old buf.new) }
+    ensures drawn { OnOk result (Painted (paragraph_layers (body_paragraph body.now line) (body_area size.width size.height)) buf.old buf.new) }
+    ensures area { buf.new.area ≡ buf.old.area }
 {
     let area = Rect {
         x: size.width / 3,
@@ -84,7 +86,8 @@ pub(crate) fn draw_body(
 ) -> Mem<()>
     requires area { buf.old.area ≡ page_area size.width size.height }
     requires places { AreWithin size.width body.now places.now }
-    ensures { OnOk result (Painted (paragraph_layers (body_paragraph body.now line) (body_area size.width size.height)) buf.old buf.new) }
+    ensures drawn { OnOk result (Painted (paragraph_layers (body_paragraph body.now line) (body_area size.width size.height)) buf.old buf.new) }
+    ensures area { buf.new.area ≡ buf.old.area }
 {
     let at = usize::from(line);
     if at < places.len() {
@@ -111,7 +114,8 @@ pub(crate) fn draw_bar(
     buf: &mut Buffer,
 ) -> Mem<()>
     requires { buf.old.area ≡ page_area size.width size.height }
-    ensures { OnOk result (Painted (scrollbar_layers bar (bar_state (size.height - 3) most line) (bar_area size.width size.height)) buf.old buf.new) }
+    ensures drawn { OnOk result (Painted (scrollbar_layers bar (bar_state (size.height - 3) most line) (bar_area size.width size.height)) buf.old buf.new) }
+    ensures area { buf.new.area ≡ buf.old.area }
 {
     let rows = size.height - 3;
     let area = Rect {
@@ -136,8 +140,9 @@ pub(crate) fn draw_place(
 ) -> Mem<()>
     requires place { SelectsEntry count selected }
     requires area { buf.old.area ≡ page_area size.width size.height }
-    ensures { OnOk result (Painted
+    ensures drawn { OnOk result (Painted
         (paragraph_layers (paragraph_of (raw_text (last_row_text selected count))) (last_row size.width size.height)) buf.old buf.new) }
+    ensures area { buf.new.area ≡ buf.old.area }
 {
     let area = Rect {
         x: 0,
@@ -162,18 +167,25 @@ fn entry_number(selected: Option<usize>) -> usize
     }
 }
 
+/// The area of a screen of a size, at the origin.
+pub(crate) fn page_of(size: PagerSize) -> Rect
+    ensures { result ≡ page_area size.width size.height }
+{
+    Rect {
+        x: 0,
+        y: 0,
+        width: size.width,
+        height: size.height,
+    }
+}
+
 /// Makes a screen a blank one of this size, at the origin. One that has the size keeps its cells and wants no memory; else it is
 /// made anew.
 #[tactic(auto, using(crate::proofs::Placing::wiped))]
 pub(crate) fn wipe_page(alloc: Global, size: PagerSize, screen: &mut Buffer) -> Mem<()>
     ensures { OnOk result (IsFilled (page_area size.width size.height) blank screen.new) }
 {
-    let page = Rect {
-        x: 0,
-        y: 0,
-        width: size.width,
-        height: size.height,
-    };
+    let page = page_of(size);
     if screen.area() == page {
         screen.reset(page);
         return Ok(());

@@ -2,6 +2,7 @@
 #![tactic(auto)]
 
 mod body;
+mod change;
 mod contents;
 mod drawing;
 pub mod entry;
@@ -14,6 +15,7 @@ mod shown;
 pub mod size;
 pub mod state;
 mod steps;
+pub mod view;
 
 pub use entry::Entry;
 pub use key::Key;
@@ -22,3 +24,4 @@ pub use pager::Pager;
 pub use pager_error::PagerError;
 pub use size::PagerSize;
 pub use state::PagerState;
+pub use view::PagerView;

@@ -1,20 +1,23 @@
 //! Pagers.
 
 ghost use Rattle.std.specs.Prelude.{◌≡◌, ◌↔◌, ◌⊎◌, ◌<◌, Err, IfOk, OnErr, OnOk, map};
+ghost use Rattle.tui_pager_lib.specs.Change.{IsChange, changed};
 ghost use Rattle.tui_pager_lib.specs.Entry.{entry_data};
 ghost use Rattle.tui_pager_lib.specs.Laws.{IsSoundPager, SeesSelected, after_call, pager_of, press, resize};
 ghost use Rattle.tui_pager_lib.specs.Screen.{IsBlankUnder, page_area, pager_layers};
 
-use crate::contents::Contents;
+use crate::change::Change;
+use crate::drawing::page_of;
 use crate::entry::Entry;
 use crate::key::Key;
 use crate::pager_error::PagerError;
-use crate::shown::{Shown, started};
 use crate::size::PagerSize;
 use crate::state::PagerState;
+use crate::view::PagerView;
 use std::alloc::Global;
 use std::marker::Model;
-use tui_cells::{Buffer, Mem};
+use std::mem;
+use tui_cells::{Buffer, Mem, Rect};
 
 /// Entries on a screen: at the left the list of their titles, of which one is selected, at the right its body, in lines of the
 /// width that there is, with a bar, and in the last row the selected place and how many entries there are. Keys move the selection
@@ -23,31 +26,31 @@ use tui_cells::{Buffer, Mem};
 /// A pager keeps two screens: the one that is shown, and a spare one, in whose cells the next one is drawn. The first key, and the
 /// first one behind another size, make the spare one.
 pub struct Pager<'a> {
-    alloc: Global,
-    contents: Contents<'a>,
-    shown: Shown,
+    view: PagerView<'a>,
+    screen: Buffer,
+    spare: Buffer,
 }
 
 // Written out, so that a crate above proves nothing of what it holds to let it go.
 impl<'a> Drop for Pager<'a> {
     fn drop(self) {
         let Pager {
-            alloc,
-            contents,
-            shown,
+            view,
+            screen,
+            spare,
         } = self;
     }
 }
 
 impl<'a> Model for Pager<'a> {
     ghost use Rattle.tui_pager_lib.specs.Pager.{PagerData};
-    ghost use Rattle.tui_pager_lib.specs.Shown.{IsUpToDate, pager_data};
+    ghost use Rattle.tui_pager_lib.specs.Screen.{IsBlankUnder, page_area, pager_layers};
 
     ghost Value = { PagerData };
 
-    ghost view = { λ p. pager_data p.contents p.shown };
+    ghost view = { λ p. p.view };
 
-    ghost invariant = { λ p. IsUpToDate p.contents p.shown };
+    ghost invariant = { λ p. IsBlankUnder (pager_layers p.view) (page_area p.view.width p.view.height) p.screen };
 }
 
 impl<'a> Pager<'a> {
@@ -75,12 +78,14 @@ impl<'a> Pager<'a> {
     pub fn with_size(alloc: Global, size: PagerSize, entries: Vec<Entry<'a>>) -> Mem<Pager<'a>>
         ensures { IfOk result (λ pager. pager ≡ pager_of (map entry_data entries.entry.items) size.width size.height) }
     {
-        let contents = Contents::new(alloc, entries)?;
-        let shown = started(alloc, &contents, size)?;
+        let view = PagerView::with_size(alloc, size, entries)?;
+        let mut screen = Buffer::empty(alloc, page_of(size))?;
+        view.draw(alloc, &mut screen)?;
+        let spare = Buffer::empty(alloc, Rect::ZERO)?;
         Ok(Pager {
-            alloc,
-            contents,
-            shown,
+            view,
+            screen,
+            spare,
         })
     }
 
@@ -89,7 +94,8 @@ impl<'a> Pager<'a> {
         ensures ok { OnOk result (self.new ≡ after_call self.old (press key)) }
         ensures err { OnErr result (self.new ≡ self.old) }
     {
-        self.shown.press_key(self.alloc, &self.contents, key)
+        let change = self.view.after_key(key)?;
+        self.show(change)
     }
 
     /// Takes another size. The entry stays selected; the line is cut where the body now ends earlier. `TooSmall` comes exactly where
@@ -110,8 +116,8 @@ impl<'a> Pager<'a> {
         ensures ok { OnOk result (self.new ≡ after_call self.old (resize size.width size.height)) }
         ensures err { OnErr result (self.new ≡ self.old) }
     {
-        let alloc = self.alloc;
-        self.shown.take_size(alloc, &self.contents, size)
+        let change = self.view.at_size(size)?;
+        self.show(change)
     }
 
     /// What is selected, and what is shown of the list and of the body. A selected entry whose title has at most as many lines as the
@@ -121,13 +127,25 @@ impl<'a> Pager<'a> {
         ensures sound { IsSoundPager self.now }
         ensures seen { SeesSelected self.now }
     {
-        self.shown.state
+        self.view.state()
     }
 
     /// The screen, at the origin: each cell is the blank one under the strokes of the list, of the body, of its bar and of the place.
     pub fn screen(&self) -> &Buffer
         ensures { IsBlankUnder (pager_layers self.now) (page_area self.now.width self.now.height) result.now }
     {
-        &self.shown.screen
+        &self.screen
+    }
+
+    /// Takes a change, and shows what is behind it. At `NoMemory` the size, the state and the screen are as before.
+    fn show(&mut self, change: Change) -> Mem<()>
+        requires { IsChange self.old change }
+        ensures ok { OnOk result (self.new ≡ changed self.old change) }
+        ensures err { OnErr result (self.new ≡ self.old) }
+    {
+        self.view.draw_change(&change, &mut self.spare)?;
+        self.view.take(change);
+        mem::swap(&mut self.screen, &mut self.spare);
+        Ok(())
     }
 }

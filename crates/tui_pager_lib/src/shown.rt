@@ -1,31 +1,29 @@
-//! What a pager shows, and the steps to what it shows next.
+//! What is shown of the entries, and the steps to what is shown next.
 
-ghost use Rattle.std.specs.Prelude.{◌≡◌, ◌==◌, if◌then◌else◌, IfOk, None, OnErr, OnOk, Some, true};
-ghost use Rattle.tui_pager_lib.specs.Laws.{SelectsEntry, IsSoundPager, after_call, pager_of, press, resize};
-ghost use Rattle.tui_pager_lib.specs.Lines.{HavePlaces};
-ghost use Rattle.tui_pager_lib.specs.Pager.{PagerData};
-ghost use Rattle.tui_pager_lib.specs.Screen.{body_lines, sizes_of};
-ghost use Rattle.tui_pager_lib.specs.Shown.{IsKept, IsUpToDate, pager_data};
+ghost use Rattle.std.specs.Prelude.{◌≡◌, ◌==◌, if◌then◌else◌, IfOk, None, OnOk, Some, length, true};
+ghost use Rattle.tui_pager_lib.specs.Change.{BringsPlaces, IsChange, changed, places_after};
+ghost use Rattle.tui_pager_lib.specs.Laws.{SelectsEntry, after_call, pager_of, press, resize};
+ghost use Rattle.tui_pager_lib.specs.Screen.{IsBlankUnder, body_lines, page_area, pager_layers, sizes_of};
+ghost use Rattle.tui_pager_lib.specs.Shown.{IsUpToDate, pager_data};
 ghost use Rattle.tui_pager_lib.specs.Steps.{lines_at, pressed, resized};
+ghost use Rattle.tui_cells.specs.Buffer.{IsFilled};
+ghost use Rattle.tui_cells.specs.Cell.{blank};
 
+use crate::change::Change;
 use crate::contents::Contents;
 use crate::key::Key;
 use crate::size::PagerSize;
 use crate::state::PagerState;
 use crate::steps::{greatest_line, moved};
 use std::alloc::Global;
-use std::mem;
-use tui_cells::{Buffer, Mem, Rect};
+use tui_cells::{Buffer, Mem};
 
-/// The size of the screen, the state, where the lines of the selected body begin, in bytes, and the screen. Beside it stands a spare
-/// one of any size: what is shown next is drawn there, and the two change places.
+/// The size, the state, and where the lines of the selected body begin, in bytes.
 #[derive(Drop)]
 pub(crate) struct Shown {
     pub(crate) size: PagerSize,
     pub(crate) state: PagerState,
     pub(crate) places: Vec<usize>,
-    pub(crate) screen: Buffer,
-    spare: Buffer,
 }
 
 /// The first of `count` entries, if there is one.
@@ -49,18 +47,11 @@ pub(crate) fn started(alloc: Global, contents: &Contents<'_>, size: PagerSize) -
     };
     let state = contents.follow(size.height - 3, first);
     let places = contents.places(alloc, size, state.selected)?;
-    // The first screen is drawn as every other one, on the spare one, so that a pager begins with two that have no cells.
-    let screen = Buffer::empty(alloc, Rect::ZERO)?;
-    let spare = Buffer::empty(alloc, Rect::ZERO)?;
-    let mut shown = Shown {
+    Ok(Shown {
         size,
         state,
         places,
-        screen,
-        spare,
-    };
-    shown.redraw(alloc, contents, size, state)?;
-    Ok(shown)
+    })
 }
 
 /// A state on a screen of another size, where the selected body has `lines` lines: the line is cut where the body ends earlier.
@@ -75,44 +66,82 @@ fn cut(contents: &Contents<'_>, size: PagerSize, lines: usize, state: PagerState
 }
 
 impl Shown {
-    /// Takes a key. At `NoMemory` all that is shown is as before.
-    pub(crate) fn press_key(&mut self, alloc: Global, contents: &Contents<'_>, key: Key) -> Mem<()>
-        requires { IsUpToDate contents.now self.old }
-        ensures up_to_date { OnOk result (IsUpToDate contents.now self.new) }
-        ensures is { OnOk result (pager_data contents.now self.new ≡ after_call (pager_data contents.now self.old) (press key)) }
-        ensures err { OnErr result (IsKept self.old self.new) }
+    /// What a key changes.
+    pub(crate) fn after_key(&self, alloc: Global, contents: &Contents<'_>, key: Key) -> Mem<Change>
+        requires { IsUpToDate contents.now self.now }
+        ensures change { IfOk result (IsChange (pager_data contents.now self.now)) }
+        ensures is { IfOk result (λ change. changed (pager_data contents.now self.now) change
+            ≡ after_call (pager_data contents.now self.now) (press key)) }
     {
-        let state = self.after_key(contents, key);
-        if is_same(state.selected, self.state.selected) {
-            return self.redraw(alloc, contents, self.size, state);
-        }
-        let places = contents.places(alloc, self.size, state.selected)?;
-        self.show(alloc, contents, self.size, state, places)
+        let state = self.pressed(contents, key);
+        let places = self.new_places(alloc, contents, self.size, state.selected)?;
+        Ok(Change {
+            size: self.size,
+            state,
+            places,
+        })
     }
 
-    /// Takes another size. At `NoMemory` all that is shown is as before.
-    pub(crate) fn take_size(
-        &mut self,
+    /// What another size changes.
+    pub(crate) fn at_size(
+        &self,
         alloc: Global,
         contents: &Contents<'_>,
         size: PagerSize,
-    ) -> Mem<()>
-        requires { IsUpToDate contents.now self.old }
-        ensures up_to_date { OnOk result (IsUpToDate contents.now self.new) }
-        ensures is { OnOk result (pager_data contents.now self.new ≡ after_call (pager_data contents.now self.old) (resize size.width size.height)) }
-        ensures err { OnErr result (IsKept self.old self.new) }
+    ) -> Mem<Change>
+        requires { IsUpToDate contents.now self.now }
+        ensures change { IfOk result (IsChange (pager_data contents.now self.now)) }
+        ensures is { IfOk result (λ change. changed (pager_data contents.now self.now) change
+            ≡ after_call (pager_data contents.now self.now) (resize size.width size.height)) }
     {
-        if size.width == self.size.width {
-            let state = cut(contents, size, self.places.len(), self.state);
-            return self.redraw(alloc, contents, size, state);
+        let places = self.new_places(alloc, contents, size, self.state.selected)?;
+        let lines = self.places_after(&places).len();
+        let state = cut(contents, size, lines, self.state);
+        Ok(Change {
+            size,
+            state,
+            places,
+        })
+    }
+
+    /// Draws what is shown behind a change, on a blank screen of its size.
+    pub(crate) fn draw(
+        &self,
+        alloc: Global,
+        contents: &Contents<'_>,
+        change: &Change,
+        screen: &mut Buffer,
+    ) -> Mem<()>
+        requires up_to_date { IsUpToDate contents.now self.now }
+        requires change { IsChange (pager_data contents.now self.now) change.now }
+        requires page { IsFilled (page_area change.now.size.width change.now.size.height) blank screen.old }
+        ensures { OnOk result (IsBlankUnder (pager_layers (changed (pager_data contents.now self.now) change.now))
+            (page_area change.now.size.width change.now.size.height) screen.new) }
+    {
+        let places = self.places_after(&change.places);
+        contents.draw(alloc, change.size, change.state, places, screen)
+    }
+
+    /// Takes a change.
+    pub(crate) fn take(&mut self, change: Change)
+        ensures size { self.new.size ≡ change.size }
+        ensures state { self.new.state ≡ change.state }
+        ensures places { self.new.places.items ≡ places_after self.old.places.items change.places }
+    {
+        let Change {
+            size,
+            state,
+            places,
+        } = change;
+        self.size = size;
+        self.state = state;
+        if let Some(places) = places {
+            self.places = places;
         }
-        let places = contents.places(alloc, size, self.state.selected)?;
-        let state = cut(contents, size, places.len(), self.state);
-        self.show(alloc, contents, size, state, places)
     }
 
     /// The state after a key.
-    fn after_key(&self, contents: &Contents<'_>, key: Key) -> PagerState
+    fn pressed(&self, contents: &Contents<'_>, key: Key) -> PagerState
         requires { IsUpToDate contents.now self.now }
         ensures is { result ≡ pressed (sizes_of contents.now self.now.size.width self.now.size.height) key self.now.state }
     {
@@ -123,52 +152,32 @@ impl Shown {
         contents.follow(rows, next)
     }
 
-    /// Shows a state of the same selected body on a screen of the same width. The places are kept. At `NoMemory` all that is shown is
-    /// as before.
-    fn redraw(
-        &mut self,
+    /// Where the lines of a selected body begin on a screen of a size; None where those that are kept stay, since the width and the
+    /// selected entry are the same.
+    fn new_places(
+        &self,
         alloc: Global,
         contents: &Contents<'_>,
         size: PagerSize,
-        state: PagerState,
-    ) -> Mem<()>
-        requires sound { IsSoundPager (record { width = size.width; height = size.height; entries = contents.now; state = state }) }
-        requires places { HavePlaces contents.now size.width state.selected self.old.places.items }
-        ensures up_to_date { OnOk result (IsUpToDate contents.now self.new) }
-        ensures is { OnOk result (pager_data contents.now self.new
-            ≡ record { width = size.width; height = size.height; entries = contents.now; state = state }) }
-        ensures err { OnErr result (IsKept self.old self.new) }
+        selected: Option<usize>,
+    ) -> Mem<Option<Vec<usize>>>
+        requires { SelectsEntry (length contents.now) selected }
+        ensures { IfOk result (BringsPlaces (pager_data contents.now self.now) size.width selected) }
     {
-        contents.draw(alloc, size, state, &self.places, &mut self.spare)?;
-        self.size = size;
-        self.state = state;
-        mem::swap(&mut self.screen, &mut self.spare);
-        Ok(())
+        if size.width == self.size.width && is_same(selected, self.state.selected) {
+            return Ok(None);
+        }
+        Ok(Some(contents.places(alloc, size, selected)?))
     }
 
-    /// Shows a state on a screen of a size. `places` are where the lines of the selected body begin. At `NoMemory` all that is shown is
-    /// as before.
-    fn show(
-        &mut self,
-        alloc: Global,
-        contents: &Contents<'_>,
-        size: PagerSize,
-        state: PagerState,
-        places: Vec<usize>,
-    ) -> Mem<()>
-        requires sound { IsSoundPager (record { width = size.width; height = size.height; entries = contents.now; state = state }) }
-        requires places { HavePlaces contents.now size.width state.selected places.items }
-        ensures up_to_date { OnOk result (IsUpToDate contents.now self.new) }
-        ensures is { OnOk result (pager_data contents.now self.new
-            ≡ record { width = size.width; height = size.height; entries = contents.now; state = state }) }
-        ensures err { OnErr result (IsKept self.old self.new) }
+    /// New places, or those that are kept where there are none.
+    fn places_after<'s>(&'s self, places: &'s Option<Vec<usize>>) -> &'s [usize]
+        ensures { result.now ≡ places_after self.now.places.items places.now }
     {
-        contents.draw(alloc, size, state, &places, &mut self.spare)?;
-        self.size = size;
-        self.state = state;
-        self.places = places;
-        mem::swap(&mut self.screen, &mut self.spare);
-        Ok(())
+        match places {
+            Some(places) => places,
+            None => &self.places,
+        }
     }
 }
 

@@ -1,4 +1,4 @@
-use Rattle.std.proofs.Common.{◌∙◌, ap}
+use Rattle.std.proofs.Common.{ap}
 use Rattle.tui_pager_lib.specs.Pager.{PagerData}
 use Rattle.tui_pager_lib.specs.declared.state.PagerState.{PagerState}
 use Rattle.tui_pager_lib.proofs.Sound.{start_sound}
@@ -11,15 +11,18 @@ places-requires c =
     let eq = start_is entries c.args.size.width c.args.size.height _ _ _ c.len-count.ensures c.first_place-selected.ensures c.follow-state.ensures in
     place_of entries c.args.size.width c.args.size.height _ (sound_as entries c.args.size.width c.args.size.height _ _ eq (start_sound entries c.args.size.width c.args.size.height))
 
-pub redraw-requires-clause-sound : goal.redraw-requires-clause-sound
-redraw-requires-clause-sound c =
+pub returns-clause-up_to_date : goal.returns-clause-up_to_date
+returns-clause-up_to_date c =
     let entries = c.args.contents.now in
     let eq = start_is entries c.args.size.width c.args.size.height _ _ _ c.len-count.ensures c.first_place-selected.ensures c.follow-state.ensures in
-    sound_as entries c.args.size.width c.args.size.height _ _ eq (start_sound entries c.args.size.width c.args.size.height)
+    record {
+      sound = sound_as entries c.args.size.width c.args.size.height _ _ eq (start_sound entries c.args.size.width c.args.size.height);
+      places = c.in_ok-places.ensures;
+    }
 
 pub returns-clause-is : goal.returns-clause-is
 returns-clause-is c =
     let entries = c.args.contents.now in
     let eq = start_is entries c.args.size.width c.args.size.height _ _ _ c.len-count.ensures c.first_place-selected.ensures c.follow-state.ensures in
     let of : PagerState → PagerData = λ s. record { width = c.args.size.width; height = c.args.size.height; entries = entries; state = s } in
-    c.in_ok-redraw.ensures.is ∙ ap of eq
+    ap of eq

@@ -6,24 +6,24 @@ use Rattle.tui_pager_lib.proofs.Stepping.{most_is}
 use Rattle.tui_pager_lib.proofs.contents.Contents.draw.Goals as goal
 
 pub draw_titles-requires : goal.draw_titles-requires
-draw_titles-requires c = c.in_ok-wipe_page.ensures.area_is
+draw_titles-requires c = c.requires.page.area_is
 
 pub draw_body-requires-clause-area : goal.draw_body-requires-clause-area
-draw_body-requires-clause-area c = c.in_ok-draw_titles.ensures.area ∙ c.in_ok-wipe_page.ensures.area_is
+draw_body-requires-clause-area c = c.in_ok-draw_titles.ensures.area ∙ c.requires.page.area_is
 
 pub draw_body-requires-clause-places : goal.draw_body-requires-clause-places
 draw_body-requires-clause-places c =
     within_of c.args.self.now c.args.size.width c.args.state.selected _ c.args.places.now c.body-body.ensures c.requires.places
 
 pub draw_bar-requires : goal.draw_bar-requires
-draw_bar-requires c = c.in_ok-draw_body.ensures.area ∙ (c.in_ok-draw_titles.ensures.area ∙ c.in_ok-wipe_page.ensures.area_is)
+draw_bar-requires c = c.in_ok-draw_body.ensures.area ∙ (c.in_ok-draw_titles.ensures.area ∙ c.requires.page.area_is)
 
 pub draw_place-requires-clause-area : goal.draw_place-requires-clause-area
 draw_place-requires-clause-area c =
-    c.in_ok-draw_bar.ensures.area ∙ (c.in_ok-draw_body.ensures.area ∙ (c.in_ok-draw_titles.ensures.area ∙ c.in_ok-wipe_page.ensures.area_is))
+    c.in_ok-draw_bar.ensures.area ∙ (c.in_ok-draw_body.ensures.area ∙ (c.in_ok-draw_titles.ensures.area ∙ c.requires.page.area_is))
 
-pub returns : goal.returns
-returns c =
+pub returns-clause-drawn : goal.returns-clause-drawn
+returns-clause-drawn c =
     let entries = c.args.self.now in
     let size = c.args.size in
     let selected = c.args.state.selected in
@@ -31,5 +31,5 @@ returns c =
     let most = most_is entries size.width size.height selected _ _ c.greatest_line-most.ensures count in
     pager_drawn (record { width = size.width; height = size.height; entries = entries; state = c.args.state })
     _ _ _ _ _ _ _ _ _ _ (c.self.invariant.list_is ∙ ap titles_list c.self.view_is) c.body-body.ensures most c.len.ensures refl
-    c.in_ok-wipe_page.ensures c.in_ok-draw_titles.ensures c.in_ok-draw_body.ensures c.in_ok-draw_bar.ensures c.in_ok-draw_place.ensures
+    c.requires.page c.in_ok-draw_titles.ensures.drawn c.in_ok-draw_body.ensures.drawn c.in_ok-draw_bar.ensures.drawn c.in_ok-draw_place.ensures.drawn
     c.height-height.ensures.shape
