@@ -1,26 +1,25 @@
 //! The app.
 
-ghost use Rattle.std.specs.Prelude.{◌≡◌, ◌≤◌, IfOk, OnOk, map, replicate};
+ghost use Rattle.std.specs.Prelude.{◌≡◌, IfOk, OnOk, map, replicate};
 ghost use Rattle.tui_browse_lib.specs.Asked.{calls_for, flow_of, size_calls};
 ghost use Rattle.tui_browse_lib.specs.Paging.{PagerDraws, first_of};
 ghost use Rattle.tui_cells.specs.Buffer.{IsFilled};
 ghost use Rattle.tui_cells.specs.Cell.{blank};
 ghost use Rattle.tui_pager_lib.specs.Entry.{entry_data};
 ghost use Rattle.tui_pager_lib.specs.Laws.{after_calls, press};
-ghost use Rattle.tui_pager_lib.specs.Screen.{page_area};
 
 use crate::asking::{Asked, asked_by};
 use std::alloc::Global;
 use tui_app::{App, Flow, say_too_small};
-use tui_cells::{Buffer, Mem, Position, Rect};
+use tui_cells::{Buffer, Mem, Position};
 use tui_keys::Event;
-use tui_pager_lib::{Entry, Key, Pager, PagerSize};
+use tui_pager_lib::{Entry, Key, PagerSize, PagerView};
 
 /// A pager that events move. Where a screen is too small for a pager that is said on it; what is selected and shown stays, and the next size that has
 /// room shows it again.
 #[derive(Drop)]
 pub struct PagerApp<'a> {
-    pager: Pager<'a>,
+    pager: PagerView<'a>,
 }
 
 impl<'a> PagerApp<'a> {
@@ -40,12 +39,12 @@ fn first_pager<'a>(
     width: u16,
     height: u16,
     entries: Vec<Entry<'a>>,
-) -> Mem<Pager<'a>>
+) -> Mem<PagerView<'a>>
     ensures { IfOk result (λ pager. pager ≡ first_of (map entry_data entries.entry.items) width height) }
 {
     match PagerSize::new(width, height) {
-        Some(size) => Pager::with_size(alloc, size, entries),
-        None => Pager::with_size(
+        Some(size) => PagerView::with_size(alloc, size, entries),
+        None => PagerView::with_size(
             alloc,
             PagerSize {
                 width: 12,
@@ -67,8 +66,8 @@ impl<'a> App for PagerApp<'a> {
         Ok(flow_of(asked))
     }
 
-    fn draw(&mut self, _alloc: Global, buf: &mut Buffer) -> Mem<Option<Position>> {
-        draw_pager(&self.pager, buf)?;
+    fn draw(&mut self, alloc: Global, buf: &mut Buffer) -> Mem<Option<Position>> {
+        draw_pager(alloc, &self.pager, buf)?;
         Ok(None)
     }
 }
@@ -84,13 +83,13 @@ fn flow_of(asked: Asked) -> Flow
 }
 
 /// Makes the calls of a pager that are asked.
-fn make_calls(pager: &mut Pager<'_>, asked: Asked) -> Mem<()>
+fn make_calls(pager: &mut PagerView<'_>, asked: Asked) -> Mem<()>
     ensures { OnOk result (pager.new ≡ after_calls pager.old (calls_for asked pager.old)) }
 {
     match asked {
         Asked::Press(key) => pager.key(key),
         Asked::Turn(key) => {
-            let rows = page_area(pager).height.saturating_sub(3);
+            let rows = pager.size().height - 3;
             press_often(pager, key, rows)
         }
         Asked::Size(width, height) => take_size(pager, width, height),
@@ -98,7 +97,7 @@ fn make_calls(pager: &mut Pager<'_>, asked: Asked) -> Mem<()>
     }
 }
 
-fn press_often(pager: &mut Pager<'_>, key: Key, count: u16) -> Mem<()>
+fn press_often(pager: &mut PagerView<'_>, key: Key, count: u16) -> Mem<()>
     ensures { OnOk result (pager.new ≡ after_calls pager.old (replicate count (press key))) }
 {
     'presses: for _i in 0..count {
@@ -108,7 +107,7 @@ fn press_often(pager: &mut Pager<'_>, key: Key, count: u16) -> Mem<()>
 }
 
 /// Takes another size, unless it is too small for a pager.
-fn take_size(pager: &mut Pager<'_>, width: u16, height: u16) -> Mem<()>
+fn take_size(pager: &mut PagerView<'_>, width: u16, height: u16) -> Mem<()>
     ensures { OnOk result (pager.new ≡ after_calls pager.old (size_calls width height)) }
 {
     match PagerSize::new(width, height) {
@@ -118,22 +117,14 @@ fn take_size(pager: &mut Pager<'_>, width: u16, height: u16) -> Mem<()>
 }
 
 /// Shows a pager in a blank buffer of its area; in another one, that it is too small.
-fn draw_pager(pager: &Pager<'_>, buf: &mut Buffer) -> Mem<()>
+fn draw_pager(alloc: Global, pager: &PagerView<'_>, buf: &mut Buffer) -> Mem<()>
     requires { IsFilled buf.old.area blank buf.old }
     ensures draws { OnOk result (PagerDraws pager.now buf.new) }
     ensures area { OnOk result (buf.new.area ≡ buf.old.area) }
 {
-    if page_area(pager) == buf.area() {
-        buf.copy_from(pager.screen())
+    if pager.area() == buf.area() {
+        pager.draw(alloc, buf)
     } else {
         say_too_small(buf)
     }
-}
-
-/// The area of a pager's screen.
-fn page_area(pager: &Pager<'_>) -> Rect
-    ensures is { result ≡ page_area pager.now.width pager.now.height }
-    ensures within { (pager.now.width ≤ 65535) × (pager.now.height ≤ 65535) }
-{
-    pager.screen().area()
 }
