@@ -27,7 +27,7 @@ const FEW: Output = Output {
 };
 
 // One row of four columns, from column 2 of row 1 on.
-fn row(alloc: Global, symbols: [&str; 4]) -> Mem<Buffer>
+pub(crate) fn row(alloc: Global, symbols: [&str; 4]) -> Mem<Buffer>
     ensures { IfOk result (λ b. b.area ≡ area_of 2 1 4 1) }
 {
     let mut b = Buffer::empty(alloc, Rect::new(2, 1, 4, 1))?;
@@ -46,7 +46,7 @@ fn is_full(alloc: Global, buf: &Buffer, output: Output, text: &str) -> Mem<bool>
     Ok(is_whole && is_behind_tame(sink.bytes(), text))
 }
 
-fn is_behind_tame(bytes: &[u8], text: &str) -> bool {
+pub(crate) fn is_behind_tame(bytes: &[u8], text: &str) -> bool {
     bytes.len() == TAME.len() + text.len()
         && bytes.starts_with(TAME.as_bytes())
         && bytes.ends_with(text.as_bytes())

@@ -3,5 +3,7 @@
 
 pub use tui_keys::{Event, Keys, Modifiers, Motion, Step};
 pub use tui_outside::{Failed, MemSink, MemSource, Sink, Source, StdSink, StdSource, WriteFault};
-pub use tui_terminal::{depth_of, enter, leave, write_changes, write_full, write_styled_rows};
+pub use tui_terminal::{
+    depth_of, enter, leave, settle, write_changes, write_full, write_styled_rows,
+};
 pub use tui_tty::{Cursor, Depth, Output, Trust};

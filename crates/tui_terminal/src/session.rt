@@ -1,7 +1,7 @@
-//! The alternate screen, from its beginning to its end.
+//! The alternate screen, from its beginning to its end, and the end of a display on the main one.
 
 ghost use Rattle.tui_outside.specs.Causes.{Writes};
-ghost use Rattle.tui_tty.specs.Session.{enter_text, leave_text};
+ghost use Rattle.tui_tty.specs.Session.{enter_text, leave_text, settle_text};
 
 use tui_outside::{Sink, WriteFault, put_all};
 
@@ -27,4 +27,13 @@ pub fn leave<K: Sink>(sink: &mut K) -> Result<(), WriteFault>
         sink,
         b"\x1b[?2026l\x1b[?2004l\x1b[?1049l\x1b[0m\x1b[?7h\x1b[?25h",
     )
+}
+
+/// Writes what ends a display on the main screen, as of a progress, behind frames without `enter`: nothing is held, the pen is at rest, autowrap is on,
+/// and the cursor is shown where the last frame left it. What the frames have drawn stays. `WriteFault` as for `enter`. Takes no memory.
+#[tactic(auto, unfolding(tui_tty::specs::Session::settle_text, tui_tty::specs::Spelling::spelling))]
+pub fn settle<K: Sink>(sink: &mut K) -> Result<(), WriteFault>
+    ensures { Writes (K.told sink.old) (K.told sink.new) result settle_text }
+{
+    put_all(sink, b"\x1b[?2026l\x1b[0m\x1b[?7h\x1b[?25h")
 }

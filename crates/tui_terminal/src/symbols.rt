@@ -14,6 +14,7 @@ ghost use Rattle.tui_tty.specs.Symbols.{
   is_led,
   is_quiet,
   is_quiet_byte,
+  is_skin_tone,
   is_tail,
   is_trusted,
   joins_next,
@@ -33,25 +34,16 @@ pub(crate) struct Known {
     pub trusted: bool,
 }
 
-/// What is known of a symbol. `sure` says that the terminal is known to be trusted with it.
+/// What is known of a symbol.
 #[inline]
-pub(crate) fn known_of(trust: Trust, sure: bool, symbol: &str) -> Known
-    requires { sure ≡ true → is_trusted trust symbol.now ≡ true }
+pub(crate) fn known_of(trust: Trust, symbol: &str) -> Known
     ensures columns { result.columns ≡ step_of symbol.now }
     ensures trusted { result.trusted ≡ is_trusted trust symbol.now }
 {
     Known {
         columns: symbol_columns(symbol),
-        trusted: is_surely_trusted(trust, sure, symbol),
+        trusted: is_trusted(trust, symbol),
     }
-}
-
-#[inline]
-fn is_surely_trusted(trust: Trust, sure: bool, symbol: &str) -> bool
-    requires { sure ≡ true → is_trusted trust symbol.now ≡ true }
-    ensures { result ≡ is_trusted trust symbol.now }
-{
-    sure || is_trusted(trust, symbol)
 }
 
 /// Whether a symbol of this many columns may be sent, where this many are left in the row. A trusted one holds no control character.
@@ -302,7 +294,14 @@ fn is_led(symbol: &str) -> bool
 fn takes_column(c: char) -> bool
     ensures { result ≡ has_columns (c ∷ []) }
 {
-    c.width().unwrap_or(0) > 0
+    c.width().unwrap_or(0) > 0 && !is_skin_tone(c)
+}
+
+// Whether a character joins an emoji before it, though it has columns of its own.
+fn is_skin_tone(c: char) -> bool
+    ensures { result ≡ is_skin_tone c }
+{
+    is_within(c as u32, 0x1f3fb, 0x1f3ff)
 }
 
 // Whether the last character joins nothing that comes after it.

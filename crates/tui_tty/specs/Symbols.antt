@@ -77,10 +77,14 @@ is_quiet_from after (b ∷ bs) = is_quiet_byte after b && is_quiet_from (b == 0x
 unfoldable pub is_quiet : List ℕ → Bool
 is_quiet symbol = is_quiet_from false symbol
 
+-- whether a character is a skin tone, which joins an emoji before it (UAX #29: Extend), though it has columns of its own
+abbrev pub is_skin_tone : ℕ → Bool
+is_skin_tone c = nat_le 0x1F3FB c && nat_le c 0x1F3FF
+
 -- whether the first character takes a column by itself, so that it doesn't join what stands before it
 abbrev pub has_columns : List ℕ → Bool
 has_columns [] = false
-has_columns (c ∷ cs) = nat_lt 0 (unwrap_or (char_width false c) 0)
+has_columns (c ∷ cs) = nat_lt 0 (unwrap_or (char_width false c) 0) && not (is_skin_tone c)
 
 unfoldable pub is_led : List ℕ → Bool
 is_led symbol = has_columns (chars symbol)

@@ -1,62 +1,63 @@
--- Between the beginning of the alternate screen and its end the main screen is kept.
+-- Between the beginning of the alternate screen and its end the main screen is kept; and frames on the main one end as they are.
 use Rattle.std.proofs.Common.{◌≡◌, ℕ, ◌+◌, Bool, true, false, not, ◌&&◌, List, [], ◌∷◌, ◌++◌, All, cond, refl, sym, ap, subst, ◌∙◌}
 use Rattle.std.specs.Prelude.{nat_le, nat_lt, if◌then◌else◌, Option, None, Some}
 use Rattle.std.proofs.lemmas.Bool.{cond-true}
 use Rattle.std.proofs.lemmas.List.Elements.{All-head, All-tail}
 use Rattle.tui_text.specs.Visible.{step_of}
 use Rattle.tui_tty.specs.Sends.{IsSafe}
-use Rattle.tui_tty.specs.Session.{GivesBack, IsBack, enter_commands, leave_commands}
-use Rattle.tui_tty.specs.Terminal.{Command, Kept, Pen, Shown, Spot, Tty, across, after, add, alternate, autowrap, bracketed, drawn, held, kept, lost, nothing, paint, place, print, printed, reach, rest, run, spoilt, step, switched, tame, turn, unsure, visible, with_row}
+use Rattle.tui_tty.specs.Session.{GivesBack, IsBack, IsSettled, Settles, enter_commands, leave_commands, settle_commands}
+use Rattle.tui_tty.specs.Terminal.{Command, Kept, Pen, Spot, Tty, across, after, add, alternate, autowrap, bracketed, drawn, held, kept, lost, nothing, paint, place, print, printed, reach, rest, run, spoilt, step, switched, tame, turn, unsure, visible, with_row}
 use Rattle.tui_tty_laws.proofs.Pen.{run_append, steps}
 
--- an alternate screen shows, and the main one keeps this
-pub record IsAway (cells : ℕ → ℕ → Shown) (cursor : Option Spot) (t : Tty) : Type 0 where
+-- nothing was cut short, this screen shows, and what is pasted stands in brackets or not, as this says
+pub record IsOn (screen : Kept) (brackets : Option Bool) (t : Tty) : Type 0 where
   pub whole : t.whole ≡ true
-  pub main : t.screen ≡ kept cells cursor
+  pub main : t.screen ≡ screen
+  pub pasted : t.bracketed ≡ brackets
 
-either : (cells : ℕ → ℕ → Shown) (cursor : Option Spot) (b : Bool) (t u : Tty) → IsAway cells cursor t → IsAway cells cursor u → IsAway cells cursor (cond b t u)
-either cells cursor true t u a c = a
-either cells cursor false t u a c = c
+either : (screen : Kept) (brackets : Option Bool) (b : Bool) (t u : Tty) → IsOn screen brackets t → IsOn screen brackets u → IsOn screen brackets (cond b t u)
+either screen brackets true t u a c = a
+either screen brackets false t u a c = c
 
-printed_away : (cells : ℕ → ℕ → Shown) (cursor : Option Spot) (knows : List ℕ → Bool) (symbol : List ℕ) (t : Tty) (at : Option Spot) (pen : Option Pen) →
-    IsAway cells cursor t → IsAway cells cursor (printed knows symbol t at pen)
-printed_away cells cursor knows symbol t None pen is = record { whole = is.whole; main = is.main }
-printed_away cells cursor knows symbol t (Some at) None is = record { whole = is.whole; main = is.main }
-printed_away cells cursor knows symbol t (Some at) (Some pen) is =
-    let gone : IsAway cells cursor (lost t) = record { whole = is.whole; main = is.main } in
-    let row : IsAway cells cursor (spoilt at.row t) = record { whole = is.whole; main = is.main } in
+printed_on : (screen : Kept) (brackets : Option Bool) (knows : List ℕ → Bool) (symbol : List ℕ) (t : Tty) (at : Option Spot) (pen : Option Pen) →
+    IsOn screen brackets t → IsOn screen brackets (printed knows symbol t at pen)
+printed_on screen brackets knows symbol t None pen is = record { whole = is.whole; main = is.main; pasted = is.pasted }
+printed_on screen brackets knows symbol t (Some at) None is = record { whole = is.whole; main = is.main; pasted = is.pasted }
+printed_on screen brackets knows symbol t (Some at) (Some pen) is =
+    let gone : IsOn screen brackets (lost t) = record { whole = is.whole; main = is.main; pasted = is.pasted } in
+    let row : IsOn screen brackets (spoilt at.row t) = record { whole = is.whole; main = is.main; pasted = is.pasted } in
     let known : Tty = record t {
       cells = with_row at.row (drawn at.column symbol pen (t.cells at.row)) t.cells;
       cursor = if nat_lt (at.column + step_of symbol) t.columns then Some (record { column = at.column + step_of symbol; row = at.row }) else None;
     } in
-    let here : IsAway cells cursor known = record { whole = is.whole; main = is.main } in
-    either cells cursor (not t.tamed) (lost t) _ gone
-    (either cells cursor (knows symbol && nat_le (at.column + step_of symbol) t.columns) known _ here
-    (either cells cursor (nat_le (at.column + reach symbol) t.columns) (spoilt at.row t) (lost t) row gone))
+    let here : IsOn screen brackets known = record { whole = is.whole; main = is.main; pasted = is.pasted } in
+    either screen brackets (not t.tamed) (lost t) _ gone
+    (either screen brackets (knows symbol && nat_le (at.column + step_of symbol) t.columns) known _ here
+    (either screen brackets (nat_le (at.column + reach symbol) t.columns) (spoilt at.row t) (lost t) row gone))
 
-step_away : (cells : ℕ → ℕ → Shown) (cursor : Option Spot) (knows : List ℕ → Bool) (c : Command) (t : Tty) → IsSafe c → IsAway cells cursor t → IsAway cells cursor (step knows c t)
-step_away cells cursor knows tame t safe is = record { whole = is.whole; main = is.main }
-step_away cells cursor knows (place x y) t safe is = record { whole = is.whole; main = is.main }
-step_away cells cursor knows (paint ss) t safe is = record { whole = is.whole; main = is.main }
-step_away cells cursor knows (across x) t safe is = record { whole = is.whole; main = is.main }
-step_away cells cursor knows (add s ss) t safe is = record { whole = is.whole; main = is.main }
-step_away cells cursor knows (print symbol) t safe is = printed_away cells cursor knows symbol t t.cursor t.pen is
-step_away cells cursor knows (turn visible on) t safe is = record { whole = is.whole; main = is.main }
-step_away cells cursor knows (turn held on) t safe is = record { whole = is.whole; main = is.main }
-step_away cells cursor knows (turn autowrap on) t safe is = absurd safe
-step_away cells cursor knows (turn bracketed on) t safe is = absurd safe
-step_away cells cursor knows (turn alternate on) t safe is = absurd safe
+step_on : (screen : Kept) (brackets : Option Bool) (knows : List ℕ → Bool) (c : Command) (t : Tty) → IsSafe c → IsOn screen brackets t → IsOn screen brackets (step knows c t)
+step_on screen brackets knows tame t safe is = record { whole = is.whole; main = is.main; pasted = is.pasted }
+step_on screen brackets knows (place x y) t safe is = record { whole = is.whole; main = is.main; pasted = is.pasted }
+step_on screen brackets knows (paint ss) t safe is = record { whole = is.whole; main = is.main; pasted = is.pasted }
+step_on screen brackets knows (across x) t safe is = record { whole = is.whole; main = is.main; pasted = is.pasted }
+step_on screen brackets knows (add s ss) t safe is = record { whole = is.whole; main = is.main; pasted = is.pasted }
+step_on screen brackets knows (print symbol) t safe is = printed_on screen brackets knows symbol t t.cursor t.pen is
+step_on screen brackets knows (turn visible on) t safe is = record { whole = is.whole; main = is.main; pasted = is.pasted }
+step_on screen brackets knows (turn held on) t safe is = record { whole = is.whole; main = is.main; pasted = is.pasted }
+step_on screen brackets knows (turn autowrap on) t safe is = absurd safe
+step_on screen brackets knows (turn bracketed on) t safe is = absurd safe
+step_on screen brackets knows (turn alternate on) t safe is = absurd safe
 
-frames_away : (cells : ℕ → ℕ → Shown) (cursor : Option Spot) (knows : List ℕ → Bool) (cs : List Command) (t : Tty) → All IsSafe cs → IsAway cells cursor t →
-    IsAway cells cursor (run knows cs t)
-frames_away cells cursor knows [] t safe is = is
-frames_away cells cursor knows (c ∷ cs) t safe is =
-    frames_away cells cursor knows cs (after knows c t) (All-tail IsSafe c cs safe)
-    (subst (IsAway cells cursor) (sym (steps knows c t is.whole)) (step_away cells cursor knows c t (All-head IsSafe c cs safe) is))
+frames_on : (screen : Kept) (brackets : Option Bool) (knows : List ℕ → Bool) (cs : List Command) (t : Tty) → All IsSafe cs → IsOn screen brackets t →
+    IsOn screen brackets (run knows cs t)
+frames_on screen brackets knows [] t safe is = is
+frames_on screen brackets knows (c ∷ cs) t safe is =
+    frames_on screen brackets knows cs (after knows c t) (All-tail IsSafe c cs safe)
+    (subst (IsOn screen brackets) (sym (steps knows c t is.whole)) (step_on screen brackets knows c t (All-head IsSafe c cs safe) is))
 
 -- ---- the beginning
 
-entered : (knows : List ℕ → Bool) (t : Tty) → t.whole ≡ true → t.alternates ≡ true → t.screen ≡ nothing → IsAway t.cells t.cursor (run knows enter_commands t)
+entered : (knows : List ℕ → Bool) (t : Tty) → t.whole ≡ true → t.alternates ≡ true → t.screen ≡ nothing → IsOn (kept t.cells t.cursor) (Some true) (run knows enter_commands t)
 entered knows t whole alternates main =
     let u : Tty = record (lost t) { screen = kept t.cells t.cursor; pen = None; tamed = false; autowrap = None } in
     let v : Tty = step knows tame u in
@@ -68,11 +69,11 @@ entered knows t whole alternates main =
     ap (run knows (tame ∷ turn bracketed true ∷ [])) first
     ∙ ap (run knows (turn bracketed true ∷ [])) (steps knows tame u whole)
     ∙ steps knows (turn bracketed true) v whole in
-    subst (IsAway t.cells t.cursor) (sym all) (record { whole = whole; main = refl })
+    subst (IsOn (kept t.cells t.cursor) (Some true)) (sym all) (record { whole = whole; main = refl; pasted = refl })
 
 -- ---- the end
 
-left : (knows : List ℕ → Bool) (t u : Tty) → IsAway t.cells t.cursor u → IsBack t (run knows leave_commands u)
+left : (knows : List ℕ → Bool) (t u : Tty) → IsOn (kept t.cells t.cursor) (Some true) u → IsBack t (run knows leave_commands u)
 left knows t u is =
     let a : Tty = record u { held = Some false } in
     let b : Tty = record a { bracketed = Some false } in
@@ -107,4 +108,36 @@ gives_back knows t frames whole alternates main safe =
     let away = entered knows t whole alternates main in
     let v : Tty = run knows frames u in
     subst (IsBack t) (sym (run_append knows enter_commands (frames ++ leave_commands) t ∙ run_append knows frames leave_commands u))
-    (left knows t v (frames_away t.cells t.cursor knows frames u safe away))
+    (left knows t v (frames_on (kept t.cells t.cursor) (Some true) knows frames u safe away))
+
+-- ---- the end of a display on the main screen
+
+settled : (knows : List ℕ → Bool) (t u : Tty) → IsOn t.screen t.bracketed u → IsSettled t u (run knows settle_commands u)
+settled knows t u is =
+    let a : Tty = record u { held = Some false } in
+    let b : Tty = record a { pen = Some rest } in
+    let c : Tty = step knows (turn autowrap true) b in
+    let d : Tty = record c { visible = Some true } in
+    let all : run knows settle_commands u ≡ d =
+    ap (run knows (paint [] ∷ turn autowrap true ∷ turn visible true ∷ [])) (steps knows (turn held false) u is.whole)
+    ∙ ap (run knows (turn autowrap true ∷ turn visible true ∷ [])) (steps knows (paint []) a is.whole)
+    ∙ ap (run knows (turn visible true ∷ [])) (steps knows (turn autowrap true) b is.whole)
+    ∙ steps knows (turn visible true) c is.whole in
+    let done : IsSettled t u d = record {
+      cells = refl;
+      cursor = refl;
+      screen = is.main;
+      brackets = is.pasted;
+      at_rest = refl;
+      wraps = refl;
+      seen = refl;
+      not_held = refl;
+      whole = is.whole;
+    } in
+    subst (IsSettled t u) (sym all) done
+
+pub settles : Settles
+settles knows t frames whole safe =
+    let first : IsOn t.screen t.bracketed t = record { whole = whole; main = refl; pasted = refl } in
+    let v : Tty = run knows frames t in
+    subst (IsSettled t v) (sym (run_append knows frames settle_commands t)) (settled knows t v (frames_on t.screen t.bracketed knows frames t safe first))

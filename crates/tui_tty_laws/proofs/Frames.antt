@@ -5,6 +5,7 @@ use Rattle.std.proofs.lemmas.Bool.{and_from, cond-true, lt-ltb}
 use Rattle.tui_cells.specs.Buffer.{IsScreen, Screen}
 use Rattle.tui_cells.specs.Cell.{Look}
 use Rattle.tui_cells.specs.declared.attributes.Attributes.{Attributes}
+use Rattle.tui_cells.specs.declared.color.Color.{Color}
 use Rattle.tui_cells.specs.contracts.attributes.AttributesPartialEq as attributes
 use Rattle.tui_text.specs.Visible.{Placed, step_of}
 use Rattle.tui_tty.specs.declared.cursor.Cursor.{Cursor}
@@ -24,7 +25,7 @@ use Rattle.tui_tty_laws.specs.Sending.{frame, moves, next_at, nowhere, paints, r
 use Rattle.tui_tty_laws.proofs.Adding.{adds_safe, back_safe}
 use Rattle.tui_tty_laws.proofs.Apart.{send_split}
 use Rattle.tui_tty_laws.proofs.Lists.{Each, Each-append, Each-weaker, In, In-to}
-use Rattle.tui_tty_laws.proofs.Pen.{first_is, run_append, steps}
+use Rattle.tui_tty_laws.proofs.Pen.{first_is, pen_from, run_append, steps}
 use Rattle.tui_tty_laws.proofs.Rows.{AreSent, Knows, all_sent, in_beside, in_fit, nowhere_at}
 use Rattle.tui_tty_laws.proofs.Steps.{Stays, stays, stays_on}
 use Rattle.tui_tty_laws.proofs.Walks.{IsFit}
@@ -308,11 +309,12 @@ move_safe true c x y = tt
 move_safe false true x y = (tt, tt)
 move_safe false false x y = (tt, tt)
 
+-- a pen is set by safe commands
+pub pen_safe : (f b : Color) (m : ℕ) → Each IsSafe (paints_of (pen_from f b m))
+pen_safe f b m = ((first_pen (pen_from f b m), (first_is f b m, refl)), back_safe (has_name b) b)
+
 whole_safe : (depth : Depth) (a : Attributes) → Each IsSafe (paints_of (pen_of depth a))
-whole_safe depth a =
-    let f = color_at depth a.fg in
-    let b = color_at depth a.bg in
-    ((first_pen (pen_of depth a), (first_is f b a.modifier.bits, refl)), back_safe (has_name b) b)
+whole_safe depth a = pen_safe (color_at depth a.fg) (color_at depth a.bg) a.modifier.bits
 
 either_safe : (b : Bool) (xs ys : List Command) → Each IsSafe xs → Each IsSafe ys → Each IsSafe (cond b xs ys)
 either_safe true xs ys a b = a

@@ -5,6 +5,7 @@ pub mod Pen
 pub mod Depths
 pub mod Adding
 pub mod Steps
+pub mod StyledSafe
 pub mod Mending
 pub mod Rows
 pub mod Apart

@@ -1,11 +1,12 @@
 -- Laws of rows one under another, as statements.
-use Rattle.std.specs.Prelude.{◌≡◌, ℕ, ◌<◌, Bool, true, List, [], ◌∷◌, length, map, flat_map, slice_index_or, Option, Some}
+use Rattle.std.specs.Prelude.{◌≡◌, ℕ, ◌<◌, Bool, true, List, [], ◌∷◌, All, length, map, flat_map, slice_index_or, Option, Some}
 use Rattle.tui_cells.specs.Buffer.{Screen}
 use Rattle.tui_text.specs.Visible.{Placed}
 use Rattle.tui_tty.specs.declared.depth.Depth.{Depth}
 use Rattle.tui_tty.specs.declared.trust.Trust.TheVariants.{Common}
 use Rattle.tui_tty.specs.Pens.{attributes_of, pen_of}
 use Rattle.tui_tty.specs.Pieces.{row_pieces}
+use Rattle.tui_tty.specs.Sends.{IsSafe}
 use Rattle.tui_tty.specs.Spelling.{spelling}
 use Rattle.tui_tty.specs.Styled.{AreStyledRows}
 use Rattle.tui_tty.specs.Terminal.{Command, Pen, Tty, add, after, paint, print, rest, run}
@@ -43,3 +44,8 @@ pub record IsPlainRow (depth : Depth) (ps : List Placed) (cs : List Command) : T
 abbrev pub StyledRowsArePlain : Type 0
 StyledRowsArePlain = (depth : Depth) (b : Screen) (text : List ℕ) (k : AreStyledRows depth b text) (y : ℕ) → y < length b.rows →
     IsPlainRow depth (row_pieces Common b y) (slice_index_or k.rows y [])
+
+-- and none of its symbols holds a control character, so no text of a cell begins a command
+abbrev pub StyledRowsAreSafe : Type 0
+StyledRowsAreSafe = (depth : Depth) (b : Screen) (text : List ℕ) (k : AreStyledRows depth b text) (y : ℕ) → y < length b.rows →
+    All IsSafe (slice_index_or k.rows y [])

@@ -1,6 +1,6 @@
 //! Laws, each a function that does nothing.
 
-ghost use Rattle.tui_tty.specs.Session.{GivesBack};
+ghost use Rattle.tui_tty.specs.Session.{GivesBack, Settles};
 ghost use Rattle.tui_tty_laws.specs.Laws.{
   ChangeIsShown,
   DepthsRest,
@@ -14,7 +14,7 @@ ghost use Rattle.tui_tty_laws.specs.Laws.{
   SendsNothing,
   TrueChangesNothing,
 };
-ghost use Rattle.tui_tty_laws.specs.Plain.{StyledRowsArePlain};
+ghost use Rattle.tui_tty_laws.specs.Plain.{StyledRowsArePlain, StyledRowsAreSafe};
 ghost use Rattle.tui_tty_laws.specs.Reading.{HasOneReading, TrustedHaveOneReading};
 
 /// The commands of a full screen show it on any terminal, and those of a change show the new screen where the old one showed; so
@@ -26,9 +26,11 @@ pub fn screen_laws()
     ensures nothing { SendsNothing }
 {}
 
-/// Between the beginning of the alternate screen and its end the main screen is kept.
+/// Between the beginning of the alternate screen and its end the main screen is kept. On the main screen frames end with the terminal at rest, and
+/// what they have drawn stays.
 pub fn session_law()
     ensures between { GivesBack }
+    ensures settles { Settles }
 {}
 
 /// A terminal is trusted with each symbol that widgets draw with.
@@ -49,9 +51,10 @@ pub fn colour_laws()
 {}
 
 /// Rows one under another are, but for what sets the pen, their symbols, and a newline behind each. On a terminal whose pen is at rest each
-/// symbol is drawn by the pen of its own cell, and the pen is at rest at each newline.
+/// symbol is drawn by the pen of its own cell, and the pen is at rest at each newline. No text of a cell begins a command.
 pub fn styled_law()
     ensures plain { StyledRowsArePlain }
+    ensures safe { StyledRowsAreSafe }
 {}
 
 /// A text is spelled by one list of safe commands alone, but for where one of two neighbouring prints ends and the next begins; where a terminal
