@@ -1,4 +1,7 @@
+mod AtBehind
 mod Bytes
+mod EqualEnds
+mod FitRows
 mod Looks
 pub mod Nearest
 mod NarrowLooks

@@ -117,17 +117,17 @@ ascii_quiet s e = let b = byte_of s e in ap is_quiet b.1.is ∙ byte_quiet b.0 b
 pub byte_steps : (s : List ℕ) → is_ascii s ≡ true → step_of s ≡ 1
 byte_steps s e = let b = byte_of s e in ap step_of b.1.is ∙ one_byte b.0 b.1.low b.1.high
 
--- a trusted symbol of one column may be sent wherever a column is left
-pub one_sendable : (trust : Trust) (room : ℕ) (s : List ℕ) → 0 < room → is_trusted trust s ≡ true → is_quiet s ≡ true → step_of s ≡ 1 → is_sendable trust room s ≡ true
+-- a trusted symbol may be sent wherever it has room
+pub trusted_sendable : (trust : Trust) (room : ℕ) (s : List ℕ) → is_trusted trust s ≡ true → is_quiet s ≡ true → step_of s ≤ room → is_sendable trust room s ≡ true
 unfolding is_sendable
-one_sendable trust room s some trusted quiet step =
-    let fits : nat_le (step_of s) room ≡ true = (let le : step_of s ≤ room = omega (arith, step) in grind (arith, nat_tests)) in
+trusted_sendable trust room s trusted quiet le =
+    let fits : nat_le (step_of s) room ≡ true = grind (arith, nat_tests) in
     let either : (is_trusted trust s || ((is_led s && is_ended s) && nat_le (reach s) room)) ≡ true = ap (λ (k : Bool). k || ((is_led s && is_ended s) && nat_le (reach s) room)) trusted in
     and_from (is_quiet s && nat_le (step_of s) room) _ (and_from (is_quiet s) _ quiet fits) either
 
 pub byte_sendable : (trust : Trust) (room : ℕ) (s : List ℕ) → 0 < room → is_ascii s ≡ true → is_sendable trust room s ≡ true
 byte_sendable trust room s some e =
-    let b = byte_of s e in one_sendable trust room s some (ascii_trusted trust s b.0 b.1.is e) (ascii_quiet s e) (byte_steps s e)
+    let b = byte_of s e in let step = byte_steps s e in trusted_sendable trust room s (ascii_trusted trust s b.0 b.1.is e) (ascii_quiet s e) (omega (arith, some, step))
 
 pub byte_shown : (trust : Trust) (room : ℕ) (c : Look) (s : List ℕ) (a : Attributes) → 0 < room → s ≡ c.symbol → look_of c.symbol a ≡ c → is_ascii s ≡ true →
     Some (look_of s a) ≡ Some (seen trust room c)

@@ -12,7 +12,7 @@ use Rattle.tui_tty.specs.Pieces.{next_cover, shown, uncovered}
 use Rattle.tui_tty.specs.Symbols.{Range, is_among, is_ascii, is_common, is_quiet, is_quiet_byte, is_sendable, is_tail, is_trusted, three_byte_trusted, two_byte_trusted}
 use Rattle.tui_tty_laws.proofs.Seen.{seen_true}
 use Rattle.tui_terminal.specs.Narrow.{is_narrow}
-use Rattle.tui_terminal.proofs.Looks.{ascii_quiet, byte_steps, byte_trusted, cover_as_it_is, next_open, one_sendable, shown_open}
+use Rattle.tui_terminal.proofs.Looks.{ascii_quiet, byte_steps, byte_trusted, cover_as_it_is, next_open, shown_open, trusted_sendable}
 
 -- ---- a trusted symbol holds no control character
 
@@ -87,7 +87,7 @@ pub byte_narrow : (trust : Trust) (s : List ℕ) → is_ascii s ≡ true → is_
 byte_narrow trust s e = and_from (is_trusted trust s) (step_of s == 1) (byte_trusted trust s e) (ap (λ (n : ℕ). n == 1) (byte_steps s e))
 
 narrow_sendable : (trust : Trust) (room : ℕ) (s : List ℕ) → 0 < room → is_narrow trust s ≡ true → is_sendable trust room s ≡ true
-narrow_sendable trust room s some e = let sure = narrow_trusted trust s e in one_sendable trust room s some sure (trusted_quiet trust s sure) (narrow_steps trust s e)
+narrow_sendable trust room s some e = let sure = narrow_trusted trust s e in let step = narrow_steps trust s e in trusted_sendable trust room s sure (trusted_quiet trust s sure) (omega (arith, some, step))
 
 -- a cell with it, where the cells lie under none
 pub narrow_seen : (trust : Trust) (room : ℕ) (c : Look) → 0 < room → is_narrow trust c.symbol ≡ true → shown trust uncovered room c ≡ Some c

@@ -1,5 +1,5 @@
 -- Rows of symbols of one column that a terminal is trusted with.
-use Rattle.std.proofs.Common.{◌≡◌, ℕ, ◌+◌, Bool, true, false, not, ◌&&◌, List, [], ◌∷◌, ◌++◌, length, cond, refl, sym, ap, ◌∙◌, arith}
+use Rattle.std.proofs.Common.{◌≡◌, ℕ, ◌+◌, Bool, true, false, not, List, [], ◌∷◌, ◌++◌, length, cond, refl, sym, ap, ◌∙◌, arith}
 use Rattle.std.specs.Prelude.{Option, Some}
 use Rattle.std.specs.List.{list_all}
 use Rattle.std.proofs.lemmas.Bool.{and_from, and_parts, cond-false}
@@ -9,9 +9,8 @@ use Rattle.tui_tty.specs.declared.trust.Trust.{Trust}
 use Rattle.tui_tty.specs.Pieces.{next_cover, shown, shown_row, uncovered}
 use Rattle.tui_tty.specs.Symbols.{is_trusted}
 use Rattle.tui_tty_laws.specs.declared.wanted.Wanted.TheVariants.{Changed, Risky}
-use Rattle.tui_tty_laws.specs.Sent.{is_calm, is_shown, row_shown, sent, sent_here}
+use Rattle.tui_tty_laws.specs.Sent.{is_shown, row_shown, sent, sent_here}
 use Rattle.tui_terminal.specs.Narrow.{is_narrow}
-use Rattle.tui_terminal.specs.Sent.{is_calm_both}
 use Rattle.tui_terminal.proofs.NarrowLooks.{narrow_next, narrow_seen, narrow_trusted}
 use Rattle.tui_terminal.proofs.Walking.{all_append}
 
@@ -58,7 +57,7 @@ trusted_here : (trust : Trust) (wanted : Bool) (column : ℕ) (c : Look) → is_
 trusted_here trust true column c e = and_from (is_trusted trust c.symbol) true (narrow_trusted trust c.symbol e) refl
 trusted_here trust false column c e = refl
 
-calm_new : (trust : Trust) (left : ℕ) (olds : List (Option Look)) (row : List Look) → narrow trust row ≡ true → list_all (trusts trust) (sent trust Changed left olds (map_some row)) ≡ true
+pub calm_new : (trust : Trust) (left : ℕ) (olds : List (Option Look)) (row : List Look) → narrow trust row ≡ true → list_all (trusts trust) (sent trust Changed left olds (map_some row)) ≡ true
 unfolding sent map_some
 calm_new trust left [] row e = refl
 calm_new trust left (o ∷ os) [] e = refl
@@ -66,15 +65,3 @@ calm_new trust left (o ∷ os) (c ∷ cs) e =
     let both = and_parts (is_narrow trust c.symbol) (narrow trust cs) e in
     all_append trust (sent_here trust Changed left o c) (sent trust Changed (left + 1) os (map_some cs))
     ∙ and_from (list_all (trusts trust) (sent_here trust Changed left o c)) _ (trusted_here trust (not (is_shown o c)) left c both.0) (calm_new trust (left + 1) os cs both.1)
-
-calm_row : (trust : Trust) (left : ℕ) (old new : List Look) → narrow trust new ≡ true → is_calm trust left (row_shown trust old) (row_shown trust new) ≡ true
-unfolding is_calm
-calm_row trust left old new e =
-    ap (λ (ns : List (Option Look)). list_all (trusts trust) (sent trust Changed left (row_shown trust old) ns)) (narrow_shown trust new e)
-    ∙ calm_new trust left (row_shown trust old) new e
-
-pub narrow_calm : (trust : Trust) (left : ℕ) (old new : List Look) →
-    (list_all (λ c. is_narrow trust c.symbol) old && list_all (λ c. is_narrow trust c.symbol) new) ≡ true → true ≡ is_calm_both trust left old new
-narrow_calm trust left old new e =
-    let both = and_parts (narrow trust old) (narrow trust new) e in
-    sym (and_from _ _ (calm_row trust left old new both.1) (calm_row trust left new old both.0))

@@ -20,7 +20,7 @@ use Rattle.tui_tty_laws.proofs.Walks.{own_look, same_look}
 use Rattle.tui_terminal.proofs.Walking.{send_none}
 
 -- of a row that shows what it showed nothing is sent
-none_new : (trust : Trust) (column : ℕ) (row : List (Option Look)) → sent trust Changed column row row ≡ []
+pub none_new : (trust : Trust) (column : ℕ) (row : List (Option Look)) → sent trust Changed column row row ≡ []
 unfolding sent is_shown
 none_new trust column [] = refl
 none_new trust column (None ∷ cs) = none_new trust (column + 1) cs

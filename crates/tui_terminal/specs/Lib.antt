@@ -1,5 +1,6 @@
 pub mod Adding
 pub mod Depth
+pub mod Fitting
 pub mod Marks
 pub mod Narrow
 pub mod Risks

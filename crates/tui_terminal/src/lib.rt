@@ -2,8 +2,10 @@
 #![tactic(auto)]
 
 mod adding;
+mod changed;
 mod colours;
 mod depth;
+mod fitting;
 mod narrow;
 mod palette;
 mod pens;
@@ -18,7 +20,7 @@ mod symbols;
 mod write;
 
 pub use depth::depth_of;
-pub use session::{enter, leave};
+pub use session::{enter, leave, settle};
 pub use styled::write_styled_rows;
 pub use tui_tty::{Cursor, Depth, Output, Trust};
 pub use write::{write_changes, write_full};

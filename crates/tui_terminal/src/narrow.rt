@@ -1,21 +1,22 @@
 //! Rows of symbols of one column that a terminal is trusted with: each shows as it is, and no risky one comes or goes.
 
-ghost use Rattle.std.specs.Prelude.{◌≡◌, ◌+◌, ◌<◌, ◌≤◌, flat_map, length, nat_eq, not, true};
+ghost use Rattle.std.specs.Prelude.{◌≡◌, ◌+◌, ◌<◌, ◌≤◌, flat_map, if◌then◌else◌, length, nat_eq, not, slice_index_or, true};
 ghost use Rattle.std.specs.Cmp.Lexicographic.{pointwise};
 ghost use Rattle.std.specs.List.{list_all};
+ghost use Rattle.tui_cells.specs.Cell.{blank};
 ghost use Rattle.tui_outside.specs.Gathers.{Gathers};
 ghost use Rattle.tui_terminal.specs.Narrow.{is_narrow};
-ghost use Rattle.tui_terminal.specs.Sent.{placed_if};
+ghost use Rattle.tui_terminal.specs.Sent.{at_behind, placed_if};
 ghost use Rattle.tui_tty.specs.Spelling.{spelling};
 ghost use Rattle.tui_tty_laws.specs.Sending.{at_after, nowhere, row_anew, send};
 ghost use Rattle.tui_tty_laws.specs.Sent.{changes, is_same, row_shown};
 
-use crate::sending::put_piece;
+use crate::changed::is_same_cell;
+use crate::sending::{Reached, put_cell_if};
 use crate::symbols::{is_narrow, is_same_text};
 use tui_cells::Cell;
 use tui_outside::{Print, Sink};
 use tui_tty::{Output, Trust};
-use tui_tty_laws::At;
 
 /// Whether each symbol of a row is such a one.
 pub(crate) fn is_narrow_row(trust: Trust, row: &[Cell]) -> bool
@@ -43,10 +44,9 @@ pub(crate) fn put_all_narrow<K: Sink>(
     ensures { Gathers (K.told sink.old) (K.told sink.new) print.old print.new
         (flat_map spelling (send output y nowhere (row_anew output.trust left row.now))) }
 {
-    let mut now = At::nowhere();
+    let mut reached = Reached::none();
     'columns: for column in 0..row.len() {
-        let cell = &row[column];
-        now = put_narrow_if(print, output, y, now, left + column, true, cell, sink);
+        reached = put_cell_if(print, output, y, left, row, reached, column, 1, true, sink);
     }
 }
 
@@ -65,14 +65,14 @@ pub(crate) fn put_new_narrow<K: Sink>(
     ensures { Gathers (K.told sink.old) (K.told sink.new) print.old print.new (flat_map spelling (send output y nowhere
         (changes output.trust left (row_shown output.trust old.now) (row_shown output.trust new.now)))) }
 {
-    let mut now = At::nowhere();
-    let mut goes_on = false;
+    let mut reached = Reached::none();
     'columns: for column in 0..new.len() {
         let cell_old = &old[column];
         let cell = &new[column];
-        let wanted = is_changed(goes_on, cell_old, cell);
-        now = put_narrow_if(print, output, y, now, left + column, wanted, cell, sink);
-        goes_on = wanted;
+        let wanted = is_changed(reached.last == column, cell_old, cell);
+        reached = put_cell_if(
+            print, output, y, left, new, reached, column, 1, wanted, sink,
+        );
     }
 }
 
@@ -84,7 +84,7 @@ fn is_changed(goes_on: bool, old: &Cell, new: &Cell) -> bool
     if goes_on && !is_same_symbol(old, new) {
         true
     } else {
-        !old.is_same(new)
+        !is_same_cell(old, new)
     }
 }
 
@@ -93,32 +93,4 @@ fn is_same_symbol(old: &Cell, new: &Cell) -> bool
     ensures { result ≡ pointwise nat_eq old.now.symbol new.now.symbol }
 {
     is_same_text(old.symbol(), new.symbol())
-}
-
-// Adds what sends such a symbol in a column, if it is wanted, and answers what is known then.
-#[inline(always)]
-fn put_narrow_if<K: Sink>(
-    print: &mut Print,
-    output: Output,
-    y: usize,
-    at: At,
-    column: usize,
-    wanted: bool,
-    cell: &Cell,
-    sink: &mut K,
-) -> At
-    requires { (column < 65535) × (y < 65536) × (is_narrow output.trust cell.now.symbol ≡ true) }
-    ensures next { result ≡ at_after output.trust at (placed_if wanted column cell.now) }
-    ensures put { Gathers (K.told sink.old) (K.told sink.new) print.old print.new
-        (flat_map spelling (send output y at (placed_if wanted column cell.now))) }
-{
-    if wanted {
-        let symbol = cell.symbol();
-        let attributes = cell.attributes();
-        put_piece(
-            print, output, y, at, column, symbol, attributes, 1, true, sink,
-        )
-    } else {
-        at
-    }
 }

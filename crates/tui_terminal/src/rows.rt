@@ -3,19 +3,21 @@
 ghost use Rattle.std.specs.Prelude.{◌≡◌, ◌+◌, ◌<◌, ◌≤◌, ◌&&◌, ◌||◌, ℕ, IsTrue, flat_map, length, not, true};
 ghost use Rattle.std.specs.List.{list_all};
 ghost use Rattle.tui_outside.specs.Gathers.{Gathers};
+ghost use Rattle.tui_terminal.specs.Fitting.{are_fit};
 ghost use Rattle.tui_terminal.specs.Narrow.{is_narrow};
 ghost use Rattle.tui_terminal.specs.Seeing.{look_in, shown_in};
 ghost use Rattle.tui_terminal.specs.Sent.{is_calm_both, is_of_pass, pass_of, shows_same};
 ghost use Rattle.tui_terminal.specs.Risks.{is_new_risk};
 ghost use Rattle.tui_tty.specs.Spelling.{spelling};
-ghost use Rattle.tui_tty.specs.Symbols.{is_trusted};
 ghost use Rattle.tui_tty_laws.specs.Sending.{at_after, nowhere, row_anew, row_changes, send};
 ghost use Rattle.tui_tty_laws.specs.Sent.{changes, is_same, row_shown, sent};
 
+use crate::changed::changed_end;
+use crate::fitting::{is_fit_row, put_new_fit};
 use crate::narrow::{is_narrow_row, put_all_narrow, put_new_narrow};
 use crate::seeing::{Seen, Under, see};
 use crate::sending::put_if;
-use crate::symbols::{is_same_text, is_trusted};
+use crate::symbols::is_same_text;
 use tui_cells::Cell;
 use tui_outside::{Print, Sink};
 use tui_tty::{Output, Trust};
@@ -58,7 +60,7 @@ fn put_mixed<K: Sink>(
     put_pass(print, output, false, y, left, at, row, sink);
 }
 
-/// Adds what has changed in a row.
+/// Adds what has changed in a row. Behind the last cell that differs nothing is looked at twice: a change is mostly a small part of a row.
 pub(crate) fn put_changes<K: Sink>(
     print: &mut Print,
     output: Output,
@@ -72,8 +74,11 @@ pub(crate) fn put_changes<K: Sink>(
     ensures { Gathers (K.told sink.old) (K.told sink.new) print.old print.new
         (flat_map spelling (send output y nowhere (row_changes output.trust left old.now new.now))) }
 {
-    if are_narrow(output.trust, old, new) {
-        put_new_narrow(print, output, y, left, old, new, sink);
+    let end = changed_end(old, new);
+    let front_old = &old[..end];
+    let front = &new[..end];
+    if are_narrow(output.trust, front_old, front) {
+        put_new_narrow(print, output, y, left, front_old, front, sink);
     } else {
         put_mixed_changes(print, output, y, left, old, new, sink);
     }
@@ -99,9 +104,36 @@ fn put_mixed_changes<K: Sink>(
     ensures { Gathers (K.told sink.old) (K.told sink.new) print.old print.new
         (flat_map spelling (send output y nowhere (row_changes output.trust left old.now new.now))) }
 {
-    let sure = are_trusted(output.trust, old, new);
-    if is_calm(output.trust, sure, old, new) {
-        put_new(print, output, sure, y, left, old, new, sink);
+    if are_fit(output.trust, old, new) {
+        put_new_fit(print, output, y, left, old, new, sink);
+    } else {
+        put_risky_changes(print, output, y, left, old, new, sink);
+    }
+}
+
+fn are_fit(trust: Trust, old: &[Cell], new: &[Cell]) -> bool
+    ensures { result ≡ (are_fit trust old.now && are_fit trust new.now) }
+{
+    is_fit_row(trust, old) && is_fit_row(trust, new)
+}
+
+// Adds what has changed where some symbol may be risky: all of the row, if one comes or goes.
+#[inline(never)]
+fn put_risky_changes<K: Sink>(
+    print: &mut Print,
+    output: Output,
+    y: usize,
+    left: usize,
+    old: &[Cell],
+    new: &[Cell],
+    sink: &mut K,
+)
+    requires { (length old.now ≡ length new.now) × (left + length new.now ≤ 65535) × (y < 65536) }
+    ensures { Gathers (K.told sink.old) (K.told sink.new) print.old print.new
+        (flat_map spelling (send output y nowhere (row_changes output.trust left old.now new.now))) }
+{
+    if is_calm(output.trust, old, new) {
+        put_new(print, output, y, left, old, new, sink);
     } else {
         put_anew(print, output, y, left, new, sink);
     }
@@ -128,7 +160,7 @@ fn put_pass<K: Sink>(
     let mut under = Under::none();
     'columns: for column in 0..row.len() {
         let cell = &row[column];
-        let seen = see(output.trust, false, under, row.len() - column, cell);
+        let seen = see(output.trust, under, row.len() - column, cell);
         let wanted = is_in_pass(risky, seen);
         now = put_if(print, output, y, now, left + column, wanted, seen, sink);
         under = seen.under;
@@ -136,19 +168,17 @@ fn put_pass<K: Sink>(
     now
 }
 
-// Adds the cells of a row that did not show so before. `sure` says that a terminal is trusted with all symbols of both rows.
+// Adds the cells of a row that did not show so before.
 fn put_new<K: Sink>(
     print: &mut Print,
     output: Output,
-    sure: bool,
     y: usize,
     left: usize,
     old: &[Cell],
     new: &[Cell],
     sink: &mut K,
 )
-    requires { (length old.now ≡ length new.now) × (left + length new.now ≤ 65535) × (y < 65536)
-        × (sure ≡ true → (list_all (λ c. is_trusted output.trust c.symbol) old.now && list_all (λ c. is_trusted output.trust c.symbol) new.now) ≡ true) }
+    requires { (length old.now ≡ length new.now) × (left + length new.now ≤ 65535) × (y < 65536) }
     ensures { Gathers (K.told sink.old) (K.told sink.new) print.old print.new (flat_map spelling (send output y nowhere
         (changes output.trust left (row_shown output.trust old.now) (row_shown output.trust new.now)))) }
 {
@@ -158,8 +188,8 @@ fn put_new<K: Sink>(
     'columns: for column in 0..new.len() {
         let cell_old = &old[column];
         let cell = &new[column];
-        let before = see(output.trust, sure, was, new.len() - column, cell_old);
-        let seen = see(output.trust, sure, is, new.len() - column, cell);
+        let before = see(output.trust, was, new.len() - column, cell_old);
+        let seen = see(output.trust, is, new.len() - column, cell);
         let wanted = is_new(before, seen);
         now = put_if(print, output, y, now, left + column, wanted, seen, sink);
         was = before.under;
@@ -167,39 +197,8 @@ fn put_new<K: Sink>(
     }
 }
 
-// Whether no risky symbol comes or goes. In most rows there is none.
-fn is_calm(trust: Trust, sure: bool, old: &[Cell], new: &[Cell]) -> bool
-    requires { (length old.now ≡ length new.now) × (length new.now < 65536)
-        × (sure ≡ true → (list_all (λ c. is_trusted trust c.symbol) old.now && list_all (λ c. is_trusted trust c.symbol) new.now) ≡ true) }
-    ensures { (left : ℕ) → result ≡ is_calm_both trust left old.now new.now }
-{
-    if sure {
-        true
-    } else {
-        is_calm_at_each(trust, old, new)
-    }
-}
-
-fn are_trusted(trust: Trust, old: &[Cell], new: &[Cell]) -> bool
-    ensures { result ≡ (list_all (λ c. is_trusted trust c.symbol) old.now && list_all (λ c. is_trusted trust c.symbol) new.now) }
-{
-    is_trusted_row(trust, old) && is_trusted_row(trust, new)
-}
-
-// Whether a terminal is trusted with each symbol of a row.
-fn is_trusted_row(trust: Trust, row: &[Cell]) -> bool
-    ensures { result ≡ list_all (λ c. is_trusted trust c.symbol) row.now }
-{
-    'columns: for column in 0..row.len() {
-        let cell = &row[column];
-        if !is_trusted(trust, cell.symbol()) {
-            return false;
-        }
-    }
-    true
-}
-
-fn is_calm_at_each(trust: Trust, old: &[Cell], new: &[Cell]) -> bool
+// Whether no risky symbol comes or goes.
+fn is_calm(trust: Trust, old: &[Cell], new: &[Cell]) -> bool
     requires { (length old.now ≡ length new.now) × (length new.now < 65536) }
     ensures { (left : ℕ) → result ≡ is_calm_both trust left old.now new.now }
 {
@@ -208,8 +207,8 @@ fn is_calm_at_each(trust: Trust, old: &[Cell], new: &[Cell]) -> bool
     'columns: for column in 0..new.len() {
         let cell_old = &old[column];
         let cell = &new[column];
-        let before = see(trust, false, was, new.len() - column, cell_old);
-        let seen = see(trust, false, is, new.len() - column, cell);
+        let before = see(trust, was, new.len() - column, cell_old);
+        let seen = see(trust, is, new.len() - column, cell);
         if is_alarm(before, seen) {
             return false;
         }

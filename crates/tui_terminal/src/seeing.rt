@@ -1,6 +1,6 @@
 //! What shows in the columns of a row.
 
-ghost use Rattle.std.specs.Prelude.{◌≡◌, ◌-◌, ◌<◌, ◌≤◌, ◌==◌, Some, true};
+ghost use Rattle.std.specs.Prelude.{◌≡◌, ◌-◌, ◌<◌, ◌≤◌, ◌==◌, Some};
 ghost use Rattle.tui_terminal.specs.Seeing.{blank_of, cover_of, shown_in};
 ghost use Rattle.tui_text.specs.Visible.{step_of};
 ghost use Rattle.tui_tty.specs.Pieces.{covered, next_cover, seen, shown, uncovered};
@@ -47,17 +47,10 @@ impl Under {
     }
 }
 
-/// What shows in the column of a cell, where this many columns are left in the row. `sure` says that the terminal is known to be trusted
-/// with the cell's symbol; else that is looked up.
+/// What shows in the column of a cell, where this many columns are left in the row.
 #[inline(always)]
-pub(crate) fn see<'c>(
-    trust: Trust,
-    sure: bool,
-    under: Under,
-    room: usize,
-    cell: &'c Cell,
-) -> Seen<'c>
-    requires { (0 < room) × (room < 65536) × (sure ≡ true → is_trusted trust cell.now.symbol ≡ true) }
+pub(crate) fn see<'c>(trust: Trust, under: Under, room: usize, cell: &'c Cell) -> Seen<'c>
+    requires { (0 < room) × (room < 65536) }
     ensures shown { shown_in result ≡ shown trust (cover_of under) room cell.now }
     ensures next { cover_of result.under ≡ next_cover trust (cover_of under) room cell.now }
     ensures fits { result.columns ≤ room }
@@ -65,7 +58,7 @@ pub(crate) fn see<'c>(
     ensures trusted { result.trusted ≡ is_trusted trust result.symbol.now }
 {
     if is_open(under) {
-        see_open(trust, sure, room, cell)
+        see_open(trust, room, cell)
     } else {
         see_under(trust, under)
     }
@@ -80,8 +73,8 @@ fn is_open(under: Under) -> bool
 
 // A symbol that may not be sent is blanks in its columns.
 #[inline(always)]
-fn see_open<'c>(trust: Trust, sure: bool, room: usize, cell: &'c Cell) -> Seen<'c>
-    requires { (0 < room) × (room < 65536) × (sure ≡ true → is_trusted trust cell.now.symbol ≡ true) }
+fn see_open<'c>(trust: Trust, room: usize, cell: &'c Cell) -> Seen<'c>
+    requires { (0 < room) × (room < 65536) }
     ensures shown { shown_in result ≡ Some (seen trust room cell.now) }
     ensures next { cover_of result.under ≡ covered trust room cell.now }
     ensures fits { result.columns ≤ room }
@@ -101,7 +94,7 @@ fn see_open<'c>(trust: Trust, sure: bool, room: usize, cell: &'c Cell) -> Seen<'
             under: Under::none(),
         };
     }
-    let known = known_of(trust, sure, symbol);
+    let known = known_of(trust, symbol);
     let left = known.columns.min(room) - 1;
     if is_sendable(symbol, room, known.columns, known.trusted) {
         Seen {

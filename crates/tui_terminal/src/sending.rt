@@ -1,10 +1,10 @@
 //! The bytes that send a cell.
 
-ghost use Rattle.std.specs.Prelude.{◌≡◌, ◌+◌, ◌<◌, ◌≤◌, [], ◌∷◌, flat_map, if◌then◌else◌};
-ghost use Rattle.tui_cells.specs.Cell.{space};
+ghost use Rattle.std.specs.Prelude.{◌≡◌, ◌+◌, ◌<◌, ◌≤◌, [], ◌∷◌, flat_map, if◌then◌else◌, length, slice_index_or, true};
+ghost use Rattle.tui_cells.specs.Cell.{blank, space};
 ghost use Rattle.tui_outside.specs.Gathers.{Gathers};
 ghost use Rattle.tui_terminal.specs.Seeing.{look_in};
-ghost use Rattle.tui_terminal.specs.Sent.{is_before, is_pen, is_there, placed_at, placed_if};
+ghost use Rattle.tui_terminal.specs.Sent.{at_behind, is_before, is_pen, is_there, placed_at, placed_if};
 ghost use Rattle.tui_text.specs.Visible.{step_of};
 ghost use Rattle.tui_tty.specs.Pens.{paints_of, pen_of};
 ghost use Rattle.tui_tty.specs.Spelling.{spelling};
@@ -16,7 +16,7 @@ use crate::adding::put_repaint;
 use crate::pens::put_pen;
 use crate::seeing::Seen;
 use crate::spelling::{put_across, put_place};
-use tui_cells::Attributes;
+use tui_cells::{Attributes, Cell};
 use tui_outside::{Print, Sink};
 use tui_tty::{Depth, Output};
 use tui_tty_laws::At;
@@ -54,6 +54,88 @@ pub(crate) fn put_if<K: Sink>(
         )
     } else {
         at
+    }
+}
+
+/// How far a row was sent: the place behind the last cell that was, 0 where none was, and the one where the cursor stands then.
+#[derive(Clone, Copy)]
+pub(crate) struct Reached {
+    pub last: usize,
+    pub after: usize,
+}
+
+impl Reached {
+    /// No cell was sent.
+    pub(crate) fn none() -> Reached
+        ensures { result ≡ record { last = 0; after = 0 } }
+    {
+        Reached { last: 0, after: 0 }
+    }
+}
+
+// What is known when a row was sent so far. It is read off the row each time, since what is carried from cell to cell would stand in memory.
+#[inline(always)]
+fn at_behind(left: usize, row: &[Cell], reached: Reached) -> At
+    requires { (reached.last ≤ length row.now) × (left + reached.after ≤ 65535) }
+    ensures { result ≡ at_behind left row.now reached.last reached.after }
+{
+    if reached.last == 0 {
+        return At::nowhere();
+    }
+    At {
+        column: left + reached.after,
+        placed: true,
+        pen: row[reached.last - 1].attributes(),
+        painted: true,
+    }
+}
+
+/// Adds what sends the cell of a row at a place, with whose symbol a terminal is trusted, if it is wanted, and answers how far the row was sent then.
+/// `columns` is how many it takes.
+#[inline(always)]
+pub(crate) fn put_cell_if<K: Sink>(
+    print: &mut Print,
+    output: Output,
+    y: usize,
+    left: usize,
+    row: &[Cell],
+    reached: Reached,
+    place: usize,
+    columns: usize,
+    wanted: bool,
+    sink: &mut K,
+) -> Reached
+    requires within { (left + length row.now ≤ 65535) × (y < 65536) × (place + columns ≤ length row.now) × (reached.last ≤ place)
+        × (reached.after ≤ length row.now) }
+    requires cell { (columns ≡ step_of (slice_index_or row.now place blank).symbol) × (is_trusted output.trust (slice_index_or row.now place blank).symbol ≡ true) }
+    ensures is { result ≡ (if wanted then record { last = place + 1; after = place + columns } else reached) }
+    ensures next { at_behind left row.now result.last result.after
+        ≡ at_after output.trust (at_behind left row.now reached.last reached.after) (placed_if wanted (left + place) (slice_index_or row.now place blank)) }
+    ensures put { Gathers (K.told sink.old) (K.told sink.new) print.old print.new (flat_map spelling
+        (send output y (at_behind left row.now reached.last reached.after) (placed_if wanted (left + place) (slice_index_or row.now place blank)))) }
+{
+    if !wanted {
+        return reached;
+    }
+    let cell = &row[place];
+    let at = at_behind(left, row, reached);
+    let symbol = cell.symbol();
+    let attributes = cell.attributes();
+    put_piece(
+        print,
+        output,
+        y,
+        at,
+        left + place,
+        symbol,
+        attributes,
+        columns,
+        true,
+        sink,
+    );
+    Reached {
+        last: place + 1,
+        after: place + columns,
     }
 }
 

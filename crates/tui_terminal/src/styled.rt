@@ -79,7 +79,7 @@ fn put_styled_cell<K: Sink>(
         × Gathers (K.told sink.old) (K.told sink.new) print.old print.new (flat_map spelling cs) }
     ensures under { cover_of result.under ≡ next_cover Common (cover_of place.under) room cell.now }
 {
-    let seen = see(Trust::Common, false, place.under, room, cell);
+    let seen = see(Trust::Common, place.under, room, cell);
     let under = seen.under;
     if seen.shows {
         put_change(print, depth, place.pen, seen.attributes, sink);

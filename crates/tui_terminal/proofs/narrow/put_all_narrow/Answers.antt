@@ -1,10 +1,14 @@
-use Rattle.std.proofs.Common.{◌+◌, ◌<◌, ◌≤◌, [], ◌++◌, length, rules, refl, true, sym, ap, ◌∙◌, arith}
+use Rattle.std.proofs.Common.{◌+◌, ◌<◌, ◌≤◌, [], ◌++◌, length, get_or, rules, refl, true, sym, ap, ◌∙◌, arith}
+use Rattle.std.proofs.lemmas.List.{get_or_default}
+use Rattle.tui_cells.specs.Cell.{blank}
 use Rattle.tui_outside.proofs.Gathering.{Gathers-none, Gathers-then}
 use Rattle.tui_tty_laws.specs.declared.at.At.{At}
 use Rattle.tui_tty_laws.specs.declared.wanted.Wanted.TheVariants.{Trusted}
 use Rattle.tui_tty_laws.specs.Sending.{at_after, nowhere}
 use Rattle.tui_terminal.specs.Narrow.{is_narrow}
-use Rattle.tui_terminal.specs.Sent.{placed_if}
+use Rattle.tui_terminal.specs.Sent.{at_behind, placed_if}
+use Rattle.tui_terminal.proofs.AtBehind.{behind_begin, within_begin, within_more}
+use Rattle.tui_terminal.proofs.NarrowLooks.{narrow_steps, narrow_trusted}
 use Rattle.tui_terminal.proofs.NarrowWalks.{all_here, narrow_begin, narrow_done, narrow_more, narrow_row}
 use Rattle.tui_terminal.proofs.RowTests.{tested_cell}
 use Rattle.tui_terminal.proofs.Texts.{Gathers-text}
@@ -13,35 +17,47 @@ use Rattle.tui_terminal.proofs.narrow.put_all_narrow.Goals as goal
 
 pub columns-init : goal.columns-init
 columns-init g c =
-    let a = c.args in (
+    let a = c.args in
+    let none = c.none-reached.ensures in (
       [],
       Gathers-text (send_none a.output a.y nowhere) (Gathers-none _ _),
-      c.nowhere-now.ensures ∙ at_none a.output.trust nowhere,
+      behind_begin a.left a.row.now c.none-reached.result none ∙ at_none a.output.trust nowhere,
       narrow_begin a.output.trust Trusted a.left a.row.now a.row.now,
+      within_begin a.row.now c.none-reached.result none,
     )
 
-pub put_narrow_if-now-requires : goal.put_narrow_if-now-requires
-put_narrow_if-now-requires g c =
+pub put_cell_if-reached-requires : goal.put_cell_if-reached-requires
+put_cell_if-reached-requires g c =
     let a = c.args in
     let i = c.columns.column in
-    let lt : i < length a.row.now = search (rules, arith) in
-    (omega (arith, lt, c.requires.0), c.requires.1, tested_cell (is_narrow a.output.trust) a.row.now i c.index-row-column.result lt c.index-row-column.is c.requires.2)
+    let row = a.row.now in
+    let n = get_or row i blank in
+    let lt : i < length row = search (rules, arith) in
+    let e = tested_cell (is_narrow a.output.trust) row i n lt (get_or_default row i blank n lt) c.requires.2 in
+    let within = c.columns.invariant.4 in
+    record {
+      within = (c.requires.0, c.requires.1, omega (arith, lt), within.last, within.after);
+      cell = (sym (narrow_steps a.output.trust n.symbol e), narrow_trusted a.output.trust n.symbol e);
+    }
 
 pub columns-preserved : goal.columns-preserved
 columns-preserved g c =
     let a = c.args in
-    let l = c.columns in
-    let i = l.column in
-    let inv = l.invariant in
-    let o = c.index-row-column.result in
-    let n = c.index-row-column.result in
-    let lt : i < length a.row.now = search (rules, arith) in
+    let i = c.columns.column in
+    let inv = c.columns.invariant in
+    let r = c.columns.reached in
+    let trust = a.output.trust in
+    let row = a.row.now in
+    let n = get_or row i blank in
+    let lt : i < length row = search (rules, arith) in
+    let is = get_or_default row i blank n lt in
     let here = placed_if true (a.left + i) n in
-    let same = all_here a.output.trust (a.left + i) n (tested_cell (is_narrow a.output.trust) a.row.now i n lt c.index-row-column.is c.requires.2) in (
+    let same = all_here trust (a.left + i) n (tested_cell (is_narrow trust) row i n lt is c.requires.2) in (
       inv.0 ++ here,
-      Gathers-text (send_more a.output a.y nowhere l.now inv.0 here inv.2) (Gathers-then inv.1 c.put_narrow_if-now.ensures.put),
-      c.put_narrow_if-now.ensures.next ∙ (ap (λ (k : At). at_after a.output.trust k here) inv.2 ∙ sym (at_append a.output.trust nowhere inv.0 here)),
-      narrow_more a.output.trust Trusted a.left i a.row.now a.row.now o n here inv.0 _ lt refl c.index-row-column.is c.index-row-column.is same inv.3,
+      Gathers-text (send_more a.output a.y nowhere (at_behind a.left row r.last r.after) inv.0 here inv.2) (Gathers-then inv.1 c.put_cell_if-reached.ensures.put),
+      c.put_cell_if-reached.ensures.next ∙ (ap (λ (k : At). at_after trust k here) inv.2 ∙ sym (at_append trust nowhere inv.0 here)),
+      narrow_more trust Trusted a.left i row row n n here inv.0 _ lt refl is is same inv.3,
+      within_more row true i 1 r c.put_cell_if-reached.result inv.4 (omega (arith, lt)) c.put_cell_if-reached.ensures.is,
     )
 
 pub returns : goal.returns

@@ -5,6 +5,8 @@ use Rattle.tui_tty.specs.Spelling.{spelling}
 use Rattle.tui_tty_laws.specs.declared.wanted.Wanted.TheVariants.{Changed}
 use Rattle.tui_tty_laws.specs.Sending.{at_after, nowhere, send}
 use Rattle.tui_tty_laws.specs.Sent.{sent}
+use Rattle.tui_terminal.specs.Sent.{at_behind}
+use Rattle.tui_terminal.proofs.AtBehind.{IsWithin}
 use Rattle.tui_terminal.proofs.NarrowRows.{map_some}
 use Rattle.tui_terminal.proofs.narrow.put_new_narrow.Given as goal
 
@@ -15,6 +17,7 @@ invariant-columns g l =
     let trust = l.output.trust in
     (done : List Placed)
     × Gathers (k.told l.fn.sink) (k.told l.sink) l.fn.print l.print (flat_map spelling (send l.output l.y nowhere done))
-    × (l.now ≡ at_after trust nowhere done)
+    × (at_behind l.left l.new l.reached.last l.reached.after ≡ at_after trust nowhere done)
     × (done ++ sent trust Changed (l.left + l.column) (map_some (drop l.column l.old)) (map_some (drop l.column l.new))
     ≡ sent trust Changed l.left (map_some l.old) (map_some l.new))
+    × IsWithin l.new l.column l.reached

@@ -1,17 +1,13 @@
 use Rattle.std.proofs.Common.{◌+◌, ◌-◌, ◌<◌, ◌≤◌, [], ◌++◌, flat_map, length, rules, refl, sym, ap, ◌∙◌, arith, List}
-use Rattle.std.specs.List.{list_all}
-use Rattle.std.proofs.lemmas.Bool.{and_parts}
 use Rattle.tui_outside.proofs.Gathering.{Gathers-none, Gathers-then}
 use Rattle.tui_text.specs.Visible.{Placed}
 use Rattle.tui_tty.specs.Pieces.{shown, uncovered}
 use Rattle.tui_tty.specs.Spelling.{spelling}
-use Rattle.tui_tty.specs.Symbols.{is_trusted}
 use Rattle.tui_tty_laws.specs.declared.at.At.{At}
 use Rattle.tui_tty_laws.specs.declared.wanted.Wanted.TheVariants.{Changed}
 use Rattle.tui_tty_laws.specs.Sending.{at_after, nowhere, send}
 use Rattle.tui_terminal.specs.Seeing.{cover_of, look_in, shown_in}
 use Rattle.tui_terminal.specs.Sent.{placed_if}
-use Rattle.tui_terminal.proofs.RowTests.{tested_cell}
 use Rattle.tui_terminal.proofs.Texts.{Gathers-text}
 use Rattle.tui_terminal.proofs.Walking.{at_append, at_none, new_is, send_more, send_none, walk_begin, walk_end, walk_more}
 use Rattle.tui_terminal.proofs.rows.put_new.Goals as goal
@@ -23,31 +19,6 @@ columns-init g c =
       Gathers-text (send_none a.output a.y nowhere) (Gathers-none _ _),
       c.nowhere-now.ensures ∙ at_none a.output.trust nowhere,
       walk_begin a.output.trust Changed a.left _ _ uncovered a.old.now a.new.now c.none-was.ensures c.none-is.ensures,
-    )
-
-pub see-before-requires : goal.see-before-requires
-see-before-requires g c =
-    let a = c.args in
-    let i = c.columns.column in
-    let trust = a.output.trust in
-    let lt : i < length a.new.now = search (rules, arith) in
-    let lt_old : i < length a.old.now = omega (arith, c.requires.0) in (
-      omega (arith, lt),
-      omega (arith, c.requires.1),
-      λ on. tested_cell (is_trusted trust) a.old.now i c.index-old-column.result lt_old c.index-old-column.is
-          (and_parts (list_all (λ k. is_trusted trust k.symbol) a.old.now) (list_all (λ k. is_trusted trust k.symbol) a.new.now) (c.requires.3 on)).0,
-    )
-
-pub see-seen-requires : goal.see-seen-requires
-see-seen-requires g c =
-    let a = c.args in
-    let i = c.columns.column in
-    let trust = a.output.trust in
-    let lt : i < length a.new.now = search (rules, arith) in (
-      omega (arith, lt),
-      omega (arith, c.requires.1),
-      λ on. tested_cell (is_trusted trust) a.new.now i c.index-new-column.result lt c.index-new-column.is
-          (and_parts (list_all (λ k. is_trusted trust k.symbol) a.old.now) (list_all (λ k. is_trusted trust k.symbol) a.new.now) (c.requires.3 on)).1,
     )
 
 pub columns-preserved : goal.columns-preserved

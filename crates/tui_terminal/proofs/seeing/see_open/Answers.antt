@@ -1,7 +1,6 @@
-use Rattle.std.proofs.Common.{◌≡◌, ◌-◌, min, rules, true, false, arith, sym, ap, ◌∙◌}
+use Rattle.std.proofs.Common.{◌≡◌, ◌-◌, min, rules, true, false, arith, sym, ◌∙◌}
 use Rattle.tui_text.proofs.ShownCells.{some_step}
 use Rattle.tui_text.specs.Visible.{step_of}
-use Rattle.tui_tty.specs.Symbols.{is_trusted}
 use Rattle.tui_terminal.proofs.Looks.{as_blank, as_it_is, byte_covers, byte_shown, byte_steps, byte_trusted, cover_as_blank, cover_as_it_is, fits_as_it_is, sendable_is}
 use Rattle.tui_terminal.proofs.NarrowLooks.{trusted_quiet}
 use Rattle.tui_tty_laws.proofs.Seen.{blank_step, blank_trusted}
@@ -9,9 +8,6 @@ use Rattle.tui_terminal.proofs.seeing.see_open.Goals as goal
 
 pub overflow_sub-left : goal.overflow_sub-left
 overflow_sub-left c = omega (arith, c.known_of-known.ensures.columns, c.min-left.ensures, some_step c.symbol-symbol.result.now, c.requires.0)
-
-pub known_of-known-requires : goal.known_of-known-requires
-known_of-known-requires c = λ on. ap (is_trusted c.args.trust) c.symbol-symbol.ensures.is ∙ c.requires.2 on
 
 pub is_sendable-requires : goal.is_sendable-requires
 is_sendable-requires c = (

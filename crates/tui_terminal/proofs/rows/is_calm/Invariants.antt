@@ -5,7 +5,7 @@ use Rattle.tui_tty.specs.Symbols.{is_trusted}
 use Rattle.tui_tty_laws.specs.declared.wanted.Wanted.TheVariants.{Changed}
 use Rattle.tui_tty_laws.specs.Sent.{row_shown, sent}
 use Rattle.tui_terminal.specs.Seeing.{cover_of}
-use Rattle.tui_terminal.proofs.rows.is_calm_at_each.Given as goal
+use Rattle.tui_terminal.proofs.rows.is_calm.Given as goal
 
 -- the cells that are still to come decide, whichever row is the new one
 abbrev pub invariant-columns : goal.invariant-columns

@@ -1,8 +1,0 @@
-use Rattle.std.proofs.Common.{◌≡◌, drop}
-use Rattle.std.specs.List.{list_all}
-use Rattle.tui_tty.specs.Symbols.{is_trusted}
-use Rattle.tui_terminal.proofs.rows.is_trusted_row.Given as goal
-
--- the cells that are still to come decide
-abbrev pub invariant-columns : goal.invariant-columns
-invariant-columns l = list_all (λ c. is_trusted l.trust c.symbol) (drop l.column l.row) ≡ list_all (λ c. is_trusted l.trust c.symbol) l.row
