@@ -11,7 +11,8 @@ use tui::scene::Item;
 use tui::style::{Color, Modifier, Style};
 use tui::symbols::MergeStrategy;
 use tui::terminal::{
-    Cursor, Depth, Output, Sink, Trust, WriteFault, write_changes, write_full, write_styled_rows,
+    Cursor, Depth, Output, Sink, Trust, WriteFault, settle, write_changes, write_full,
+    write_styled_rows,
 };
 use tui::text::{Line, Text};
 use tui::widgets::{
@@ -246,6 +247,28 @@ fn put_frame<K: Sink>(shown: &Buffer, next: &Buffer, sink: &mut K) -> Result<(),
     } else {
         write_full(next, output, sink)
     }
+}
+
+const INLINE: Output = Output {
+    depth: Depth::Palette,
+    trust: Trust::Common,
+    cursor: Cursor::Hidden,
+    hold: false,
+};
+
+/// Shows the first frame of a display, or the next one of the same area.
+fn show<K: Sink>(shown: Option<&Buffer>, next: &Buffer, sink: &mut K) -> Result<(), WriteFault> {
+    match shown {
+        Some(shown) if shown.area() == next.area() => write_changes(shown, next, INLINE, sink),
+        _ => write_full(next, INLINE, sink),
+    }
+}
+
+/// Shows two frames, and leaves the second one standing.
+fn show_two<K: Sink>(first: &Buffer, next: &Buffer, sink: &mut K) -> Result<(), WriteFault> {
+    show(None, first, sink)?;
+    show(Some(first), next, sink)?;
+    settle(sink)
 }
 
 fn rows_of(screen: Rect, part: Option<&Segment>) -> Rect {

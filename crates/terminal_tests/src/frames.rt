@@ -7,7 +7,7 @@ ghost use Rattle.tui_tty.specs.Shows.{IsPlace};
 use std::alloc::Global;
 use tui_cells::{Buffer, Color, Mem, Modifier, Position, Rect, Style};
 use tui_outside::MemSink;
-use tui_terminal::{Cursor, Depth, Output, Trust, write_changes, write_full};
+use tui_terminal::{Cursor, Depth, Output, Trust, settle, write_changes, write_full};
 
 /// What a full screen begins with.
 const TAME: &str = "\x18\x1b\\\x1b[?2026l\x1b[?69l\x1b[?6l\x1b[4l\x1b[r\x1b(B\x0f\x1b[?7l";
@@ -27,7 +27,7 @@ const FEW: Output = Output {
 };
 
 // One row of four columns, from column 2 of row 1 on.
-pub(crate) fn row(alloc: Global, symbols: [&str; 4]) -> Mem<Buffer>
+fn row(alloc: Global, symbols: [&str; 4]) -> Mem<Buffer>
     ensures { IfOk result (λ b. b.area ≡ area_of 2 1 4 1) }
 {
     let mut b = Buffer::empty(alloc, Rect::new(2, 1, 4, 1))?;
@@ -46,7 +46,7 @@ fn is_full(alloc: Global, buf: &Buffer, output: Output, text: &str) -> Mem<bool>
     Ok(is_whole && is_behind_tame(sink.bytes(), text))
 }
 
-pub(crate) fn is_behind_tame(bytes: &[u8], text: &str) -> bool {
+fn is_behind_tame(bytes: &[u8], text: &str) -> bool {
     bytes.len() == TAME.len() + text.len()
         && bytes.starts_with(TAME.as_bytes())
         && bytes.ends_with(text.as_bytes())
@@ -126,5 +126,24 @@ fn changes(rt: HostRuntime) -> Mem<()> {
     let same = row(alloc, ["a", "字", "c", "d"])?;
     assert!(&rt; is_change(alloc, &wide, &same, "")?);
     assert!(&rt; is_change(alloc, &old, &wide, "\x1b[2;4H\x1b[0m字")?);
+    Ok(())
+}
+
+#[test]
+fn a_progress_on_the_main_screen(rt: HostRuntime) -> Mem<()> {
+    let alloc = rt.alloc();
+    let first = row(alloc, ["1", "0", " ", "%"])?;
+    let next = row(alloc, ["2", "0", " ", "%"])?;
+    let mut sink = MemSink::new(alloc, 256, Vec::new(alloc))?;
+    let is_whole = write_full(&first, COMMON, &mut sink).is_ok()
+        && write_changes(&first, &next, COMMON, &mut sink).is_ok()
+        && settle(&mut sink).is_ok();
+    assert!(&rt;
+        is_whole
+            && is_behind_tame(
+                sink.bytes(),
+                "\x1b[2;3H\x1b[0mÀ\x1b[2;3H\x1b[0m10 %\x1b[2;3H\x1b[0m2\x1b[?2026l\x1b[0m\x1b[?7h\x1b[?25h",
+            )
+    );
     Ok(())
 }
