@@ -185,7 +185,7 @@ def watches(tmux):
     if not is_built("tui_watch"):
         return
     shutil.copytree(CRATES / "tui_watch/data/machine", tmux.folder / "machine")
-    lives(tmux, Living("tui_watch machine", ["load 0.52 0.58 0.59", "2 processors 18%", "PID S"], ["load 0.52 0.58 0.59"], ["load 0.5"]))
+    lives(tmux, Living("tui_watch machine", ["load 0.52 0.58 0.59", "2 processors ", "PID S"], ["load 0.52 0.58 0.59"], ["load 0.5"]))
     tmux.start("tui_watch machine", "load 0.52")
     (tmux.folder / "machine/loadavg").write_text("9.00 1.00 1.00 1/2 3\n", encoding="utf-8")
     tmux.shows("the next second", "load 9.00 1.00 1.00")
