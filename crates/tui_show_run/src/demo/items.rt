@@ -5,6 +5,7 @@ ghost use Rattle.std.specs.List.{repeat};
 ghost use Rattle.tui_show_run.specs.Demo.Scene.{demo_item, demo_items};
 ghost use Rattle.tui_lists.specs.ListItem.{list_item_data};
 ghost use Rattle.tui_text.specs.Line.{line_data, raw_line};
+ghost use Rattle.tui_text.specs.Text.{empty_text, text_data};
 
 use crate::demo::letters::letter_text;
 use std::alloc::Global;
@@ -28,11 +29,29 @@ fn demo_item<'t>(alloc: Global, i: u32) -> Mem<ListItem<'t>>
     ensures { IfOk result (λ item. list_item_data item ≡ demo_item i) }
 {
     let letter: &'t str = letter_text(i);
-    let lines = repeated(alloc, letter, 1 + i % 3)?;
-    Ok(ListItem::new(Text::from(lines)))
+    Ok(ListItem::new(item_text(alloc, letter, 1 + i % 3)?))
 }
 
-/// So many lines of a text.
+/// A text of `count` lines. One line stands in its text, and takes no memory.
+fn item_text<'t>(alloc: Global, line: &'t str, count: u32) -> Mem<Text<'t>>
+    ensures { IfOk result (λ text. text_data text ≡ record empty_text { lines = repeat count (raw_line line.now ∷ []) }) }
+{
+    if count == 1 {
+        one_line(alloc, line)
+    } else {
+        Ok(Text::from(repeated(alloc, line, count)?))
+    }
+}
+
+fn one_line<'t>(alloc: Global, line: &'t str) -> Mem<Text<'t>>
+    ensures { IfOk result (λ text. text_data text ≡ record empty_text { lines = raw_line line.now ∷ [] }) }
+{
+    let mut text = Text::new(alloc);
+    text.push_line(Line::raw(alloc, line)?)?;
+    Ok(text)
+}
+
+/// `count` lines of a text.
 fn repeated<'t>(alloc: Global, text: &'t str, count: u32) -> Mem<Vec<Line<'t>>>
     ensures { IfOk result (λ lines. map line_data lines.items ≡ repeat count (raw_line text.now ∷ [])) }
 {
