@@ -30,6 +30,14 @@ pub(crate) fn next_grapheme(text: &str, max_width: u16) -> Next<'_>
     if let Some(grapheme) = printable_grapheme(text, max_width) {
         return Next::Grapheme(grapheme);
     }
+    other_grapheme(text, max_width)
+}
+
+// The room for what a call answers is made where a function begins: so this one begins only where the call is made.
+#[inline(always)]
+fn other_grapheme(text: &str, max_width: u16) -> Next<'_>
+    ensures { IsNextOf max_width text.now result }
+{
     looked_up_grapheme(text, max_width)
 }
 
