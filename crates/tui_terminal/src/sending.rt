@@ -107,7 +107,8 @@ pub(crate) fn put_cell_if<K: Sink>(
 ) -> Reached
     requires within { (left + length row.now ≤ 65535) × (y < 65536) × (place + columns ≤ length row.now) × (reached.last ≤ place)
         × (reached.after ≤ length row.now) }
-    requires cell { (columns ≡ step_of (slice_index_or row.now place blank).symbol) × (is_trusted output.trust (slice_index_or row.now place blank).symbol ≡ true) }
+    requires cell { (columns ≡ step_of (slice_index_or row.now place blank).symbol)
+        × (is_trusted output.trust (slice_index_or row.now place blank).symbol ≡ true) }
     ensures is { result ≡ (if wanted then record { last = place + 1; after = place + columns } else reached) }
     ensures next { at_behind left row.now result.last result.after
         ≡ at_after output.trust (at_behind left row.now reached.last reached.after) (placed_if wanted (left + place) (slice_index_or row.now place blank)) }
