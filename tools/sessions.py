@@ -14,8 +14,10 @@ import tempfile
 import threading
 from typing import NamedTuple
 
+import ends
 from faulty import ROOT, fail, refusing_library
 
+ENTER, LEAVE = ends.ENTER.encode("latin-1"), ends.LEAVE.encode("latin-1")
 BEFORE = "what stood there before\n"
 
 
@@ -35,15 +37,6 @@ class Living(NamedTuple):
     def answered(self):
         """What stands in the file of its answers."""
         return self.answers.read_text(encoding="utf-8") if self.answers else BEFORE
-
-
-def ends_of_session():
-    """The bytes that enter and that leave, as crates/tui_terminal has them."""
-    found = re.findall(r'b"((?:[^"\\]|\\.)*)"', (ROOT / "crates/tui_terminal/src/session.rt").read_text(encoding="utf-8"))
-    return [text.encode().decode("unicode_escape").encode("latin-1") for text in found]
-
-
-ENTER, LEAVE = ends_of_session()
 
 
 def one_a_read(living, keys, environment):
