@@ -27,7 +27,7 @@ pub(crate) struct Session {
 }
 
 impl Session {
-    /// Writes the rows of the first screen, and of the one behind each read.
+    /// Writes the rows of the first screen, and of the one behind each read; then the state at the end.
     pub(crate) fn show<W: Write>(&self, alloc: Global, out: &mut W) -> Result<()> {
         let entries = self.entries(alloc)?;
         let reads = bytes_of(alloc, &self.reads)?;
@@ -40,7 +40,7 @@ impl Session {
         for screen in &screens {
             tell(alloc, screen, out)?;
         }
-        Ok(())
+        tell_state(&app, out)
     }
 
     fn entries(&self, alloc: Global) -> Result<Vec<Entry<'_>>, AllocError> {
@@ -53,6 +53,17 @@ impl Session {
         }
         Ok(entries)
     }
+}
+
+/// Writes the selected entry, the first entry in the list, and the first line of the body, each counted from 0.
+fn tell_state<W: Write>(app: &PagerApp<'_>, out: &mut W) -> Result<()> {
+    let state = app.state();
+    match state.selected {
+        Some(selected) => write!(out, "state {selected}")?,
+        None => write!(out, "state -")?,
+    }
+    writeln!(out, " {} {}", state.offset, state.line)?;
+    Ok(())
 }
 
 /// The bytes of each of these reads.

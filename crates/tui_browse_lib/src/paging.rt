@@ -6,14 +6,14 @@ ghost use Rattle.tui_browse_lib.specs.Paging.{PagerDraws, first_of};
 ghost use Rattle.tui_cells.specs.Buffer.{IsFilled};
 ghost use Rattle.tui_cells.specs.Cell.{blank};
 ghost use Rattle.tui_pager_lib.specs.Entry.{entry_data};
-ghost use Rattle.tui_pager_lib.specs.Laws.{after_calls, press};
+ghost use Rattle.tui_pager_lib.specs.Laws.{IsSoundPager, SeesSelected, after_calls, press};
 
 use crate::asking::{Asked, asked_by};
 use std::alloc::Global;
 use tui_app::{App, Flow, say_too_small};
 use tui_cells::{Buffer, Mem, Position};
 use tui_keys::Event;
-use tui_pager_lib::{Entry, Key, PagerSize, PagerView};
+use tui_pager_lib::{Entry, Key, PagerSize, PagerState, PagerView};
 
 /// A pager that events move. Where a screen is too small for a pager that is said on it; what is selected and shown stays, and the next size that has
 /// room shows it again.
@@ -30,6 +30,15 @@ impl<'a> PagerApp<'a> {
     {
         let pager = first_pager(alloc, width, height, entries)?;
         Ok(PagerApp { pager })
+    }
+
+    /// What is selected, and what is shown of the list and of the body: what a size that is too small leaves as it is.
+    pub fn state(&self) -> PagerState
+        ensures is { result ≡ self.now.pager.state }
+        ensures sound { IsSoundPager self.now.pager }
+        ensures seen { SeesSelected self.now.pager }
+    {
+        self.pager.state()
     }
 }
 
