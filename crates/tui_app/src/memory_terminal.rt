@@ -187,7 +187,7 @@ impl Sink for MemTerminal {
 
 impl Terminal for MemTerminal {
     /// Gives the next read. Call number k fails exactly where k is listed, or the tape has no room for the mark and the bytes; the number stays at
-    /// its last value.
+    /// its last value. What a call that failed was to give comes at the next one.
     fn wait(&mut self, into: &mut [u8; READ_ROOM]) -> Result<usize, Failed>
         ensures bound { ReadsAtMost result into.new }
         ensures tape { MatchResult result
@@ -202,6 +202,7 @@ impl Terminal for MemTerminal {
         ensures gives { IfOk result (λ n. (take n into.new ≡ take n self.old.left) × (self.new.left ≡ drop n self.old.left)) }
         ensures next { IfOk result (λ n. self.new.lengths ≡ drop 1 self.old.lengths) }
         ensures stays { (self.new.failing ≡ self.old.failing) × (self.new.capacity ≡ self.old.capacity) }
+        ensures missed { OnErr result (self.new ≡ record self.old { calls = self.new.calls; faults = self.new.faults }) }
     {
         self.calls = self.calls.saturating_add(1);
         let calls = self.calls;

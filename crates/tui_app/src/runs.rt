@@ -21,7 +21,8 @@ use tui_tty::Output;
 
 /// Runs an app on a terminal of `width` columns and `height` rows: enters, shows what the app draws, then for each read hands it the events and
 /// shows what it draws then, and leaves. A size that is told is that of the screen from then on. Of `output` all holds but the cursor, which is
-/// where the app wants it. Each ending but `WriteFault` leaves the terminal, unless there was no memory for the first screen: then nothing is put.
+/// where the app wants it. At most `MOST_READS` reads are made, which are 2^32, and behind the last of them it ends by `ManyReads`.
+/// Each ending but `WriteFault` leaves the terminal, unless there was no memory for the first screen: then nothing is put.
 /// Behind a `WriteFault` nothing more is put. The app is then as its last step or draw left it; behind a `NoMemory` nothing is said of it.
 pub fn run<A: App, T: Terminal>(
     alloc: Global,
