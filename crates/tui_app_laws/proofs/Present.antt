@@ -23,6 +23,7 @@ use Rattle.tui_tty.specs.declared.trust.Trust.{Trust}
 use Rattle.tui_tty_laws.proofs.Apart.{apart_append, begins_append}
 use Rattle.tui_tty_laws.proofs.Between.{gives_back}
 use Rattle.tui_tty_laws.proofs.Pen.{run_append}
+use Rattle.tui_tty_laws.proofs.Readings.{has_one_reading}
 
 -- what is put behind what enters, and what it makes of a terminal
 record IsShowing (o : Output) (screen : Screen) (place : Option Position) (text : List ℕ) : Type 0 where
@@ -126,6 +127,7 @@ waiting_shows b o begin area stand reads tape sent session =
       commands = now.showing.commands;
       text = now.text;
       spelled = now.showing.spelled;
+      one = λ counted others safe small e. has_one_reading others frames safe now.showing.spelled.safe small counted (e ∙ now.showing.spelled.spelled);
       sent_is = now.sent_is;
       shown = λ knows t trusts room. record { screen = now.showing.shows knows t trusts room; cursor = now.showing.cursor knows t trusts room };
       back = λ knows t whole alternates main. gives_back knows t frames whole alternates main now.showing.spelled.safe;
