@@ -97,7 +97,7 @@ missed calls o line begun old new k now miss t all been = record {
   sent = been.sent;
   given = [];
   session = been.session;
-  stops = refl;
+  stops = (refl, (line, been.cut, been.within));
   faults = subst (λ (n : ℕ). Rose n now.faults) been.took.faults miss.faults;
   taken = Appends-keeps t.bytes k.bytes now.bytes (been.tape ++ []) (rw (append-nil been.tape) been.took.taken) miss.kept;
 }
@@ -143,7 +143,7 @@ finished_early calls o line old new k now end h t m all been took = by_end end h
           broke = Broke-after been.took (Broke-after took s.2);
         }
     by_end last.NoMemory h =
-        let so_far : Took t now (been.tape ++ gave []) = subst (λ (n : Told). Took t n (been.tape ++ gave [])) (sym h) (Took-then been.took took) in
+        let so_far : Took t now (been.tape ++ gave []) = subst (λ (n : Told). Took t n (been.tape ++ gave [])) (sym h.0) (Took-then been.took took) in
         record {
           all = all;
           lines = been.lines;
@@ -152,7 +152,7 @@ finished_early calls o line old new k now end h t m all been took = by_end end h
           sent = been.sent;
           given = gave [];
           session = been.session;
-          stops = inr refl;
+          stops = inr (refl, (line, been.cut, h.1, been.within));
           faults = so_far.faults;
           taken = so_far.taken;
         }
@@ -226,7 +226,7 @@ many_reads calls o t now count line screen all_of has = record {
   sent = has.been.sent;
   given = [];
   session = has.been.session;
-  stops = (refl, has.counted ∙ all_of);
+  stops = (refl, has.counted ∙ all_of, (line, has.been.cut, has.been.within));
   faults = has.been.took.faults;
   taken = rw (append-nil has.been.tape) has.been.took.taken;
 }

@@ -97,8 +97,9 @@ line_ended calls o line old new k now result h t all before after been = by_resu
         }
     by_result (Some ends.NoMemory) h =
         let here : HasBeen calls o t now all before (10 ∷ after) line old =
-        subst (λ (n : Told). HasBeen calls o t n all before (10 ∷ after) line old) (sym h) been in
-        ended_here calls o t now all before (10 ∷ after) line old ends.NoMemory here (inl refl) here.took.faults
+        subst (λ (n : Told). HasBeen calls o t n all before (10 ∷ after) line old) (sym h.0) been in
+        ended_here calls o t now all before (10 ∷ after) line old ends.NoMemory here
+        (inl (refl, (before, 10, after, line, here.input, here.cut))) here.took.faults
     by_result (Some ends.Ended) h = absurd h
     by_result (Some ends.TooLong) h = absurd h
     by_result (Some ends.ReadFault) h = absurd h
@@ -131,7 +132,9 @@ line_added calls o byte line begun screen k result other h t all before after be
           omega (arith, h, length-append line (byte ∷ [])),
         )
         been.took.faults
-    by_result (Some ends.NoMemory) h = ended_here calls o t k all before (byte ∷ after) line screen ends.NoMemory been (inl refl) been.took.faults
+    by_result (Some ends.NoMemory) h =
+        ended_here calls o t k all before (byte ∷ after) line screen ends.NoMemory been
+        (inl (refl, (before, byte, after, line, been.input, been.cut))) been.took.faults
     by_result (Some ends.Ended) h = absurd h
     by_result (Some ends.WriteFault) h = absurd h
     by_result (Some ends.ReadFault) h = absurd h

@@ -1,5 +1,5 @@
 -- The parts of a run.
-use Rattle.std.specs.Prelude.{◌≡◌, ◌⊎◌, ℕ, ◌≤◌, List, [], ◌∷◌, ◌++◌, length, Option, None, Some, Result, Ok, Err}
+use Rattle.std.specs.Prelude.{◌≡◌, ◌⊎◌, ℕ, ◌<◌, ◌≤◌, List, [], ◌∷◌, ◌++◌, length, Option, None, Some, Result, Ok, Err}
 use Rattle.std.specs.Io.KnownBytes.{Appends}
 use Rattle.std.specs.List.{concat}
 use Rattle.tui_app.specs.Tape.{Broke, Took, gave}
@@ -39,7 +39,7 @@ IsPut k now text (Some end) = ⊥
 abbrev pub IsLineShown : (List ℕ → Screen → Screen → Type 0) → Output → Screen → List ℕ → Screen → Told → Told → Option DisplayEnd → Type 0
 IsLineShown calls o old line new k now None = length line ≤ limit → (text : List ℕ) × ShowsLine calls o line old new text × Took k now text
 IsLineShown calls o old line new k now (Some ends.WriteFault) = length line ≤ limit → (text : List ℕ) × ShowsLine calls o line old new text × Broke k now text
-IsLineShown calls o old line new k now (Some ends.NoMemory) = now ≡ k
+IsLineShown calls o old line new k now (Some ends.NoMemory) = (now ≡ k) × (0 < length line)
 IsLineShown calls o old line new k now (Some end) = ⊥
 
 -- one byte of a line

@@ -1,5 +1,5 @@
 -- Whole runs.
-use Rattle.std.specs.Prelude.{◌≡◌, ◌⊎◌, ℕ, ◌<◌, List, [], ◌++◌, codes, length}
+use Rattle.std.specs.Prelude.{◌≡◌, ◌⊎◌, ℕ, ◌<◌, ◌≤◌, List, [], ◌∷◌, ◌++◌, codes, length}
 use Rattle.std.specs.Io.KnownBytes.{Appends}
 use Rattle.std.specs.List.{concat}
 use Rattle.tui_app.specs.Tape.{gave}
@@ -13,15 +13,29 @@ use Rattle.tui_outside.specs.Limits.{limit}
 use Rattle.tui_tty.specs.Session.{enter_text, leave_text}
 use Rattle.tui_tty.specs.declared.output.Output.{Output}
 
+-- each line that has ended in these reads is shown, and what has begun behind the last of them is not too long
+abbrev pub NoneIsLeft : List (List ℕ) → List (List ℕ) → Type 0
+NoneIsLeft all lines = (begun : List ℕ) × IsCut (concat all) lines begun × (length begun ≤ limit)
+
+-- some byte behind the lines that are shown was read
+abbrev pub OneIsLeft : List (List ℕ) → List (List ℕ) → Type 0
+OneIsLeft all lines = (before : List ℕ) × (byte : ℕ) × (after : List ℕ) × (begun : List ℕ) × (concat all ≡ before ++ byte ∷ after)
+    × IsCut before lines begun
+
+-- all lines but the last are shown, and that one has a byte
+abbrev pub LastIsLeft : List (List ℕ) → List (List ℕ) → Type 0
+LastIsLeft all lines = (line : List ℕ) × IsCut (concat all) lines line × (0 < length line) × (length line ≤ limit)
+
 -- Why a session of these reads and lines stops where it stands, and what the terminal has given last: all lines are shown; the next one has too many
--- bytes; a read failed; there is no memory for the next line, or for the last one behind the end; or 4,294,967,296 reads were made.
+-- bytes; a read failed; there is no memory for the next line, or for the last one behind the end; or 4,294,967,296 reads were made. No line that has
+-- ended is left behind a read that failed, nor behind the last of so many reads.
 abbrev pub Stops : List (List ℕ) → List (List ℕ) → List ℕ → DisplayEnd → Type 0
 Stops all lines given Ended = (given ≡ []) × (pieces (concat all) ≡ lines)
 Stops all lines given TooLong = (given ≡ []) × (before : List ℕ) × (after : List ℕ) × (begun : List ℕ) × (concat all ≡ before ++ after)
     × IsCut before lines begun × (limit < length begun)
-Stops all lines given ReadFault = given ≡ []
-Stops all lines given NoMemory = (given ≡ []) ⊎ (given ≡ gave [])
-Stops all lines given ManyReads = (given ≡ []) × (length all ≡ 4294967296)
+Stops all lines given ReadFault = (given ≡ []) × NoneIsLeft all lines
+Stops all lines given NoMemory = ((given ≡ []) × OneIsLeft all lines) ⊎ ((given ≡ gave []) × LastIsLeft all lines)
+Stops all lines given ManyReads = (given ≡ []) × (length all ≡ 4294967296) × NoneIsLeft all lines
 Stops all lines given WriteFault = ⊥
 
 -- the count of faults, which a read that fails raises
