@@ -1,6 +1,8 @@
--- Numbers and letters of events are within their bounds, and a paste begins only at its beginning.
-use Rattle.std.proofs.Common.{◌≡◌, ◌≢◌, ◌<◌, ◌≤◌, ℕ, sym, subst, ◌∙◌, ◌+◌, ◌-◌, ◌*◌, ◌%◌, Bool, true, false, ◌&&◌, ◌||◌, not, ◌==◌, nat_lt, [], ◌∷◌, All, Option, None, Some, refl, if◌then◌else◌, arith}
+-- Numbers and letters of events are within their bounds, and which bytes begin or end a paste.
+use Rattle.std.proofs.Common.{◌≡◌, ◌≢◌, ◌⊎◌, inl, inr, ◌<◌, ◌≤◌, ℕ, sym, subst, ◌∙◌, ◌+◌, ◌-◌, ◌*◌, ◌%◌, Bool, true, false, ◌&&◌, ◌||◌, not, ◌==◌, nat_lt, [], ◌∷◌, All, Option, None, Some, refl, if◌then◌else◌, arith}
+use Rattle.std.specs.Prelude.{⊤}
 use Rattle.std.specs.Option.{option_map}
+use Rattle.std.proofs.lemmas.Bool.{true≢false}
 use Rattle.std.proofs.lemmas.Bool.Decides.{nat_tests}
 use Rattle.std.proofs.lemmas.List.Elements.{All-append, All-cons, All-nil, All-weaker}
 use Rattle.tui_keys.specs.declared.event.Event.{Event}
@@ -14,13 +16,18 @@ use Rattle.tui_keys.specs.declared.keys.Pending.{Pending}
 use Rattle.tui_keys.specs.declared.keys.Pending.TheVariants.{Nothing, Escape, Bracket, Ss3, Console, Sequence, Opened, Answer, AnswerEscape, Character}
 use Rattle.tui_keys.specs.declared.keys.Step.{Step}
 use Rattle.tui_keys.specs.Events.{events_of, made, some_of}
-use Rattle.tui_keys.specs.Laws.{EventsAreBounded, IsOutside, OnlyBeginBegins, OutsideIsOutside}
+use Rattle.tui_keys.specs.Laws.{EventsAreBounded, IsMark}
 use Rattle.tui_keys.specs.Sent.{IsBounded, IsSize}
-use Rattle.tui_keys.specs.Steps.{after_bracket, after_escape, after_ss3, begin, begins_paste, broken_by, character_of, console_key, ends_answer, in_answer, in_character, in_console, in_paste, in_sequence, is_size, lead, letter, modifiers_of, moved, no_numbers, nul, one, opens_answer, pasted, pasted_event, plain, sequence_of, size_of, stepped, tilde, told, typed, waits}
+use Rattle.tui_keys.specs.Steps.{after_bracket, after_escape, after_pasted_escape, after_ss3, begin, begins_paste, broken_by, character_of, console_key, ends_answer, in_answer, in_character, in_console, in_paste, in_sequence, is_mark, is_size, lead, letter, marked, modifiers_of, moved, no_numbers, nul, one, opens_answer, pasted, pasted_event, plain, sequence_of, size_of, stepped, tilde, told, typed, waits}
 
--- outside a paste
-abbrev IsTyped : Event → Type 0
-IsTyped e = IsBounded e × IsOutside e
+-- none that begins or ends a paste
+abbrev pub IsKey : Event → Type 0
+IsKey events.PasteBegin = ⊥
+IsKey events.PasteEnd = ⊥
+IsKey e = ⊤
+
+abbrev pub IsTyped : Event → Type 0
+IsTyped e = IsBounded e × IsKey e
 
 -- a choice between two
 either : (b : Bool) (e f : Event) → IsTyped e → IsTyped f → IsTyped (if b then e else f)
@@ -31,15 +38,15 @@ either_by : (b : Bool) (e f : Event) → (b ≡ true → IsTyped e) → (b ≡ f
 either_by true e f h g = h refl
 either_by false e f h g = g refl
 
-abbrev begins : Option Event → Bool
-begins None = false
-begins (Some e) = begins_paste e
+no_begin : (e : Event) → IsKey e → begins_paste e ≡ false
+no_begin events.PasteBegin h = absurd h
+no_begin e h = refl
 
--- a step outside a paste
-record Fits (s : Step) : Type 0 where
-  first : All IsTyped (some_of s.first)
-  second : All IsTyped (some_of s.second)
-  opens : s.keys.pasting ≡ begins s.second
+-- a step that begins and ends no paste
+pub record Fits (s : Step) : Type 0 where
+  pub first : All IsTyped (some_of s.first)
+  pub second : All IsTyped (some_of s.second)
+  pub opens : s.keys.pasting ≡ false
 
 choose : (b : Bool) (s t : Step) → Fits s → Fits t → Fits (if b then s else t)
 choose true s t h g = h
@@ -53,7 +60,7 @@ just : (e : Event) → IsTyped e → All IsTyped (e ∷ [])
 just e h = All-cons IsTyped e [] h (All-nil IsTyped)
 
 of_one : (e : Event) → IsTyped e → Fits (one e)
-of_one e h = record { first = All-nil IsTyped; second = just e h; opens = refl }
+of_one e h = record { first = All-nil IsTyped; second = just e h; opens = no_begin e h.1 }
 
 of_waits : (p : Pending) → Fits (waits p)
 of_waits p = record { first = All-nil IsTyped; second = All-nil IsTyped; opens = refl }
@@ -131,8 +138,7 @@ of_tilde n key =
     (either (key == 18) (events.F 7) _ ((omega arith, omega arith), tt)
     (either (key == 19) (events.F 8) _ ((omega arith, omega arith), tt) (either (key == 20) (events.F 9) _ ((omega arith, omega arith), tt)
     (either (key == 21) (events.F 10) _ ((omega arith, omega arith), tt) (either (key == 23) (events.F 11) _ ((omega arith, omega arith), tt)
-    (either (key == 24) (events.F 12) _ ((omega arith, omega arith), tt)
-    (either (key == 200) events.PasteBegin events.Unknown (tt, tt) (tt, tt)))))))))))))))))))))
+    (either (key == 24) (events.F 12) events.Unknown ((omega arith, omega arith), tt) (tt, tt))))))))))))))))))))
 
 is_size_says : (n : ℕ) → is_size n ≡ true → IsSize n
 is_size_says n e = grind (arith, nat_tests)
@@ -221,17 +227,63 @@ of_end : (b : ℕ) → 0 < b → Fits (ends_answer b)
 unfolding ends_answer
 of_end b low = choose (b == 92) _ _ (of_waits _) (of_escape b low)
 
-of_typed : (p : Pending) (b : ℕ) → 0 < b → Fits (typed p b)
-of_typed Nothing b low = of_begin b low
-of_typed Escape b low = of_escape b low
-of_typed Bracket b low = of_bracket b low
-of_typed Ss3 b low = of_ss3 b low
-of_typed Console b low = of_console b low
-of_typed (Sequence n) b low = of_in_sequence n b low
-of_typed (Opened o) b low = of_answer b
-of_typed Answer b low = of_answer b
-of_typed AnswerEscape b low = of_end b low
-of_typed (Character p) b low = of_character p b low
+-- a byte of a sequence: at its mark this event, and else what fits
+pub record IsMet (number : ℕ) (event : Event) (p : Pending) (b : ℕ) (s : Step) : Type 0 where
+  pub met : (IsMark number p b × (s ≡ one event)) ⊎ ((IsMark number p b → ⊥) × Fits s)
+
+pub away : (number : ℕ) (event : Event) (p : Pending) (b : ℕ) (s : Step) → (IsMark number p b → ⊥) → Fits s → IsMet number event p b s
+away number event p b s none f = record { met = inr (none, f) }
+
+mark_is : (number : ℕ) (n : Numbers) (b : ℕ) → is_mark number n b ≡ true → IsMark number (Sequence n) b
+mark_is number n b e =
+    let plain : n.is_plain ≡ true = grind (arith, nat_tests) in
+    let alone : n.place ≡ 0 = grind (arith, nat_tests) in
+    let first : n.first ≡ number = grind (arith, nat_tests) in
+    let tilde : b ≡ 126 = grind (arith, nat_tests) in
+    (plain, alone, first, tilde)
+
+is_marked : (number : ℕ) (n : Numbers) (b : ℕ) → n.is_plain ≡ true → n.place ≡ 0 → n.first ≡ number → b ≡ 126 → is_mark number n b ≡ true
+is_marked number n b plain alone first tilde = grind (arith, nat_tests)
+
+by_mark : (number : ℕ) (event : Event) (n : Numbers) (b : ℕ) (t : Bool) → is_mark number n b ≡ t → Fits (in_sequence n b) →
+    IsMet number event (Sequence n) b (if t then one event else in_sequence n b)
+by_mark number event n b true e f = record { met = inl (mark_is number n b e, refl) }
+by_mark number event n b false e f =
+    away number event (Sequence n) b _ (λ m. true≢false (sym (is_marked number n b m.0 m.1 m.2 m.3) ∙ e)) f
+
+pub of_marked : (number : ℕ) (event : Event) (n : Numbers) (b : ℕ) → 0 < b → IsMet number event (Sequence n) b (marked number event n b)
+unfolding marked
+of_marked number event n b low = by_mark number event n b (is_mark number n b) refl (of_in_sequence n b low)
+
+pub of_typed : (p : Pending) (b : ℕ) → 0 < b → IsMet 200 events.PasteBegin p b (typed p b)
+of_typed Nothing b low = away 200 events.PasteBegin Nothing b _ (λ m. m) (of_begin b low)
+of_typed Escape b low = away 200 events.PasteBegin Escape b _ (λ m. m) (of_escape b low)
+of_typed Bracket b low = away 200 events.PasteBegin Bracket b _ (λ m. m) (of_bracket b low)
+of_typed Ss3 b low = away 200 events.PasteBegin Ss3 b _ (λ m. m) (of_ss3 b low)
+of_typed Console b low = away 200 events.PasteBegin Console b _ (λ m. m) (of_console b low)
+of_typed (Sequence n) b low = of_marked 200 events.PasteBegin n b low
+of_typed (Opened o) b low = away 200 events.PasteBegin (Opened o) b _ (λ m. m) (of_answer b)
+of_typed Answer b low = away 200 events.PasteBegin Answer b _ (λ m. m) (of_answer b)
+of_typed AnswerEscape b low = away 200 events.PasteBegin AnswerEscape b _ (λ m. m) (of_end b low)
+of_typed (Character p) b low = away 200 events.PasteBegin (Character p) b _ (λ m. m) (of_character p b low)
+
+of_pasted_escape : (b : ℕ) → 0 < b → Fits (after_pasted_escape b)
+unfolding after_pasted_escape
+of_pasted_escape b low =
+    choose (b == 91) _ _ (of_waits _) (choose (nat_lt b 32) _ _ (of_broken events.Unknown b low (tt, tt))
+    (choose (nat_lt b 127) _ _ (of_one events.Unknown (tt, tt)) (of_broken events.Unknown b low (tt, tt))))
+
+pub of_in_paste : (p : Pending) (b : ℕ) → 0 < b → IsMet 201 events.PasteEnd p b (in_paste p b)
+of_in_paste Nothing b low = away 201 events.PasteEnd Nothing b _ (λ m. m) (of_begin b low)
+of_in_paste Escape b low = away 201 events.PasteEnd Escape b _ (λ m. m) (of_pasted_escape b low)
+of_in_paste Bracket b low = away 201 events.PasteEnd Bracket b _ (λ m. m) (of_bracket b low)
+of_in_paste Ss3 b low = away 201 events.PasteEnd Ss3 b _ (λ m. m) (of_ss3 b low)
+of_in_paste Console b low = away 201 events.PasteEnd Console b _ (λ m. m) (of_console b low)
+of_in_paste (Sequence n) b low = of_marked 201 events.PasteEnd n b low
+of_in_paste (Opened o) b low = away 201 events.PasteEnd (Opened o) b _ (λ m. m) (of_answer b)
+of_in_paste Answer b low = away 201 events.PasteEnd Answer b _ (λ m. m) (of_answer b)
+of_in_paste AnswerEscape b low = away 201 events.PasteEnd AnswerEscape b _ (λ m. m) (of_end b low)
+of_in_paste (Character p) b low = away 201 events.PasteEnd (Character p) b _ (λ m. m) (of_character p b low)
 
 -- within a paste there are none of these numbers
 of_pasted_event : (e : Event) → IsBounded (pasted_event e)
@@ -286,19 +338,28 @@ weaker s f = record {
   second = All-weaker IsTyped IsBounded (λ e h. h.0) (some_of s.second) f.second;
 }
 
-by : (t q : Bool) (u s v : Step) → Bounded u → Bounded s → (t ≡ false → Fits v) → Bounded (if t then u else if q then s else v)
+begin_bounded : Bounded (one events.PasteBegin)
+begin_bounded = record { first = All-nil IsBounded; second = All-cons IsBounded events.PasteBegin [] tt (All-nil IsBounded) }
+
+typed_bounded : (p : Pending) (b : ℕ) (s : Step) → IsMet 200 events.PasteBegin p b s → Bounded s
+typed_bounded p b s is = elim is.met [
+  | inl mark ↦ subst (λ (k : Step). Bounded k) (sym mark.1) begin_bounded
+  | inr other ↦ weaker s other.1
+]
+
+by : (t q : Bool) (u s v : Step) → Bounded u → Bounded s → (t ≡ false → Bounded v) → Bounded (if t then u else if q then s else v)
 by true q u s v h g f = h
 by false true u s v h g f = g
-by false false u s v h g f = weaker v (f refl)
+by false false u s v h g f = f refl
 
-positive : (b : ℕ) → (b == 0) ≡ false → 0 < b
+pub positive : (b : ℕ) → (b == 0) ≡ false → 0 < b
 positive b e = grind (arith, nat_tests)
 
 of_step : (keys : Keys) (b : ℕ) → Bounded (stepped keys b)
 unfolding stepped
 of_step keys b =
     by (b == 0) keys.pasting (nul keys) (pasted (in_paste keys.pending b)) (typed keys.pending b) (of_nul keys) (of_pasted (in_paste keys.pending b))
-    (λ e. of_typed keys.pending b (positive b e))
+    (λ e. typed_bounded keys.pending b (typed keys.pending b) (of_typed keys.pending b (positive b e)))
 
 pub bounded : EventsAreBounded
 unfolding events_of
@@ -308,44 +369,3 @@ bounded keys (b ∷ bs) =
     All-append IsBounded (made (stepped keys b)) (events_of (stepped keys b).keys bs)
     (All-append IsBounded (some_of (stepped keys b).first) (some_of (stepped keys b).second) here.first here.second)
     (bounded (stepped keys b).keys bs)
-
--- ---- what begins a paste, and what is outside
-
-abbrev outside : Pending → Keys
-outside pending = record { pasting = false; pending = pending }
-
-begins_says : (o : Option Event) → begins o ≡ true → o ≡ Some events.PasteBegin
-begins_says (Some events.PasteBegin) e = refl
-begins_says o e = grind (arith)
-
-record Outside (s : Step) : Type 0 where
-  none : All IsOutside (made s)
-  opens : s.keys.pasting ≡ true → s.second ≡ Some events.PasteBegin
-
-fits_outside : (s : Step) → Fits s → Outside s
-fits_outside s f = record {
-  none = All-append IsOutside (some_of s.first) (some_of s.second) (All-weaker IsTyped IsOutside (λ e h. h.1) (some_of s.first) f.first)
-      (All-weaker IsTyped IsOutside (λ e h. h.1) (some_of s.second) f.second);
-  opens = λ e. begins_says s.second (sym f.opens ∙ e);
-}
-
-nul_outside : (p : Pending) → Outside (nul (outside p))
-nul_outside p = record { none = All-cons IsOutside events.Tick [] tt (All-nil IsOutside); opens = λ e. grind (arith) }
-
-outside_by : (t : Bool) (p : Pending) (s : Step) → (t ≡ false → Fits s) → Outside (if t then nul (outside p) else s)
-outside_by true p s f = nul_outside p
-outside_by false p s f = fits_outside s (f refl)
-
-outside_step : (p : Pending) (b : ℕ) → Outside (stepped (outside p) b)
-unfolding stepped
-outside_step p b = outside_by (b == 0) p (typed p b) (λ e. of_typed p b (positive b e))
-
-keys_outside : (keys : Keys) (b : ℕ) → keys.pasting ≡ false → Outside (stepped keys b)
-keys_outside keys b is =
-    subst (λ (q : Bool). Outside (stepped (record { pasting = q; pending = keys.pending }) b)) (sym is) (outside_step keys.pending b)
-
-pub outside_is_outside : OutsideIsOutside
-outside_is_outside keys b is = (keys_outside keys b is).none
-
-pub only_begin_begins : OnlyBeginBegins
-only_begin_begins keys b is opens = (keys_outside keys b is).opens opens

@@ -5,11 +5,12 @@ use Rattle.std.specs.Fmt.{digits, digits_onto, digit_glyph}
 use Rattle.std.proofs.lemmas.Bool.{cases_lt}
 use Rattle.std.proofs.lemmas.Bool.Decides.{nat_tests}
 use Rattle.tui_keys.proofs.Decoding.{joined, no_step}
+use Rattle.tui_keys.specs.declared.event.Event.TheVariants.{PasteBegin}
 use Rattle.tui_keys.specs.declared.keys.Keys.{Keys}
 use Rattle.tui_keys.specs.declared.keys.Numbers.{Numbers}
 use Rattle.tui_keys.specs.declared.keys.Pending.TheVariants.{Sequence}
 use Rattle.tui_keys.specs.Laws.{AreRead}
-use Rattle.tui_keys.specs.Steps.{in_sequence, more, stepped, nul, waits, with_digit}
+use Rattle.tui_keys.specs.Steps.{in_sequence, is_mark, marked, more, one, stepped, nul, waits, with_digit}
 
 -- in a sequence outside a paste
 abbrev pub in_numbers : Numbers → Keys
@@ -23,10 +24,12 @@ digit_taken n d low =
     e ∙ ap (λ (k : ℕ). waits (Sequence (with_digit n k))) {x = 48 + d - 48} {y = d} (omega arith)
 
 step_taken : (n : Numbers) (d : ℕ) → d < 10 → stepped (in_numbers n) (48 + d) ≡ in_sequence n (48 + d)
-unfolding stepped
+unfolding stepped marked
 step_taken n d low =
     let e : ((48 + d) == 0) ≡ false = grind (arith, nat_tests) in
-    ap (λ (b : Bool). if b then nul (in_numbers n) else in_sequence n (48 + d)) e
+    let no_mark : is_mark 200 n (48 + d) ≡ false = grind (arith, nat_tests) in
+    ap (λ (b : Bool). if b then nul (in_numbers n) else marked 200 PasteBegin n (48 + d)) e
+    ∙ ap (λ (b : Bool). if b then one PasteBegin else in_sequence n (48 + d)) no_mark
 
 digit_step : (n : Numbers) (d : ℕ) → d < 10 → AreRead (in_numbers n) ((48 + d) ∷ []) [] (in_numbers (with_digit n d))
 digit_step n d low = no_step (in_numbers n) (in_numbers (with_digit n d)) (48 + d) (step_taken n d low ∙ digit_taken n d low)

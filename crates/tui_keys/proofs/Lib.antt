@@ -1,5 +1,6 @@
 pub mod Decoding
 pub mod Bounds
+pub mod Marks
 pub mod Texts
 pub mod Pastes
 pub mod Others

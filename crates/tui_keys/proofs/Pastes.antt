@@ -1,5 +1,5 @@
 -- What comes within a paste.
-use Rattle.std.proofs.Common.{◌≡◌, ◌⊎◌, inl, inr, ℕ, Bool, true, false, not, List, [], ◌∷◌, ◌++◌, All, map, Option, None, Some, refl, sym, subst, ◌==◌, if◌then◌else◌, arith}
+use Rattle.std.proofs.Common.{◌≡◌, ◌⊎◌, inl, inr, ℕ, Bool, true, false, List, [], ◌∷◌, ◌++◌, All, map, Option, None, Some, refl, sym, subst, ◌==◌, if◌then◌else◌}
 use Rattle.std.specs.Prelude.{encode_utf8_all}
 use Rattle.std.specs.Option.{option_map}
 use Rattle.std.proofs.lemmas.List.Elements.{All-append, All-cons, All-head, All-nil, All-tail}
@@ -11,9 +11,9 @@ use Rattle.tui_keys.specs.declared.keys.Keys.{Keys}
 use Rattle.tui_keys.specs.declared.keys.Pending.{Pending}
 use Rattle.tui_keys.specs.declared.keys.Step.{Step}
 use Rattle.tui_keys.specs.Events.{events_of, keys_after, made, some_of}
-use Rattle.tui_keys.specs.Laws.{AreRead, IsPasted, OnlyEndEnds, PasteIsItself, PastedIsPasted}
+use Rattle.tui_keys.specs.Laws.{AreRead, IsPasted, PasteIsItself, PastedIsPasted}
 use Rattle.tui_keys.specs.Sent.{IsPlain, sent_for}
-use Rattle.tui_keys.specs.Steps.{after_bracket, after_escape, at_rest, begin, in_paste, in_sequence, is_end, nul, pasted, pasted_event, pasted_sequence, after_pasted_escape, sequence_of, start, stepped, tilde, with_digit}
+use Rattle.tui_keys.specs.Steps.{after_bracket, after_escape, at_rest, begin, in_paste, in_sequence, marked, nul, pasted, pasted_event, after_pasted_escape, start, stepped, with_digit}
 use lib.Utf8.{encode}
 
 event_is_pasted : (e : Event) → IsPasted (pasted_event e)
@@ -64,25 +64,6 @@ pub pasted_is_pasted : PastedIsPasted
 pasted_is_pasted keys b is =
     subst (λ (q : Bool). All IsPasted (made (stepped (record { pasting = q; pending = keys.pending }) b))) (sym is) (pasting_is_pasted keys.pending b)
 
--- only the end ends it
-is_end_says : (o : Option Event) → not (is_end o) ≡ false → option_map pasted_event o ≡ Some events.PasteEnd
-is_end_says (Some events.PasteEnd) e = refl
-is_end_says o e = grind (arith)
-
-choice_ends : (t : Bool) (p : Pending) (s : Step) → (if t then nul (pasting p) else pasted s).keys.pasting ≡ false →
-    (if t then nul (pasting p) else pasted s).second ≡ Some events.PasteEnd
-choice_ends true p s e = grind (arith)
-choice_ends false p s e = is_end_says s.second e
-
-pasting_ends : (p : Pending) (b : ℕ) → (stepped (pasting p) b).keys.pasting ≡ false → (stepped (pasting p) b).second ≡ Some events.PasteEnd
-unfolding stepped
-pasting_ends p b e = choice_ends (b == 0) p (in_paste p b) e
-
-pub only_end_ends : OnlyEndEnds
-only_end_ends keys b is =
-    subst (λ (q : Bool). (stepped (record { pasting = q; pending = keys.pending }) b).keys.pasting ≡ false →
-    (stepped (record { pasting = q; pending = keys.pending }) b).second ≡ Some events.PasteEnd) (sym is) (pasting_ends keys.pending b)
-
 -- a pasted text
 abbrev IsText : ℕ → Type 0
 IsText c = IsPlain c ⊎ ((c ≡ 9) ⊎ (c ≡ 10))
@@ -120,11 +101,11 @@ text_read (c ∷ cs) all =
     (text_character c (All-head IsText c cs all)) (text_read cs (All-tail IsText c cs all))
 
 begin_read : AreRead start (sent_for events.PasteBegin) (events.PasteBegin ∷ []) (at_rest true)
-unfolding events_of keys_after stepped begin after_escape after_bracket in_sequence with_digit sequence_of tilde sent_for
+unfolding events_of keys_after stepped begin after_escape after_bracket in_sequence marked with_digit sent_for
 begin_read = record { events = refl; pending = refl }
 
 end_read : AreRead (at_rest true) (sent_for events.PasteEnd) (events.PasteEnd ∷ []) start
-unfolding events_of keys_after stepped begin after_pasted_escape after_bracket in_sequence pasted_sequence with_digit sent_for
+unfolding events_of keys_after stepped begin after_pasted_escape after_bracket in_sequence marked with_digit sent_for
 end_read = record { events = refl; pending = refl }
 
 pub paste_is_itself : PasteIsItself

@@ -16,7 +16,7 @@ use Rattle.tui_keys.specs.declared.keys.Numbers.{Numbers}
 use Rattle.tui_keys.specs.Events.{events_of, keys_after}
 use Rattle.tui_keys.specs.Laws.{AreRead, SentIsRead}
 use Rattle.tui_keys.specs.Sent.{IsNoneOf, IsPlain, IsSize, IsTold, csi, escape, function_texts, held_number, motion_text, sent_for}
-use Rattle.tui_keys.specs.Steps.{after_bracket, after_escape, after_ss3, at_rest, begin, begins_paste, in_sequence, is_size, letter, modifiers_of, moved, one, opens_answer, sequence_of, size_of, start, stepped, tilde, with_digit, with_next}
+use Rattle.tui_keys.specs.Steps.{after_bracket, after_escape, after_ss3, at_rest, begin, begins_paste, in_sequence, is_size, letter, marked, modifiers_of, moved, one, opens_answer, sequence_of, size_of, start, stepped, tilde, with_digit, with_next}
 use lib.Utf8.{encode}
 
 -- ---- keys by themselves
@@ -27,7 +27,7 @@ escape_read = record { events = refl; pending = refl }
 
 -- F1 to F12
 function_read : (k : ℕ) → k < 12 → AreRead start (escape (get_or function_texts k [])) (events.F (k + 1) ∷ []) start
-unfolding events_of keys_after stepped begin after_escape after_bracket after_ss3 in_sequence with_digit sequence_of letter tilde
+unfolding events_of keys_after stepped begin after_escape after_bracket after_ss3 in_sequence marked with_digit sequence_of letter tilde
 function_read zero h = record { events = refl; pending = refl }
 function_read (suc zero) h = record { events = refl; pending = refl }
 function_read (suc (suc zero)) h = record { events = refl; pending = refl }
@@ -110,7 +110,7 @@ abbrev second_number : ℕ → Numbers
 second_number n = record { first = 1; second = n; third = 0; place = 1; is_plain = true }
 
 one_and_read : AreRead start (27 ∷ 91 ∷ codes "1;") [] (in_numbers (second_number 0))
-unfolding events_of keys_after stepped begin after_escape after_bracket in_sequence with_digit with_next
+unfolding events_of keys_after stepped begin after_escape after_bracket in_sequence marked with_digit with_next
 one_and_read = record { events = refl; pending = refl }
 
 second_takes : (m d : ℕ) → with_digit (second_number m) d ≡ second_number (min (m * 10 + d) 65535)
@@ -131,7 +131,7 @@ held_is false false false motion e = grind (arith)
 
 motion_read : (n : ℕ) (motion : Motion) (e : Event) → moved n motion ≡ e → begins_paste e ≡ false →
     AreRead (in_numbers (second_number n)) (motion_text motion) (e ∷ []) start
-unfolding events_of keys_after stepped in_sequence sequence_of letter
+unfolding events_of keys_after stepped in_sequence marked sequence_of letter
 motion_read n motions.Up e is typed =
     one_step _ start 65 e (ap one is ∙ ap (λ (b : Bool). record { keys = at_rest b; first = None; second = Some e }) typed)
 motion_read n motions.Down e is typed =
@@ -172,7 +172,7 @@ abbrev columns_number : ℕ → ℕ → Numbers
 columns_number rows n = record { first = 8; second = rows; third = n; place = 2; is_plain = true }
 
 eight_read : AreRead start (27 ∷ 91 ∷ codes "8;") [] (in_numbers (rows_number 0))
-unfolding events_of keys_after stepped begin after_escape after_bracket in_sequence with_digit with_next
+unfolding events_of keys_after stepped begin after_escape after_bracket in_sequence marked with_digit with_next
 eight_read = record { events = refl; pending = refl }
 
 rows_take : (m d : ℕ) → with_digit (rows_number m) d ≡ rows_number (min (m * 10 + d) 65535)
@@ -184,7 +184,7 @@ unfolding with_digit
 columns_take rows m d = refl
 
 between_read : (rows : ℕ) → AreRead (in_numbers (rows_number rows)) (codes ";") [] (in_numbers (columns_number rows 0))
-unfolding events_of keys_after stepped in_sequence with_next
+unfolding events_of keys_after stepped in_sequence marked with_next
 between_read rows = record { events = refl; pending = refl }
 
 is_size_of : (n : ℕ) → 1 ≤ n → n ≤ 1000 → is_size n ≡ true
@@ -199,7 +199,7 @@ size_is columns rows c r =
 
 size_ends : (columns rows : ℕ) (e : Event) → size_of (columns_number rows columns) ≡ e → begins_paste e ≡ false →
     AreRead (in_numbers (columns_number rows columns)) (codes "t") (e ∷ []) start
-unfolding events_of keys_after stepped in_sequence sequence_of
+unfolding events_of keys_after stepped in_sequence marked sequence_of
 size_ends columns rows e is typed =
     one_step _ start 116 e (ap one is ∙ ap (λ (b : Bool). record { keys = at_rest b; first = None; second = Some e }) typed)
 
@@ -217,7 +217,7 @@ size_read columns rows c r =
 -- ---- any event
 
 pub event_read : (e : Event) → IsTold e → AreRead start (sent_for e) (e ∷ []) start
-unfolding events_of keys_after stepped begin after_escape after_bracket in_sequence with_digit sequence_of letter tilde moved modifiers_of sent_for
+unfolding events_of keys_after stepped begin after_escape after_bracket in_sequence marked with_digit sequence_of letter tilde moved modifiers_of sent_for
 event_read (events.Char c) is = plain_read false c is
 event_read events.Enter is = record { events = refl; pending = refl }
 event_read events.Tab is = record { events = refl; pending = refl }

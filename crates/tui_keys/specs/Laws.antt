@@ -19,13 +19,15 @@ use Rattle.std.specs.Prelude.{
   flat_map,
   codes,
   encode_utf8_all,
-  Some,
+  not,
   if◌then◌else◌,
   ⊤,
 }
 use Rattle.tui_keys.specs.declared.event.Event.{Event}
 use Rattle.tui_keys.specs.declared.event.Event.TheVariants as events
 use Rattle.tui_keys.specs.declared.keys.Keys.{Keys}
+use Rattle.tui_keys.specs.declared.keys.Pending.{Pending}
+use Rattle.tui_keys.specs.declared.keys.Pending.TheVariants.{Sequence}
 use Rattle.tui_keys.specs.Events.{events_of, events_read, keys_after, keys_read, made}
 use Rattle.tui_keys.specs.Sent.{IsBounded, IsPlain, IsTold, IsToldAlone, csi, escape, sent_for}
 use Rattle.tui_keys.specs.Steps.{at_rest, opens_answer, paused, start, stepped}
@@ -82,12 +84,23 @@ IsOutside event = ⊤
 abbrev pub OutsideIsOutside : Type 0
 OutsideIsOutside = (keys : Keys) (b : ℕ) → keys.pasting ≡ false → All IsOutside (made (stepped keys b))
 
--- nothing but its beginning begins a paste, and nothing but its end ends it
+-- the tilde of ESC [ number ~: a sequence of this number, and of nothing else
+abbrev pub IsMark : ℕ → Pending → ℕ → Type 0
+IsMark number (Sequence n) b = (n.is_plain ≡ true) × (n.place ≡ 0) × (n.first ≡ number) × (b ≡ 126)
+IsMark number pending b = ⊥
+
+-- a paste begins or ends at this mark, which is the one event then, and at no other byte, whose events are others
+pub record TurnsAt (number : ℕ) (event : Event) (keys : Keys) (b : ℕ) : Type 0 where
+  pub at_mark : IsMark number keys.pending b → ((stepped keys b).keys.pasting ≡ not keys.pasting) × (made (stepped keys b) ≡ event ∷ [])
+  pub elsewhere : (IsMark number keys.pending b → ⊥) →
+      ((stepped keys b).keys.pasting ≡ keys.pasting) × All (λ (e : Event). e ≢ event) (made (stepped keys b))
+
+-- nothing but ESC [ 200 ~ begins a paste, and nothing but ESC [ 201 ~ ends it
 abbrev pub OnlyBeginBegins : Type 0
-OnlyBeginBegins = (keys : Keys) (b : ℕ) → keys.pasting ≡ false → (stepped keys b).keys.pasting ≡ true → (stepped keys b).second ≡ Some events.PasteBegin
+OnlyBeginBegins = (keys : Keys) (b : ℕ) → keys.pasting ≡ false → TurnsAt 200 events.PasteBegin keys b
 
 abbrev pub OnlyEndEnds : Type 0
-OnlyEndEnds = (keys : Keys) (b : ℕ) → keys.pasting ≡ true → (stepped keys b).keys.pasting ≡ false → (stepped keys b).second ≡ Some events.PasteEnd
+OnlyEndEnds = (keys : Keys) (b : ℕ) → keys.pasting ≡ true → TurnsAt 201 events.PasteEnd keys b
 
 -- a text with newlines and tabs that is pasted is its characters
 abbrev pub PasteIsItself : Type 0
@@ -123,7 +136,7 @@ IsAnswerByte b = (b ≢ 0) × (b ≢ 7) × (b ≢ 27)
 abbrev pub EndsAnswer : List ℕ → Type 0
 EndsAnswer bytes = (bytes ≡ 7 ∷ []) ⊎ (bytes ≡ 27 ∷ 92 ∷ [])
 
--- an answer to another program's question makes no event
+-- an answer to another program's question that begins with ESC and one of these makes no event
 abbrev pub AnswersPassOver : Type 0
 AnswersPassOver = (opener : ℕ) (text last : List ℕ) → opens_answer opener ≡ true → All IsAnswerByte text → EndsAnswer last →
     AreRead start (27 ∷ opener ∷ (text ++ last)) [] start
@@ -150,6 +163,7 @@ pub record OthersAreRead : Type 0 where
   pub cursor_place : Means (csi (codes "24;80R")) (events.Unknown ∷ [])
   pub private : Means (csi (codes "?1;2c")) (events.Unknown ∷ [])
   pub stray_end : Means (csi (codes "201~")) (events.Unknown ∷ [])
+  pub begin_of_two : Means (csi (codes "200;5~")) (events.Unknown ∷ [])
   pub color_answer : Means (escape (codes "]11;rgb:0000/0000/0000" ++ 27 ∷ codes "\\")) []
   pub title_answer : Means (escape (codes "]lq" ++ 7 ∷ [])) []
   pub status_answer : Means (escape (codes "P1$r0m" ++ 27 ∷ codes "\\")) []

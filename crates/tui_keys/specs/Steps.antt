@@ -115,7 +115,6 @@ tilde n key =
     else if key == 21 then events.F 10
     else if key == 23 then events.F 11
     else if key == 24 then events.F 12
-    else if key == 200 then events.PasteBegin
     else events.Unknown
 
 -- a number with one more digit
@@ -164,6 +163,14 @@ in_sequence n b =
     else if nat_lt b 64 then waits (Sequence (record n { is_plain = false }))
     else if nat_lt b 127 then one (sequence_of n b)
     else broken_by events.Unknown b
+
+-- the tilde of ESC [ number ~, with this number and nothing else
+abbrev pub is_mark : ℕ → Numbers → ℕ → Bool
+is_mark number n b = (b == 126) && n.is_plain && (n.place == 0) && (n.first == number)
+
+-- in a sequence which with this number alone is an event
+unfoldable pub marked : ℕ → Event → Numbers → ℕ → Step
+marked number event n b = if is_mark number n b then one event else in_sequence n b
 
 -- OSC, DCS, SOS, PM, APC
 abbrev pub opens_answer : ℕ → Bool
@@ -226,14 +233,14 @@ in_character p b =
     else waits (Character (record { alt = p.alt; left = p.left - 1; least = p.least; code = code })))
     else broken_by events.Unknown b
 
--- outside a paste
+-- outside a paste, which a sequence may begin
 abbrev pub typed : Pending → ℕ → Step
 typed Nothing b = begin b
 typed Escape b = after_escape b
 typed Bracket b = after_bracket b
 typed Ss3 b = after_ss3 b
 typed Console b = in_console b
-typed (Sequence n) b = in_sequence n b
+typed (Sequence n) b = marked 200 events.PasteBegin n b
 typed (Opened opener) b = in_answer b
 typed Answer b = in_answer b
 typed AnswerEscape b = ends_answer b
@@ -247,15 +254,9 @@ after_pasted_escape b =
     else if nat_lt b 127 then one events.Unknown
     else broken_by events.Unknown b
 
-abbrev pub ends_paste : Numbers → ℕ → Bool
-ends_paste n b = n.is_plain && (n.place == 0) && (n.first == 201) && (b == 126)
-
-unfoldable pub pasted_sequence : Numbers → ℕ → Step
-pasted_sequence n b = if ends_paste n b then one events.PasteEnd else in_sequence n b
-
 abbrev pub in_paste : Pending → ℕ → Step
 in_paste Escape b = after_pasted_escape b
-in_paste (Sequence n) b = pasted_sequence n b
+in_paste (Sequence n) b = marked 201 events.PasteEnd n b
 in_paste pending b = typed pending b
 
 -- what an event is within a paste: a character, the end, or unknown

@@ -8,7 +8,10 @@ use crate::character::in_character;
 use crate::escape::{after_bracket, after_escape, after_ss3, ends_answer, in_answer, in_console};
 use crate::event::Event;
 use crate::paste::{in_paste, pasted};
-use crate::sequence::in_sequence;
+use crate::sequence::marked;
+
+/// ESC [ 200 ~ begins a paste.
+const PASTE_BEGIN: u16 = 200;
 
 /// What is known behind the bytes so far: a few numbers, so a decoder takes no memory.
 #[derive(Clone, Copy, Debug, PartialEq, Eq)]
@@ -147,7 +150,7 @@ pub(crate) fn typed(pending: Pending, byte: u8) -> Step
         Pending::Bracket => after_bracket(byte),
         Pending::Ss3 => after_ss3(byte),
         Pending::Console => in_console(byte),
-        Pending::Sequence(numbers) => in_sequence(numbers, byte),
+        Pending::Sequence(numbers) => marked(PASTE_BEGIN, Event::PasteBegin, numbers, byte),
         Pending::Opened(_) => in_answer(byte),
         Pending::Answer => in_answer(byte),
         Pending::AnswerEscape => ends_answer(byte),

@@ -28,8 +28,8 @@ pub fn event_laws()
     ensures bounded { EventsAreBounded }
 {}
 
-/// Within a paste there are characters and what is unknown, up to its end. Nothing else begins and ends a paste; a text that is pasted is its
-/// characters.
+/// Within a paste there are characters and what is unknown. It begins at the last byte of ESC [ 200 ~ and ends at that of ESC [ 201 ~, with this one
+/// number, and at no other byte; a text that is pasted is its characters.
 pub fn paste_laws()
     ensures pasted { PastedIsPasted }
     ensures outside { OutsideIsOutside }
@@ -38,7 +38,8 @@ pub fn paste_laws()
     ensures itself { PasteIsItself }
 {}
 
-/// What a terminal sends for events is read as these events, and answers to other programs' questions make none.
+/// What a terminal sends for events is read as these events. An answer to another program's question that begins with ESC and one of ] P X ^ _ makes
+/// none.
 pub fn sending_laws()
     ensures text { TextIsItself }
     ensures sent { SentIsRead }

@@ -93,7 +93,6 @@ pub(crate) fn tilde(number: u16, key: u16) -> Event
         21 => Event::F(10),
         23 => Event::F(11),
         24 => Event::F(12),
-        200 => Event::PasteBegin,
         _ => Event::Unknown,
     }
 }

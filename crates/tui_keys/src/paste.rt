@@ -2,12 +2,15 @@
 
 ghost use Rattle.std.specs.Prelude.{◌≡◌, None, Some};
 ghost use Rattle.std.specs.Option.{option_map};
-ghost use Rattle.tui_keys.specs.Steps.{after_pasted_escape, ends_paste, in_paste, is_end, pasted, pasted_event, pasted_sequence};
+ghost use Rattle.tui_keys.specs.Steps.{after_pasted_escape, in_paste, is_end, pasted, pasted_event};
 
 use crate::begin::{broken_by, one, waits};
 use crate::event::Event;
-use crate::keys::{Keys, Numbers, Pending, Step, typed};
-use crate::sequence::in_sequence;
+use crate::keys::{Keys, Pending, Step, typed};
+use crate::sequence::marked;
+
+/// ESC [ 201 ~ ends it.
+const PASTE_END: u16 = 201;
 
 /// What a byte makes before its events are those of a paste: as outside, but that ESC begins a sequence or is with one more byte unknown, and
 /// that a sequence may be the end.
@@ -16,7 +19,7 @@ pub(crate) fn in_paste(pending: Pending, byte: u8) -> Step
 {
     match pending {
         Pending::Escape => after_pasted_escape(byte),
-        Pending::Sequence(numbers) => pasted_sequence(numbers, byte),
+        Pending::Sequence(numbers) => marked(PASTE_END, Event::PasteEnd, numbers, byte),
         _ => typed(pending, byte),
     }
 }
@@ -34,24 +37,6 @@ fn after_pasted_escape(byte: u8) -> Step
     } else {
         broken_by(Event::Unknown, byte)
     }
-}
-
-#[tactic(auto, unfolding(crate::specs::Steps::pasted_sequence))]
-fn pasted_sequence(numbers: Numbers, byte: u8) -> Step
-    ensures { result ≡ pasted_sequence numbers byte }
-{
-    if ends_paste(numbers, byte) {
-        one(Event::PasteEnd)
-    } else {
-        in_sequence(numbers, byte)
-    }
-}
-
-/// ESC [ 201 ~.
-fn ends_paste(numbers: Numbers, byte: u8) -> bool
-    ensures { result ≡ ends_paste numbers byte }
-{
-    numbers.is_plain && numbers.place == 0 && numbers.first == 201 && byte == 126
 }
 
 /// The step within a paste.

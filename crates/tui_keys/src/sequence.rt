@@ -1,7 +1,7 @@
 //! A sequence: ESC [, numbers with semicolons between them, and a last byte.
 
 ghost use Rattle.std.specs.Prelude.{◌≡◌};
-ghost use Rattle.tui_keys.specs.Steps.{in_sequence, more, no_numbers, sequence_of, with_digit, with_next};
+ghost use Rattle.tui_keys.specs.Steps.{in_sequence, is_mark, marked, more, no_numbers, sequence_of, with_digit, with_next};
 
 use crate::begin::{broken_by, one, waits};
 use crate::event::Event;
@@ -20,6 +20,25 @@ pub(crate) fn no_numbers() -> Numbers
         place: 0,
         is_plain: true,
     }
+}
+
+/// A sequence which with this number alone, before a tilde, is an event.
+#[tactic(auto, unfolding(crate::specs::Steps::marked))]
+pub(crate) fn marked(number: u16, event: Event, numbers: Numbers, byte: u8) -> Step
+    ensures { result ≡ marked number event numbers byte }
+{
+    if is_mark(number, numbers, byte) {
+        one(event)
+    } else {
+        in_sequence(numbers, byte)
+    }
+}
+
+#[inline]
+fn is_mark(number: u16, numbers: Numbers, byte: u8) -> bool
+    ensures { result ≡ is_mark number numbers byte }
+{
+    byte == 126 && numbers.is_plain && numbers.place == 0 && numbers.first == number
 }
 
 /// Digits and semicolons make numbers, a byte from 64 to 126 is the last one.

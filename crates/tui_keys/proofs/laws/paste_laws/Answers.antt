@@ -1,5 +1,5 @@
-use Rattle.tui_keys.proofs.Bounds.{only_begin_begins, outside_is_outside}
-use Rattle.tui_keys.proofs.Pastes.{only_end_ends, paste_is_itself, pasted_is_pasted}
+use Rattle.tui_keys.proofs.Marks.{only_begin_begins, only_end_ends, outside_is_outside}
+use Rattle.tui_keys.proofs.Pastes.{paste_is_itself, pasted_is_pasted}
 use Rattle.tui_keys.proofs.laws.paste_laws.Goals as goal
 
 pub returns-clause-pasted : goal.returns-clause-pasted
