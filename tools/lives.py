@@ -10,6 +10,7 @@ from tmux import MODES, ROOT, SIZE
 
 CRATES = ROOT / "crates"
 NARROW, TINY = (30, 9), (8, 2)
+LIMIT = 1_048_576
 
 
 class Living(NamedTuple):
@@ -73,7 +74,7 @@ def lives(tmux, living):
     sizes(tmux, living)
     stop_and_go_on(tmux, living.name(), *living.first)
     tmux.keys("C-c")
-    tmux.until(f"{living.name()}: Ctrl-C behind fg", lambda: tmux.status() == "130")
+    tmux.ended_behind_fg(f"{living.name()}: Ctrl-C behind fg", 130)
     kills(tmux, living)
 
 
@@ -111,6 +112,43 @@ def browses(tmux):
     tmux.keys("C-c")
     tmux.ended("Ctrl-C of tui_browse", 130)
     refuses(tmux, "tui_browse", [("text", 4, ["refused: not JSON"]), ("--text latin", 4, ["refused: not UTF-8"]), ("", 2, ["refused: usage"]), ("nothing", 6, [])])
+    (tmux.folder / "wrong.json").write_text('{"entries": [{"title": "one", "body": ""}, {"title": 2, "body": ""}]}', encoding="utf-8")
+    (tmux.folder / "long.json").write_text('{"entries": []}'.ljust(LIMIT + 1), encoding="utf-8")
+    refuses(tmux, "tui_browse", [("wrong.json", 5, ["refused: field title at 1"]), ("long.json", 3, ["refused: too long"])])
+
+
+def lines_of(count, length):
+    """Lines of a length, with their newlines, each of which begins with its number in four digits."""
+    return [f"{number:04} ".ljust(length - 1, "x") + "\n" for number in range(1, count + 1)]
+
+
+# Texts, how many pieces they have, keys, and what stands on the screen behind them: the title of a piece, and its first lines. A piece has at most 1,000
+# lines and 65,536 bytes, which are 512 lines of 128 bytes; of a longer line it ends before a character that would go beyond.
+TEXTS = {
+    "65,536 bytes": ("".join(lines_of(600, 128)), 2, "j", ["│>513 0513 xxxxxx", "││0513 xxx", "2/2"]),
+    "a byte more": ("x" + "".join(lines_of(600, 128)), 2, "j", ["│>512 0512 xxxxxx", "││0512 xxx", "2/2"]),
+    "a line that goes on": (65_535 * "a" + "漢bc\nlast\n", 2, "j", ["│>1 漢bc  ", "││漢bc  ", "││last  ", "2/2"]),
+    "a third line that goes on": ("one\ntwo\n" + 65_530 * "a" + 65_535 * "b" + "漢\n", 3, "jj", ["│>3 bbbb", "││bbbb", "3/3"]),
+    "no text": ("", 0, "j", ["││ ", "0/0"]),
+    "1,000 pieces": (1_000_000 * "\n", 1000, "j", ["│>1001  ", "2/1000"]),
+    "1,048,576 bytes": ("".join(lines_of(LIMIT // 64, 64)), 17, "j", ["│>1001 1001 xxxxxx", "││1001 xxx", "2/17"]),
+}
+
+
+def cuts_texts(tmux):
+    """tui_browse --text: where a text is cut into pieces, and how long it may be."""
+    if not is_built("tui_browse"):
+        return
+    for name, (text, pieces, keys, wanted) in TEXTS.items():
+        (tmux.folder / "text").write_text(text, encoding="utf-8")
+        tmux.start("tui_browse --text text", f"{min(pieces, 1)}/{pieces}")
+        tmux.text(keys)
+        tmux.shows(name, *wanted)
+        tmux.text("q")
+        tmux.ended(name, 0)
+    for name, text in (("pieces", 1_000_001 * "\n"), ("bytes", "x" * (LIMIT + 1))):
+        (tmux.folder / name).write_text(text, encoding="utf-8")
+        refuses(tmux, "tui_browse", [(f"--text {name}", 3, ["refused: too long"])])
 
 
 def goes_through_folders(tmux):
@@ -231,7 +269,7 @@ def shows_scenes(tmux):
     tmux.equal("Ctrl-Z of scenes: stty -a", tmux.run("stty -a"), tmux.lines)
     tmux.type("clear; fg; echo $? >status")
     tmux.shows("a scene of another size behind fg", "three")
-    tmux.until("the end of scenes behind fg", lambda: tmux.status() == "0")
+    tmux.ended_behind_fg("the end of scenes behind fg", 0)
     tmux.start("tui_view frames", "one", "./hold | ")
     tmux.keys("C-c")
     tmux.ended("Ctrl-C of scenes", 130)
@@ -242,4 +280,20 @@ def shows_scenes(tmux):
     tmux.ended("tui_view none", 2, "refused: usage")
 
 
-LIVES = (browses, goes_through_folders, asks, watches, shows_scenes)
+def keeps_a_list(tmux):
+    """list_app_example of docs/TASKS.md: a list of 20 columns and 4 rows until another size is told."""
+    if not is_built("list_app_example"):
+        return
+    lives(tmux, Living("list_app_example", ["> apples", "  dates"], ["> apples", "  figs"], ["> apples", "  brea"]))
+    tmux.start("list_app_example", "> apples")
+    tmux.text("jjj")
+    tmux.shows("the last row", "  apples", "> dates")
+    tmux.keys("Down")
+    tmux.shows("a row below it", "  bread", "> eggs")
+    tmux.text("k")
+    tmux.shows("the row above", "> dates", "  eggs")
+    tmux.text("q")
+    tmux.ended("q of list_app_example", 0)
+
+
+LIVES = (browses, cuts_texts, goes_through_folders, asks, watches, shows_scenes, keeps_a_list)

@@ -86,7 +86,8 @@ class Tmux:
         (self.folder / "status").unlink(missing_ok=True)
         self.type("clear; seq 3")
         self.until("a screen of three rows", lambda: self.screen() == "1\n2\n3\nready>")
-        self.line = f"{before}./live {words}; echo $? >status"
+        self.job = f"{before}./live {words}"
+        self.line = f"{self.job}; echo $? >status"
         self.type(self.line)
         self.shows(f"the start of {words}", row)
 
@@ -96,8 +97,16 @@ class Tmux:
 
     def ended(self, name, status, *said):
         """The program has ended, and the terminal is as it was before, but for what was said."""
+        self.rests(name, status, ["1", "2", "3", f"ready> {self.line}", *said])
+
+    def ended_behind_fg(self, name, status):
+        """The same behind `clear; fg; echo $? >status`, where the shell tells which job goes on."""
+        self.rests(name, status, [self.job])
+
+    def rests(self, name, status, rows):
+        """The status is told, and the terminal is as before with these rows and the prompt on the screen."""
         self.until(f"{name}: status {status}", lambda: self.status() == str(status))
-        rows = ["1", "2", "3", f"ready> {self.line}", *said, "ready>"]
+        rows = [*rows, "ready>"]
         modes = self.modes.format(x=7, y=len(rows) - 1)
         self.until(f"{name}: the screen", lambda: self.screen() == "\n".join(rows))
         self.until(f"{name}: the modes {modes}", lambda: self.tells(MODES) == modes)
