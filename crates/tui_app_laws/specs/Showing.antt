@@ -19,7 +19,8 @@ pub record IsStandShown {A : Type 0} (o : Output) (stand : Stand A) (commands : 
 
 -- no other list of such commands has this text, but for where one of two neighbouring prints ends and the next begins
 abbrev pub IsOneReading : List Command → List ℕ → Type 0
-IsOneReading commands text = (others : List Command) → All IsSafe others → All IsSmall others → flat_map spelling others ≡ text → joined others ≡ joined commands
+IsOneReading commands text = (others : List Command) → All IsSafe others → All IsSmall others → flat_map spelling others ≡ text →
+    joined others ≡ joined commands
 
 -- The app has taken the events of these reads and drawn. What was put is what enters, and then commands: `earlier` ones, and those from the last
 -- screen on that was sent whole. A terminal with room for that screen's area when they came shows what was drawn, whatever it showed before them.

@@ -1,15 +1,14 @@
--- A pager in a session is one that calls led to, and has the screen's size, if that has room for it.
-use Rattle.std.proofs.Common.{◌≡◌, ◌≢◌, ℕ, ◌<◌, ◌≤◌, ◌-◌, zero, suc, Bool, true, false, List, [], ◌∷◌, ◌++◌, Option, None, Some, cond, replicate, refl, sym, ap, ap₂, subst, true≢false, ◌∙◌, arith}
+-- A pager in a session is one that calls led to, has a size with room for one, and has the screen's size, if that has room for it.
+use Rattle.std.proofs.Common.{◌≡◌, ◌≢◌, ℕ, ◌≤◌, ◌-◌, zero, suc, Bool, true, false, List, [], ◌∷◌, ◌++◌, Option, None, Some, cond, replicate, refl, sym, ap, ap₂, subst, true≢false, ◌∙◌, arith}
 use Rattle.std.proofs.lemmas.Bool.Decides.{nat_tests}
 use Rattle.tui_app.specs.Lives.{Lives, Stand, Takes, area_after, drew, heard, joined, last_size, lived, size_heard, sized}
-use Rattle.tui_app.specs.Session.{Session}
 use Rattle.tui_app.specs.declared.app.Flow.{Flow}
 use Rattle.tui_app.specs.declared.app.Flow.TheVariants.{Go, Redraw, Quit}
 use Rattle.tui_app.specs.declared.feed.Size.{Size}
 use Rattle.tui_app_laws.specs.Showing.{WaitingShows}
 use Rattle.tui_browse_lib.proofs.Pressing.{after_more}
 use Rattle.tui_browse_lib.specs.Asked.{asked, asked_ctrl, calls_for, has_room, letter}
-use Rattle.tui_browse_lib.specs.Laws.{IsOnScreen, PagerIsShown}
+use Rattle.tui_browse_lib.specs.Laws.{PagerIsShown}
 use Rattle.tui_browse_lib.specs.Paging.{PagerDraws, first_of, paging}
 use Rattle.tui_browse_lib.specs.declared.asking.Asked.{Asked}
 use Rattle.tui_browse_lib.specs.declared.asking.Asked.TheVariants as asks
@@ -132,17 +131,46 @@ event_size size (events.Resize width height) = refl
 event_size size events.Tick = refl
 event_size size events.Unknown = refl
 
--- ---- both, from event to event and from read to read
+-- ---- of a size with room for one
+
+abbrev IsLarge : PagerData → Type 0
+IsLarge p = has_room p.width p.height ≡ true
+
+large_first : (entries : List EntryData) (width height : ℕ) (b : Bool) → b ≡ has_room width height →
+    IsLarge (cond b (pager_of entries width height) (pager_of entries 12 5))
+large_first entries width height true e = sym e
+large_first entries width height false e = refl
+
+large_resized : (p : PagerData) (width height : ℕ) (b : Bool) → b ≡ has_room width height → IsLarge p →
+    IsLarge (after_calls p (cond b (resize width height ∷ []) []))
+large_resized p width height true e large = sym e
+large_resized p width height false e large = large
+
+large_pressed : (p : PagerData) (key : Key) (n : ℕ) → IsLarge p → IsLarge (after_calls p (replicate n (press key)))
+large_pressed p key zero large = large
+large_pressed p key (suc n) large = large_pressed (after_call p (press key)) key n large
+
+asked_large : (a : Asked) (p : PagerData) → IsLarge p → IsLarge (after_calls p (calls_for a p))
+asked_large asks.Nothing p large = large
+asked_large asks.Quit p large = large
+asked_large asks.Redraw p large = large
+asked_large (asks.Press key) p large = large
+asked_large (asks.Turn key) p large = large_pressed p key (p.height - 3) large
+asked_large (asks.Size width height) p large = large_resized p width height (has_room width height) refl large
+
+-- ---- all of it, from event to event and from read to read
 
 record Kept (entries : List EntryData) (area : Rect) (p : PagerData) : Type 0 where
   came : Came entries p
   fits : Fits area p
+  large : IsLarge p
 
 step_kept : (entries : List EntryData) (area : Rect) (size : Option Size) (e : Event) (p q : PagerData) → Kept entries (area_after area size) p →
     q ≡ after_calls p (calls_for (asked e) p) → Kept entries (area_after area (sized size e)) q
 step_kept entries area size e p q kept is = record {
   came = came_by entries p q (calls_for (asked e) p) kept.came is;
   fits = subst (λ (s : Option Size). Fits (area_after area s) q) (event_size size e) (asked_fits area size (asked e) p q kept.fits is);
+  large = subst IsLarge (sym is) (asked_large (asked e) p kept.large);
 }
 
 takes_kept : (entries : List EntryData) (area : Rect) (size : Option Size) (es : List Event) (flow last : Flow) (old new : PagerApp) → last ≢ Quit →
@@ -160,7 +188,11 @@ lives_kept : (entries : List EntryData) (width height : ℕ) (begin : PagerApp) 
 lives_kept entries width height begin _ _ first (drew stand is) =
     let e : stand.app.pager ≡ first_of entries width height = is.draws.0 ∙ first in
     let kept : Kept entries (area_of 0 0 width height) (first_of entries width height) =
-    record { came = came_first entries width height; fits = fits_first entries width height } in
+    record {
+      came = came_first entries width height;
+      fits = fits_first entries width height;
+      large = large_first entries width height (has_room width height) refl;
+    } in
     subst (λ (r : Rect). Kept entries r stand.app.pager) (sym is.area_is) (subst (Kept entries (area_of 0 0 width height)) (sym e) kept)
 lives_kept entries width height begin _ _ first (lived reads bytes flow old new lives turn) =
     let was = lives_kept entries width height begin reads old first lives in
@@ -190,4 +222,5 @@ pager_is_shown o waits entries width height begin stand reads tape sent first se
       sound = subst IsSoundPager (sym came.is) (stays_sound entries came.columns came.rows came.calls);
       seen = subst SeesSelected (sym came.is) (selected_is_seen entries came.columns came.rows came.calls);
       page = λ room. drawn.page (sym (page_is stand.app.pager.width stand.app.pager.height drawn.wide drawn.high ∙ kept.fits room));
+      small = λ none. drawn.other (λ same. true≢false (sym kept.large ∙ (sym (ap (λ (r : Rect). has_room r.width r.height) same) ∙ none)));
     }
