@@ -9,7 +9,8 @@ use Rattle.tui_app_laws.specs.Showing.{WaitingShows}
 use Rattle.tui_cells.specs.Buffer.{Screen}
 use Rattle.tui_cells.specs.Rect.{is_empty}
 use Rattle.tui_cells.specs.declared.rect.Rect.{Rect}
-use Rattle.tui_files_lib.specs.Drawing.{BrowserDraws, ShowsNames, has_room, names_area, names_list, row_item, row_label, selected_row, selecting}
+use Rattle.tui_files_lib.specs.Drawing.{BrowserDraws, ShowsNames, has_room, names_area, names_list, row_item, selected_row, selecting}
+use Rattle.tui_files_lib.specs.Rows.{row_label}
 use Rattle.tui_files_lib.specs.Laws.{NamesAreSeen, NamesAreShown, files}
 use Rattle.tui_files_lib.specs.declared.browser.Browser.{Browser}
 use Rattle.tui_files_lib.specs.declared.files.FilesApp.{FilesApp}

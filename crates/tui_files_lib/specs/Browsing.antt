@@ -33,6 +33,8 @@ use Rattle.tui_app.specs.declared.app.Flow.{Flow}
 use Rattle.tui_app.specs.declared.app.Flow.TheVariants.{Go}
 use Rattle.tui_files_lib.specs.Asked.{browsed, flow_after, idle, typing}
 use Rattle.tui_files_lib.specs.Drawing.{selected_row}
+use Rattle.tui_files_lib.specs.Naming.{without_controls}
+use Rattle.tui_files_lib.specs.Rows.{ListsNames}
 use Rattle.tui_files_lib.specs.declared.asking.Asked.{Asked}
 use Rattle.tui_files_lib.specs.declared.asking.Asked.TheVariants.{GoIn, GoOut, TurnHidden, BeginPart, KeepPart, DropPart, Move}
 use Rattle.tui_files_lib.specs.declared.asking.Motion.{Motion}
@@ -113,19 +115,29 @@ IsListed b = (row : ℕ) × (b.state ≡ selecting_in (length b.rows.items) row 
 abbrev pub without_part : Browser → Browser
 without_part b = record b { types = false; part = empty_input 255 }
 
+-- the wanted names of its listing are its rows
+abbrev pub ListsWanted : Browser → Type 0
+ListsWanted b = ListsNames b.hidden (text_of b.part) b.listing.names.items b.rows.items
+
 -- the names are listed anew, by what is wanted of them
 pub record Narrows (old new : Browser) : Type 0 where
   pub stays : new ≡ record old { rows = new.rows; state = new.state; head = new.head }
+  pub rows : ListsWanted new
   pub listed : IsListed new
 
 -- another folder is shown
 pub record ShowsFolder (folder : List ℕ) (old new : Browser) : Type 0 where
   pub folder_is : string_bytes new.folder ≡ folder
+  pub title_is : string_bytes new.title ≡ without_controls folder
   pub narrows : Narrows (record (without_part old) { folder = new.folder; title = new.title; listing = new.listing }) new
 
 -- or it is told that it can't be read
+pub record TellsUnread (folder : List ℕ) (old new : Browser) : Type 0 where
+  pub stays : new ≡ record old { notice = new.notice }
+  pub told : string_bytes new.notice ≡ without_controls folder ++ codes " cannot be read"
+
 abbrev pub Opens : List ℕ → Browser → Browser → Type 0
-Opens folder old new = ShowsFolder folder old new ⊎ (new ≡ record old { notice = new.notice })
+Opens folder old new = ShowsFolder folder old new ⊎ TellsUnread folder old new
 
 -- the folder that a folder stands in is shown; above the root there is none
 abbrev pub GoesOut : Option (List ℕ) → Option (List ℕ) → Browser → Browser → Type 0
@@ -162,10 +174,13 @@ pub record Steps (old : Browser) (event : Event) (new : Browser) : Type 0 where
   pub rests : (flow : Flow) → idle event ≡ Some flow → new ≡ old
   pub heeds : idle event ≡ None → Heeds old event new
 
--- a folder's names are listed at first, but those that begin with a dot, and nothing is refused
+-- a folder's names are listed at first, but those that begin with a dot, and nothing is refused; a page has a name until one is drawn
 pub record IsBegun (folder : List ℕ) (b : Browser) : Type 0 where
   pub folder_is : string_bytes b.folder ≡ folder
+  pub title_is : string_bytes b.title ≡ without_controls folder
+  pub rows : ListsWanted b
   pub listed : IsListed b
+  pub page : b.page ≡ 1
   pub hidden : b.hidden ≡ false
   pub part : b.part ≡ empty_input 255
   pub types : b.types ≡ false

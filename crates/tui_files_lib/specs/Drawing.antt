@@ -10,8 +10,8 @@ use Rattle.tui_cells.specs.declared.position.Position.{Position}
 use Rattle.tui_cells.specs.declared.rect.Rect.{Rect}
 use Rattle.tui_frames.specs.Block.{BlockData, block_of}
 use Rattle.tui_frames.specs.InBlock.{inner_of}
+use Rattle.tui_files_lib.specs.Rows.{row_label}
 use Rattle.tui_files_lib.specs.declared.browser.Browser.{Browser}
-use Rattle.tui_files_lib.specs.declared.rows.Row.{Row}
 use Rattle.tui_input.specs.Input.{InputMoves, bare_input, cursor_in, input_after}
 use Rattle.tui_input.specs.State.{TypedText}
 use Rattle.tui_lists.specs.List.{ListData, ListMoves, list_of}
@@ -21,10 +21,6 @@ use Rattle.tui_lists.specs.Tabs.{reversed}
 use Rattle.tui_lists.specs.declared.list.state.ListState.{ListState}
 use Rattle.tui_text.specs.Line.{raw_line}
 use Rattle.tui_text.specs.Text.{empty_text}
-
--- what a row shows
-abbrev pub row_label : Row → List ℕ
-row_label row = string_bytes row.label
 
 -- a row as an item of the list: one line
 abbrev pub row_item : List ℕ → ListItemData
@@ -95,10 +91,11 @@ pub record DrawsPart (old : Browser) (screen : Screen) (place : Option Position)
   pub typed : old.types ≡ true → ShowsCursor new.part screen place × (new.part ≡ input_after bare_input (part_area screen.area) old.part)
   pub other : old.types ≡ false → (place ≡ None) × (new.part ≡ old.part)
 
--- The names and the part, where there is room, and else that the screen is too small. Of the browser the list's state alone changes, how far a page goes, and
--- from where on the part is shown.
+-- The names and the part, where there is room. Of the browser the list's state alone changes, how far a page goes, which is as many names as the list has rows,
+-- and from where on the part is shown. Else it is said that the screen is too small, and the browser stays.
 pub record BrowserDraws (old : Browser) (screen : Screen) (place : Option Position) (new : Browser) : Type 0 where
   pub stays : new ≡ record old { state = new.state; page = new.page; part = new.part }
   pub names : has_room screen.area ≡ true → ShowsNames (names_list new) (selecting old.state) new.state screen
+  pub page : has_room screen.area ≡ true → new.page ≡ screen.area.height - 3
   pub part : has_room screen.area ≡ true → DrawsPart old screen place new
-  pub other : has_room screen.area ≡ false → SaysTooSmall screen × (place ≡ None) × (new.part ≡ old.part)
+  pub other : has_room screen.area ≡ false → SaysTooSmall screen × (place ≡ None) × (new ≡ old)

@@ -1,4 +1,6 @@
 pub mod Asked
+pub mod Naming
+pub mod Rows
 pub mod Drawing
 pub mod Browsing
 pub mod Laws

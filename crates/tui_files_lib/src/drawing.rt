@@ -1,6 +1,6 @@
 //! The screen of a browser.
 
-ghost use Rattle.std.specs.Prelude.{◌≡◌, None, IfOk, OnOk, false, map, true};
+ghost use Rattle.std.specs.Prelude.{◌≡◌, ◌-◌, None, IfOk, OnOk, false, map, true};
 ghost use Rattle.tui_cells.specs.Buffer.{IsFilled};
 ghost use Rattle.tui_cells.specs.Cell.{blank};
 ghost use Rattle.tui_cells.specs.Layers.{KeptOutside, Painted};
@@ -17,11 +17,11 @@ ghost use Rattle.tui_files_lib.specs.Drawing.{
   names_list,
   part_area,
   row_item,
-  row_label,
   selecting,
   status_area,
   titled_block,
 };
+ghost use Rattle.tui_files_lib.specs.Rows.{row_label};
 ghost use Rattle.tui_frames.specs.Block.{block_data};
 ghost use Rattle.tui_frames.specs.InBlock.{inner_of};
 ghost use Rattle.tui_lists.specs.List.{ListMoves, list_data};
@@ -66,6 +66,7 @@ impl Browser {
         requires filled { IsFilled buf.old.area blank buf.old }
         requires room { has_room buf.old.area ≡ true }
         ensures names { OnOk result (ShowsNames (names_list self.new) (selecting self.old.state) self.new.state buf.new) }
+        ensures page { OnOk result (self.new.page ≡ buf.old.area.height - 3) }
         ensures part { IfOk result (λ place. DrawsPart self.old buf.new place self.new) }
         ensures stays { OnOk result (self.new ≡ record self.old { state = self.new.state; page = self.new.page; part = self.new.part }) }
         ensures area { OnOk result (buf.new.area ≡ buf.old.area) }

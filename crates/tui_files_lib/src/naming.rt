@@ -2,6 +2,7 @@
 
 ghost use Rattle.std.specs.Prelude.{◌≡◌, IfOk, string_bytes};
 ghost use Rattle.tui_files_lib.specs.Browsing.{path_of, slash_behind};
+ghost use Rattle.tui_files_lib.specs.Naming.{label_of, mark_behind, shown_char, without_controls};
 
 use crate::folders::{HEAD_BYTES, Kind, Name};
 use std::alloc::Global;
@@ -11,25 +12,42 @@ use tui_cells::Mem;
 const REPLACEMENT: char = '\u{FFFD}';
 
 /// A name in a list: a slash stands behind a folder's.
-pub(crate) fn label_of(alloc: Global, name: &Name) -> Mem<String> {
+pub(crate) fn label_of(alloc: Global, name: &Name) -> Mem<String>
+    ensures { IfOk result (λ label. string_bytes label ≡ label_of name.now) }
+{
     let mut label = without_controls(alloc, name.text.as_str())?;
-    if name.kind == Kind::Folder {
-        label.push('/')?;
-    }
+    label.push_str(mark_behind(name.kind))?;
     Ok(label)
 }
 
+fn mark_behind(kind: Kind) -> &'static str
+    ensures { result.now ≡ mark_behind kind }
+{
+    match kind {
+        Kind::Folder => "/",
+        Kind::File => "",
+    }
+}
+
 /// A text with U+FFFD for each control character.
-pub(crate) fn without_controls(alloc: Global, text: &str) -> Mem<String> {
+pub(crate) fn without_controls(alloc: Global, text: &str) -> Mem<String>
+    ensures { IfOk result (λ shown. string_bytes shown ≡ without_controls text.now) }
+{
     let mut shown = String::with_capacity(alloc, text.len())?;
     for character in text.chars() {
-        if character.is_control() {
-            shown.push(REPLACEMENT)?;
-        } else {
-            shown.push(character)?;
-        }
+        shown.push(shown_char(character))?;
     }
     Ok(shown)
+}
+
+fn shown_char(character: char) -> char
+    ensures { result ≡ shown_char character }
+{
+    if character.is_control() {
+        REPLACEMENT
+    } else {
+        character
+    }
 }
 
 /// The path of a name in a folder.

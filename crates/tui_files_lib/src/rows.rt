@@ -1,5 +1,8 @@
 //! The rows of the list.
 
+ghost use Rattle.std.specs.Prelude.{◌≡◌, IfOk};
+ghost use Rattle.tui_files_lib.specs.Rows.{ListsNames, has_part, is_hidden, is_wanted};
+
 use crate::folders::Name;
 use crate::naming::label_of;
 use std::alloc::Global;
@@ -20,13 +23,29 @@ pub(crate) struct Wish<'w> {
 }
 
 impl Wish<'_> {
-    fn takes(self, name: &str) -> bool {
-        (self.hidden || !name.starts_with('.')) && name.contains(self.part)
+    fn takes(self, name: &str) -> bool
+        ensures { result ≡ is_wanted self.entry.hidden self.entry.part.now name.now }
+    {
+        (self.hidden || !is_hidden(name)) && has_part(self.part, name)
     }
 }
 
+fn is_hidden(name: &str) -> bool
+    ensures { result ≡ is_hidden name.now }
+{
+    name.starts_with('.')
+}
+
+fn has_part(part: &str, text: &str) -> bool
+    ensures { result ≡ has_part part.now text.now }
+{
+    text.contains(part)
+}
+
 /// The rows of the names that are wanted, in the names' order.
-pub(crate) fn rows_of(alloc: Global, names: &[Name], wish: Wish<'_>) -> Mem<Vec<Row>> {
+pub(crate) fn rows_of(alloc: Global, names: &[Name], wish: Wish<'_>) -> Mem<Vec<Row>>
+    ensures { IfOk result (λ rows. ListsNames wish.entry.hidden wish.entry.part.now names.now rows.items) }
+{
     let mut rows = Vec::new(alloc);
     for place in 0..names.len() {
         let name = &names[place];

@@ -2,7 +2,8 @@ use Rattle.std.proofs.Common.{List, map, ap, ◌∙◌, subst}
 use Rattle.tui_cells.specs.Rect.{intersection_of}
 use Rattle.tui_files_lib.proofs.Shown.{list_drawn}
 use Rattle.tui_files_lib.proofs.drawing.draw_names.Goals as goal
-use Rattle.tui_files_lib.specs.Drawing.{list_over, row_item, row_label}
+use Rattle.tui_files_lib.specs.Drawing.{list_over, row_item}
+use Rattle.tui_files_lib.specs.Rows.{row_label}
 use Rattle.tui_frames.specs.InBlock.{inner_of}
 use Rattle.tui_lists.specs.List.{ListData, ListMoves, list_data}
 use Rattle.tui_lists.specs.ListItem.{ListItemData}

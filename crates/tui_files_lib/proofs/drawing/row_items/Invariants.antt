@@ -1,5 +1,6 @@
 use Rattle.std.proofs.Common.{◌≡◌, map, take}
-use Rattle.tui_files_lib.specs.Drawing.{row_item, row_label}
+use Rattle.tui_files_lib.specs.Drawing.{row_item}
+use Rattle.tui_files_lib.specs.Rows.{row_label}
 use Rattle.tui_files_lib.proofs.drawing.row_items.Given as goal
 use Rattle.tui_lists.specs.ListItem.{list_item_data}
 

@@ -2,7 +2,8 @@ use Rattle.std.proofs.Common.{List, ℕ, Some, map, refl, ap, ap₂, ◌∙◌}
 use Rattle.tui_files_lib.proofs.Shown.{shows_names}
 use Rattle.tui_files_lib.proofs.Typed.{draws_part, still_shows}
 use Rattle.tui_files_lib.proofs.browser.Browser.draw_in_room.Goals as goal
-use Rattle.tui_files_lib.specs.Drawing.{list_over, names_list, row_item, row_label, selecting}
+use Rattle.tui_files_lib.specs.Drawing.{list_over, names_list, row_item, selecting}
+use Rattle.tui_files_lib.specs.Rows.{row_label}
 use Rattle.tui_files_lib.specs.declared.browser.Browser.{Browser}
 use Rattle.tui_files_lib.specs.declared.rows.Row.{Row}
 

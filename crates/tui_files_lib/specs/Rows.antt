@@ -1,0 +1,39 @@
+-- Which names a list has, and what their rows show.
+use Rattle.std.specs.Prelude.{◌≡◌, ◌==◌, ◌&&◌, ◌||◌, ℕ, Bool, false, not, List, [], ◌∷◌, All, length, map, nat_eq, option_map, Some, slice_get, slice_index, string_bytes, unwrap_or}
+use Rattle.std.specs.List.{filter, range_with_len, starts_with}
+use Rattle.tui_files_lib.specs.Naming.{label_of}
+use Rattle.tui_files_lib.specs.declared.folders.Name.{Name}
+use Rattle.tui_files_lib.specs.declared.rows.Row.{Row}
+
+-- what a row shows
+abbrev pub row_label : Row → List ℕ
+row_label row = string_bytes row.label
+
+-- the place of its name
+abbrev pub row_place : Row → ℕ
+row_place row = row.place
+
+-- whether a part stands somewhere in a text
+abbrev pub has_part : List ℕ → List ℕ → Bool
+has_part part [] = starts_with nat_eq [] part
+has_part part (b ∷ text) = starts_with nat_eq (b ∷ text) part || has_part part text
+
+-- a hidden name begins with a dot
+abbrev pub is_hidden : List ℕ → Bool
+is_hidden text = slice_index text 0 == 46
+
+-- which names are wanted: hidden ones only if these are, and those that have the part
+abbrev pub is_wanted : Bool → List ℕ → List ℕ → Bool
+is_wanted hidden part text = (hidden || not (is_hidden text)) && has_part part text
+
+-- their places in a listing
+abbrev pub is_wanted_at : Bool → List ℕ → List Name → ℕ → Bool
+is_wanted_at hidden part names place = unwrap_or (option_map (λ name. is_wanted hidden part (string_bytes name.text)) (slice_get names place)) false
+
+abbrev pub wanted_places : Bool → List ℕ → List Name → List ℕ
+wanted_places hidden part names = filter (is_wanted_at hidden part names) (range_with_len 0 (length names))
+
+-- The rows are those of the wanted names, each once and in their order, and each shows the name at its place.
+pub record ListsNames (hidden : Bool) (part : List ℕ) (names : List Name) (rows : List Row) : Type 0 where
+  pub places : map row_place rows ≡ wanted_places hidden part names
+  pub labels : All (λ row. option_map label_of (slice_get names row.place) ≡ Some (row_label row)) rows
