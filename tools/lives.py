@@ -119,19 +119,19 @@ def browses(tmux):
 
 def lines_of(count, length):
     """Lines of a length, with their newlines, each of which begins with its number in four digits."""
-    return [f"{number:04} ".ljust(length - 1, "x") + "\n" for number in range(1, count + 1)]
+    return [f"{number:04}".ljust(length - 1, "x") + "\n" for number in range(1, count + 1)]
 
 
 # Texts, how many pieces they have, keys, and what stands on the screen behind them: the title of a piece, and its first lines. A piece has at most 1,000
 # lines and 65,536 bytes, which are 512 lines of 128 bytes; of a longer line it ends before a character that would go beyond.
 TEXTS = {
-    "65,536 bytes": ("".join(lines_of(600, 128)), 2, "j", ["│>513 0513 xxxxxx", "││0513 xxx", "2/2"]),
-    "a byte more": ("x" + "".join(lines_of(600, 128)), 2, "j", ["│>512 0512 xxxxxx", "││0512 xxx", "2/2"]),
+    "65,536 bytes": ("".join(lines_of(600, 128)), 2, "j", ["│>513 0513xxxxxx", "││0513xxx", "2/2"]),
+    "a byte more": ("x" + "".join(lines_of(600, 128)), 2, "j", ["│>512 0512xxxxxx", "││0512xxx", "2/2"]),
     "a line that goes on": (65_535 * "a" + "漢bc\nlast\n", 2, "j", ["│>1 漢bc  ", "││漢bc  ", "││last  ", "2/2"]),
     "a third line that goes on": ("one\ntwo\n" + 65_530 * "a" + 65_535 * "b" + "漢\n", 3, "jj", ["│>3 bbbb", "││bbbb", "3/3"]),
     "no text": ("", 0, "j", ["││ ", "0/0"]),
     "1,000 pieces": (1_000_000 * "\n", 1000, "j", ["│>1001  ", "2/1000"]),
-    "1,048,576 bytes": ("".join(lines_of(LIMIT // 64, 64)), 17, "j", ["│>1001 1001 xxxxxx", "││1001 xxx", "2/17"]),
+    "1,048,576 bytes": ("".join(lines_of(LIMIT // 64, 64)), 17, "j", ["│>1001 1001xxxxxx", "││1001xxx", "2/17"]),
 }
 
 
