@@ -1,8 +1,10 @@
 """Sessions of the programs that live on a terminal, one key a read, over `tools/refuse.c`: `tools/faults browse` and `tools/faults form`.
 
 Each request for memory is refused in turn: the terminal is left where it was entered, else nothing was written, with status 8. Each put fails in
-turn: status 7, and a first part was written. Random bytes are its keys: it makes no fault of them, in a time that grows as they do. Controls in its
-input and in a paste: what is sent is commands and printable characters. Where a program has answers, none are written but at its usual end."""
+turn: status 7, and a first part was written. Random bytes are its keys: it makes no fault of them, in a time that grows as they do, and a pager shows
+what `tui_pager` prints behind the keys that tools/keys.py makes of them. Keys that come in two reads, cut anywhere but behind an ESC, do what they do in
+one. Controls in its input and in a paste: what is sent is commands of docs/TERMINAL.md and printable characters. Where a program has answers, none are
+written but at its usual end."""
 import json
 import os
 import pathlib
@@ -16,7 +18,13 @@ from typing import NamedTuple
 
 import ends
 from faulty import ROOT, fail, refusing_library
+from keys import pager_keys
+from screens import last_screen
 
+WIDTH, HEIGHT = 40, 12
+SIZE = {"COLUMNS": str(WIDTH), "LINES": str(HEIGHT)}
+# The first size once more, at which all is drawn, behind the end of what may be a paste.
+SIZE_AGAIN = f"\x1b[201~\x1b[8;{HEIGHT};{WIDTH}t".encode()
 ENTER, LEAVE = ends.ENTER.encode("latin-1"), ends.LEAVE.encode("latin-1")
 BEFORE = "what stood there before\n"
 
@@ -57,7 +65,7 @@ def one_a_read(living, keys, environment):
     giver.start()
     with its:
         process = subprocess.Popen([living.program, *living.words], stdin=its, stdout=subprocess.PIPE, stderr=subprocess.PIPE,
-                                   env={**os.environ, "COLUMNS": "40", "LINES": "12", **environment})
+                                   env={**os.environ, **SIZE, **environment})
     written, said = process.communicate()
     giver.join()
     ours.close()
@@ -107,8 +115,7 @@ def over_random_bytes(living):
     seconds = []
     for count in (250_000, 1_000_000):
         before = os.times()
-        done = subprocess.run([living.program, *living.words], input=bytes_of[:count], capture_output=True,
-                              env={**os.environ, "COLUMNS": "40", "LINES": "12"})
+        done = subprocess.run([living.program, *living.words], input=bytes_of[:count], capture_output=True, env={**os.environ, **SIZE})
         after = os.times()
         seconds.append(after.children_user + after.children_system - before.children_user - before.children_system)
         if done.returncode != living.idle or not done.stdout.startswith(ENTER) or not done.stdout.endswith(LEAVE):
@@ -118,13 +125,50 @@ def over_random_bytes(living):
     return seconds
 
 
+def shows_what_was_read(living, entries, work):
+    """Random bytes, whole keys and pieces of keys: the last screen is the one of `tui_pager` behind the keys that the oracle makes of them."""
+    some = random.Random(48)
+    strange = [bytes([byte]) for byte in range(256) if byte not in living.quits]
+    sorts = [strange, FIFTY, [piece.encode() for piece in PIECES], [piece.encode() for piece in PIECES]]
+    bytes_of = work / "bytes"
+    pager = built("tui_pager")
+    for stretch in range(STRETCHES):
+        given = b"".join(some.choice(some.choice(sorts)) for _ in range(LONG)) + SIZE_AGAIN
+        keys = pager_keys(given, WIDTH, HEIGHT)
+        asked = json.dumps({**entries, "width": WIDTH, "height": HEIGHT, "keys": keys}).encode()
+        printed = subprocess.run([pager], input=asked, capture_output=True, check=True).stdout.decode()
+        wanted = [line for line in printed.splitlines() if line[0] != "k"]
+        bytes_of.write_bytes(given)
+        with open(bytes_of, "rb") as reads:
+            done = subprocess.run([living.program, *living.words], stdin=reads, capture_output=True, env={**os.environ, **SIZE})
+        found = last_screen(done.stdout, WIDTH, HEIGHT)
+        if done.returncode != living.idle or found != wanted:
+            fail(living.name, "ends with", done.returncode, "behind stretch", stretch, "of random bytes, and shows", "\n".join(["", *found, "wanted", *wanted]))
+
+
+def in_two_reads(living):
+    """Its keys in two reads, cut at each place but behind an ESC, end as in one, with the same answers, or else with the same screen."""
+    given = b"".join(living.keys) + SIZE_AGAIN
+
+    def end_by(*reads):
+        status, written, _ = one_a_read(living, reads, {})
+        return status, living.answered() if living.answers else last_screen(written, WIDTH, HEIGHT)
+
+    whole = end_by(given)
+    cuts = [cut for cut in range(1, len(given)) if given[cut - 1 : cut] != b"\x1b"]
+    for cut in cuts:
+        found = end_by(given[:cut], given[cut:])
+        if found != whole:
+            fail(living.name, "ends with", found, "where its keys are cut between", given[:cut][-8:], "and", given[cut:][:8], "and not with", whole)
+    return len(cuts)
+
+
 def sends_no_command(living, keys):
     """Controls in texts and a paste: what is sent is commands of docs/TERMINAL.md and printable characters, and no control of a text."""
     status, written, _ = one_a_read(living, keys, {})
     if status != living.idle or not written.startswith(ENTER) or not written.endswith(LEAVE):
         fail(living.name, "ends with", status, "over controls")
-    known = rb"\x1b\[[0-9;]*[mHJKGABCDXd]|\x1b\[\?(25|7|69|6|2004|2026|1049)[hl]|\x18|\x1b\\|\x1b\[4l|\x1b\[r|\x1b\(B|\x0f"
-    rest = re.sub(known, b"", written).decode()
+    rest = re.sub(COMMANDS, b"", written).decode()
     controls = sorted({character for character in rest if not character.isprintable()})
     if controls:
         fail(living.name, "sends", controls)
@@ -134,11 +178,15 @@ def tried(living, work):
     """All of these of a session, told in a line."""
     requests, library, again = without_memory(living, work)
     puts = without_puts(living, work)
+    cuts = in_two_reads(living)
     seconds = over_random_bytes(living)
     print(f"faults: {living.name}: {requests} requests refused in turn, of which {library} were the C library's and {again} made again;",
-          f"{puts} puts failed in turn; random bytes: {seconds[0]:.1f} and {seconds[1]:.1f} seconds", flush=True)
+          f"{puts} puts failed in turn; {cuts} cuts; random bytes: {seconds[0]:.1f} and {seconds[1]:.1f} seconds", flush=True)
 
 
+# The table of commands in docs/TERMINAL.md: place, across, paint and add, tame, turn.
+COMMANDS = (rb"\x1b\[\d+;\d+H|\x1b\[\d+G|\x1b\[\d+(;\d+){0,15}m|\x18\x1b\\|\x1b\[\?(69|6)l|\x1b\[4l|\x1b\[r|\x1b\(B|\x0f"
+            rb"|\x1b\[\?(7|25|2026|2004|1049)[hl]")
 CONTROLS = "a\x1b[6n\x1b]0;t\x07b\x9b5nc\x1b[201~"
 PASTE = [b"\x1b[200~\x1b[6n\x1b]0;t\x07\x1b[201~"]
 
@@ -146,18 +194,28 @@ PASTE = [b"\x1b[200~\x1b[6n\x1b]0;t\x07\x1b[201~"]
 
 ENTRIES = {"entries": [{"title": f"entry {number}", "body": f"line {number}\n" * number + "漢字 of a long line that is wrapped, " * 3} for number in range(12)]}
 HOSTILE_ENTRIES = {"entries": [{"title": CONTROLS, "body": "one\x1b[6n\x85two\x9b5n\x1b[201~\x1bP1\x1b\\three\x08\x7f\0"}, {"title": "plain", "body": ""}]}
+HOSTILE_TEXT = f"{CONTROLS}\none\x1b[6n\x85two\x9b5n\x1bP1\x1b\\three\x08\x7f\0\x0b\f\r\n" + 1000 * "\x1b[201~\x9d\x1b]0;t\x07\n"
 FIFTY = [b"j", b"j", b"J", b" ", b"\x1b[B", b"\x1b[6~", b"\x0c", b"\x7f", b"k", b"\x1b[F", b"\x1b[8;8;30t", b"j", b"\x1b[8;3;30t", b"j",
          b"\x1b[8;12;40t", b"K", b"\x1b[200~", b"x", b"\x1b[201~", b"\x1b[5~", b"\x1b[H", b"J", b"J", b"\0", b"\x1b"] * 2
+# What keys are made of, for the oracle of random bytes; how often it is asked, and of how many pieces. Only some are whole keys, since the first and the
+# last entry, which a few of them select, hide what came before.
+PIECES = ["\x1b", "[", "\x1b[", "\x1b[1;", "\x1b[8;", "\x1bO", "\x1b[[", "\x1b]", "\x1bP", "\x1b[?", "\x1b\\", "\x07", "\0", "1", "2", "5", "6", "7", "8",
+          ";", "~", "A", "B", "F", "H", "t", "j", "J", " ", "\x7f", "漢", "\x1b[1;2A", "\x1b[1;9B", "\x1b[5;2~", "\x1b[2A", "\x1b[7~",
+          "\x1b[8;5;12t", "\x1b[8;4;90t", "\x1b[8;20;90t", "\x1b[200~", "\x1b[201~"]
+STRETCHES, LONG = 1000, 80
 
 
 def browse(work):
     program = built("tui_browse")
-    entries, hostile, text = work / "entries.json", work / "hostile.json", work / "text"
+    entries, hostile, text, bad = work / "entries.json", work / "hostile.json", work / "text", work / "hostile"
     entries.write_text(json.dumps(ENTRIES), encoding="utf-8")
     hostile.write_text(json.dumps(HOSTILE_ENTRIES), encoding="utf-8")
+    bad.write_text(HOSTILE_TEXT, encoding="utf-8")
     text.write_text("".join(f"line {number} of a text\n" for number in range(2500)), encoding="utf-8")
     pager = Living("browse", program, [entries], FIFTY, 0, 0, b"\x03q")
-    sends_no_command(pager._replace(words=[hostile]), [b"J", *PASTE, b"j", b"k"])
+    for words in ([hostile], ["--text", bad]):
+        sends_no_command(pager._replace(words=words), [b"J", *PASTE, b"j", b"k"])
+    shows_what_was_read(pager, ENTRIES, work)
     tried(pager, work)
     tried(pager._replace(name="browse --text", words=["--text", text]), work)
 
