@@ -1,6 +1,8 @@
 pub mod Decoding
 pub mod Bounds
 pub mod Marks
+pub mod MarkBytes
+pub mod MarkReads
 pub mod Texts
 pub mod Pastes
 pub mod Others

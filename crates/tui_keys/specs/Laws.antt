@@ -4,6 +4,7 @@ use Rattle.std.specs.Prelude.{
   ◌≡◌,
   ◌≢◌,
   ◌⊎◌,
+  ◌<◌,
   ◌≤◌,
   ◌*◌,
   Bool,
@@ -23,6 +24,7 @@ use Rattle.std.specs.Prelude.{
   if◌then◌else◌,
   ⊤,
 }
+use Rattle.std.specs.Str.Parse.{IsNumeral, digits_value}
 use Rattle.tui_keys.specs.declared.event.Event.{Event}
 use Rattle.tui_keys.specs.declared.event.Event.TheVariants as events
 use Rattle.tui_keys.specs.declared.keys.Keys.{Keys}
@@ -101,6 +103,19 @@ OnlyBeginBegins = (keys : Keys) (b : ℕ) → keys.pasting ≡ false → TurnsAt
 
 abbrev pub OnlyEndEnds : Type 0
 OnlyEndEnds = (keys : Keys) (b : ℕ) → keys.pasting ≡ true → TurnsAt 201 events.PasteEnd keys b
+
+-- at the end of these bytes stand ESC [ and digits of this number
+abbrev pub EndsInNumber : ℕ → List ℕ → Type 0
+EndsInNumber number bytes = (before digits : List ℕ) × (bytes ≡ before ++ csi digits) × IsNumeral 10 digits × (digits_value 10 digits ≡ number)
+
+-- the bytes before a mark, but for NULs among them, end so, and what ends so stands before a mark, whatever was known before
+pub record HasBytes (number : ℕ) : Type 0 where
+  pub ends : (bytes : List ℕ) (b : ℕ) → All (λ (c : ℕ). c ≢ 0) bytes → IsMark number (keys_after start bytes).pending b → EndsInNumber number bytes
+  pub stands : (keys : Keys) (digits : List ℕ) → IsNumeral 10 digits → digits_value 10 digits ≡ number →
+      IsMark number (keys_after keys (csi digits)).pending 126
+
+abbrev pub MarksHaveBytes : Type 0
+MarksHaveBytes = (number : ℕ) → 0 < number → number < 65535 → HasBytes number
 
 -- a text with newlines and tabs that is pasted is its characters
 abbrev pub PasteIsItself : Type 0

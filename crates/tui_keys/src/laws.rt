@@ -5,6 +5,7 @@ ghost use Rattle.tui_keys.specs.Laws.{
   AnswersPassOver,
   EventsAreBounded,
   EventsAreFew,
+  MarksHaveBytes,
   NulIsATick,
   OnlyBeginBegins,
   OnlyEndEnds,
@@ -35,6 +36,7 @@ pub fn paste_laws()
     ensures outside { OutsideIsOutside }
     ensures begins { OnlyBeginBegins }
     ensures ends { OnlyEndEnds }
+    ensures bytes { MarksHaveBytes }
     ensures itself { PasteIsItself }
 {}
 

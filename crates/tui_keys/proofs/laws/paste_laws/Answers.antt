@@ -1,3 +1,4 @@
+use Rattle.tui_keys.proofs.MarkReads.{marks_have_bytes}
 use Rattle.tui_keys.proofs.Marks.{only_begin_begins, only_end_ends, outside_is_outside}
 use Rattle.tui_keys.proofs.Pastes.{paste_is_itself, pasted_is_pasted}
 use Rattle.tui_keys.proofs.laws.paste_laws.Goals as goal
@@ -16,3 +17,6 @@ returns-clause-outside c = outside_is_outside
 
 pub returns-clause-begins : goal.returns-clause-begins
 returns-clause-begins c = only_begin_begins
+
+pub returns-clause-bytes : goal.returns-clause-bytes
+returns-clause-bytes c = marks_have_bytes
