@@ -34,7 +34,7 @@ use Rattle.tui_app.specs.declared.app.Flow.TheVariants.{Go}
 use Rattle.tui_files_lib.specs.Asked.{browsed, flow_after, idle, typing}
 use Rattle.tui_files_lib.specs.Drawing.{selected_row}
 use Rattle.tui_files_lib.specs.Naming.{without_controls}
-use Rattle.tui_files_lib.specs.Rows.{ListsNames}
+use Rattle.tui_files_lib.specs.Rows.{ListsNames, place_of, row_at, row_place}
 use Rattle.tui_files_lib.specs.declared.asking.Asked.{Asked}
 use Rattle.tui_files_lib.specs.declared.asking.Asked.TheVariants.{GoIn, GoOut, TurnHidden, BeginPart, KeepPart, DropPart, Move}
 use Rattle.tui_files_lib.specs.declared.asking.Motion.{Motion}
@@ -58,6 +58,10 @@ name_of names row = slice_get names row.place
 -- the selected name, if there is one
 abbrev pub selected_name : Browser → Option Name
 selected_name b = option_and_then (name_of b.listing.names.items) (slice_get b.rows.items (selected_row b.state))
+
+-- its place in the listing, the first one where none is selected
+abbrev pub selected_place : Browser → ℕ
+selected_place b = unwrap_or (option_map row_place (slice_get b.rows.items (selected_row b.state))) 0
 
 -- what it leads to
 abbrev pub selected_kind : Browser → Option Kind
@@ -107,9 +111,9 @@ flow_of b event = unwrap_or (idle event) (if takes_event b event then Go else fl
 
 -- ---- what becomes of a browser
 
--- a list of names from its first row on, where one of them is selected, if there are any
-abbrev pub IsListed : Browser → Type 0
-IsListed b = (row : ℕ) × (b.state ≡ selecting_in (length b.rows.items) row at_rest)
+-- The list stands at its first row. The name at a place is selected, if it is among the rows, else the first one.
+abbrev pub IsListed : ℕ → Browser → Type 0
+IsListed place b = b.state ≡ selecting_in (length b.rows.items) (row_at b.rows.items place) at_rest
 
 -- any part is wanted
 abbrev pub without_part : Browser → Browser
@@ -119,47 +123,51 @@ without_part b = record b { types = false; part = empty_input 255 }
 abbrev pub ListsWanted : Browser → Type 0
 ListsWanted b = ListsNames b.hidden (text_of b.part) b.listing.names.items b.rows.items
 
--- the names are listed anew, by what is wanted of them
-pub record Narrows (old new : Browser) : Type 0 where
+-- the names are listed anew, by what is wanted of them, and the one at a place is selected
+pub record Narrows (place : ℕ) (old new : Browser) : Type 0 where
   pub stays : new ≡ record old { rows = new.rows; state = new.state; head = new.head }
   pub rows : ListsWanted new
-  pub listed : IsListed new
+  pub listed : IsListed place new
 
--- another folder is shown
-pub record ShowsFolder (folder : List ℕ) (old new : Browser) : Type 0 where
+-- another folder is shown, with a name of it selected, if one is given
+pub record ShowsFolder (folder : List ℕ) (name : Option (List ℕ)) (old new : Browser) : Type 0 where
   pub folder_is : string_bytes new.folder ≡ folder
   pub title_is : string_bytes new.title ≡ without_controls folder
-  pub narrows : Narrows (record (without_part old) { folder = new.folder; title = new.title; listing = new.listing }) new
+  pub narrows : Narrows (place_of new.listing.names.items name) (record (without_part old) {
+    folder = new.folder;
+    title = new.title;
+    listing = new.listing;
+  }) new
 
 -- or it is told that it can't be read
 pub record TellsUnread (folder : List ℕ) (old new : Browser) : Type 0 where
   pub stays : new ≡ record old { notice = new.notice }
   pub told : string_bytes new.notice ≡ without_controls folder ++ codes " cannot be read"
 
-abbrev pub Opens : List ℕ → Browser → Browser → Type 0
-Opens folder old new = ShowsFolder folder old new ⊎ TellsUnread folder old new
+abbrev pub Opens : List ℕ → Option (List ℕ) → Browser → Browser → Type 0
+Opens folder name old new = ShowsFolder folder name old new ⊎ TellsUnread folder old new
 
--- the folder that a folder stands in is shown; above the root there is none
+-- the folder that a folder stands in is shown, and that folder selected; above the root there is none
 abbrev pub GoesOut : Option (List ℕ) → Option (List ℕ) → Browser → Browser → Type 0
-GoesOut (Some parent) (Some name) old new = Opens parent old new
+GoesOut (Some parent) (Some name) old new = Opens parent (Some name) old new
 GoesOut _ _ old new = new ≡ old
 
--- what is asked is done
+-- What is asked is done. The selected name stays selected, where it is listed still.
 abbrev pub Does : Asked → Browser → Browser → Type 0
-Does GoIn old new = Opens (chosen_path old) old new
+Does GoIn old new = Opens (chosen_path old) None old new
 Does GoOut old new = GoesOut (path_parent (string_bytes old.folder)) (path_file_name (string_bytes old.folder)) old new
-Does TurnHidden old new = Narrows (record old { hidden = not old.hidden }) new
+Does TurnHidden old new = Narrows (selected_place old) (record old { hidden = not old.hidden }) new
 Does BeginPart old new = new ≡ record old { types = true }
 Does KeepPart old new = new ≡ record old { types = false }
-Does DropPart old new = Narrows (without_part old) new
+Does DropPart old new = Narrows (selected_place old) (without_part old) new
 Does (Move motion) old new = new ≡ record old { state = moved motion old; head = new.head }
 Does _ old new = new ≡ old
 
--- The part takes an event. Where its text changes the names are listed anew.
+-- The part takes an event. Where its text changes the names are listed anew, and the selected one stays selected, where it is listed still.
 abbrev pub Takes : Event → Browser → Browser → Type 0
 Takes event old new =
     let typed = record old { part = took old.part event } in
-    ((length (text_of typed.part) ≡ length (text_of old.part)) × (new ≡ typed)) ⊎ Narrows typed new
+    ((length (text_of typed.part) ≡ length (text_of old.part)) × (new ≡ typed)) ⊎ Narrows (selected_place old) typed new
 
 -- What was refused is told no longer. Then the part takes the event, or what it asks is done.
 pub record Heeds (old : Browser) (event : Event) (new : Browser) : Type 0 where
@@ -179,7 +187,7 @@ pub record IsBegun (folder : List ℕ) (b : Browser) : Type 0 where
   pub folder_is : string_bytes b.folder ≡ folder
   pub title_is : string_bytes b.title ≡ without_controls folder
   pub rows : ListsWanted b
-  pub listed : IsListed b
+  pub listed : IsListed 0 b
   pub page : b.page ≡ 1
   pub hidden : b.hidden ≡ false
   pub part : b.part ≡ empty_input 255

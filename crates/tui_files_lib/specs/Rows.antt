@@ -1,6 +1,7 @@
 -- Which names a list has, and what their rows show.
-use Rattle.std.specs.Prelude.{◌≡◌, ◌==◌, ◌&&◌, ◌||◌, ℕ, Bool, false, not, List, [], ◌∷◌, All, length, map, nat_eq, option_map, Some, slice_get, slice_index, string_bytes, unwrap_or}
-use Rattle.std.specs.List.{filter, range_with_len, starts_with}
+use Rattle.std.specs.Prelude.{◌≡◌, ◌==◌, ◌&&◌, ◌||◌, ℕ, Bool, false, not, List, [], ◌∷◌, All, length, map, nat_eq, Option, None, Some, option_map, slice_get, slice_index, string_bytes, unwrap_or}
+use Rattle.std.specs.List.{filter, position, range_with_len, starts_with}
+use Rattle.std.specs.Str.{bytes_eq}
 use Rattle.tui_files_lib.specs.Naming.{label_of}
 use Rattle.tui_files_lib.specs.declared.folders.Name.{Name}
 use Rattle.tui_files_lib.specs.declared.rows.Row.{Row}
@@ -37,3 +38,14 @@ wanted_places hidden part names = filter (is_wanted_at hidden part names) (range
 pub record ListsNames (hidden : Bool) (part : List ℕ) (names : List Name) (rows : List Row) : Type 0 where
   pub places : map row_place rows ≡ wanted_places hidden part names
   pub labels : All (λ row. option_map label_of (slice_get names row.place) ≡ Some (row_label row)) rows
+
+-- ---- what is selected when names are listed
+
+-- the row of the name at a place, else the first one
+abbrev pub row_at : List Row → ℕ → ℕ
+row_at rows place = unwrap_or (position (λ row. row.place == place) rows) 0
+
+-- the place of the name that is to be selected, else the first one
+abbrev pub place_of : List Name → Option (List ℕ) → ℕ
+place_of names None = 0
+place_of names (Some text) = unwrap_or (position (λ name. bytes_eq (string_bytes name.text) text) names) 0

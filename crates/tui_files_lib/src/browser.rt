@@ -2,7 +2,7 @@
 
 ghost use Rattle.std.specs.Option.{option_copied};
 ghost use Rattle.std.specs.Prelude.{◌≡◌, ◌-◌, IfOk, OnOk, length, min, string_bytes};
-ghost use Rattle.tui_files_lib.specs.Browsing.{IsBegun, Narrows, ShowsFolder, asked, row_after, selected_kind, selected_name, selecting_in, without_part};
+ghost use Rattle.tui_files_lib.specs.Browsing.{IsBegun, Narrows, ShowsFolder, asked, row_after, selected_kind, selected_name, selected_place, selecting_in, without_part};
 ghost use Rattle.tui_files_lib.specs.Drawing.{selected_row};
 
 use crate::asking::{Asked, Motion, browsed, typing};
@@ -63,19 +63,19 @@ impl Browser {
             head: String::new(alloc),
             notice: String::new(alloc),
         };
-        browser.show(alloc, folder, listing, "")?;
+        browser.show(alloc, folder, listing, None)?;
         Ok(browser)
     }
 
-    /// Shows another folder, with this name selected if it is among the wanted ones.
+    /// Shows another folder, with this name selected if it is among the wanted ones, else the first one.
     pub(crate) fn show(
         &mut self,
         alloc: Global,
         folder: String,
         mut listing: Listing,
-        name: &str,
+        name: Option<&str>,
     ) -> Mem<()>
-        ensures { OnOk result (ShowsFolder (string_bytes folder) self.old self.new) }
+        ensures { OnOk result (ShowsFolder (string_bytes folder) (option_copied name.entry) self.old self.new) }
     {
         listing.names.sort_unstable();
         self.title = without_controls(alloc, folder.as_str())?;
@@ -96,7 +96,7 @@ impl Browser {
 
     /// Makes the rows anew, and selects that of the name at a place if it is among them, else the first one.
     pub(crate) fn narrow(&mut self, alloc: Global, place: usize) -> Mem<()>
-        ensures { OnOk result (Narrows self.old self.new) }
+        ensures { OnOk result (Narrows place self.old self.new) }
     {
         let wish = Wish {
             hidden: self.hidden,
@@ -140,7 +140,9 @@ impl Browser {
     }
 
     /// The place of the selected name in the listing.
-    pub(crate) fn place(&self) -> usize {
+    pub(crate) fn place(&self) -> usize
+        ensures { result ≡ selected_place self.now }
+    {
         match self.rows.get(self.row()) {
             Some(row) => row.place,
             None => 0,

@@ -1,9 +1,10 @@
 //! The app.
 
+ghost use Rattle.std.specs.Option.{option_copied};
 ghost use Rattle.std.specs.Path.{path_file_name, path_parent};
 ghost use Rattle.std.specs.Prelude.{◌≡◌, None, IfOk, IfSome, OnOk, false, not, string_bytes, true};
 ghost use Rattle.tui_files_lib.specs.Asked.{idle};
-ghost use Rattle.tui_files_lib.specs.Browsing.{Does, GoesOut, Heeds, IsBegun, Narrows, Opens, Takes, chosen_path, flow_of, moved, takes_event, without_part};
+ghost use Rattle.tui_files_lib.specs.Browsing.{Does, GoesOut, Heeds, IsBegun, Narrows, Opens, Takes, chosen_path, flow_of, moved, selected_place, takes_event, without_part};
 
 use crate::asking::{Asked, Motion, flow_after, idle};
 use crate::browser::Browser;
@@ -70,9 +71,9 @@ impl<F: Folders + Drop> FilesApp<F> {
         }
     }
 
-    /// Shows a folder, unless it can't be read.
-    fn open(&mut self, alloc: Global, folder: String, name: &str) -> Mem<()>
-        ensures { OnOk result (Opens (string_bytes folder) self.old.browser self.new.browser) }
+    /// Shows a folder, with this name selected, unless it can't be read.
+    fn open(&mut self, alloc: Global, folder: String, name: Option<&str>) -> Mem<()>
+        ensures { OnOk result (Opens (string_bytes folder) (option_copied name.entry) self.old.browser self.new.browser) }
     {
         match self.folders.list(alloc, folder.as_str())? {
             Some(listing) => {
@@ -89,10 +90,10 @@ impl<F: Folders + Drop> FilesApp<F> {
 
     /// Goes into the selected folder.
     fn go_in(&mut self, alloc: Global) -> Mem<()>
-        ensures { OnOk result (Opens (chosen_path self.old.browser) self.old.browser self.new.browser) }
+        ensures { OnOk result (Opens (chosen_path self.old.browser) None self.old.browser self.new.browser) }
     {
         let folder = self.chosen(alloc)?;
-        self.open(alloc, folder, "")
+        self.open(alloc, folder, None)
     }
 
     /// Goes out of the folder, which is selected then.
@@ -105,7 +106,7 @@ impl<F: Folders + Drop> FilesApp<F> {
         match (path.parent(), path.file_name()) {
             (Some(parent), Some(name)) => {
                 let folder = String::from_str(alloc, parent.as_str())?;
-                self.open(alloc, folder, name)
+                self.open(alloc, folder, Some(name))
             }
             _ => Ok(()),
         }
@@ -113,7 +114,7 @@ impl<F: Folders + Drop> FilesApp<F> {
 
     /// Shows the names that are wanted now. The selected one stays, if it is among them.
     fn narrow(&mut self, alloc: Global) -> Mem<()>
-        ensures { OnOk result (Narrows self.old.browser self.new.browser) }
+        ensures { OnOk result (Narrows (selected_place self.old.browser) self.old.browser self.new.browser) }
     {
         let place = self.browser.place();
         self.browser.narrow(alloc, place)?;
@@ -122,7 +123,7 @@ impl<F: Folders + Drop> FilesApp<F> {
 
     /// Shows the names that begin with a dot, or hides them.
     fn turn_hidden(&mut self, alloc: Global) -> Mem<()>
-        ensures { OnOk result (Narrows (record self.old.browser { hidden = not self.old.browser.hidden }) self.new.browser) }
+        ensures { OnOk result (Narrows (selected_place self.old.browser) (record self.old.browser { hidden = not self.old.browser.hidden }) self.new.browser) }
     {
         self.browser.hidden = !self.browser.hidden;
         self.narrow(alloc)
@@ -130,7 +131,7 @@ impl<F: Folders + Drop> FilesApp<F> {
 
     /// Drops the part that names are wanted with.
     fn drop_part(&mut self, alloc: Global) -> Mem<()>
-        ensures { OnOk result (Narrows (without_part self.old.browser) self.new.browser) }
+        ensures { OnOk result (Narrows (selected_place self.old.browser) (without_part self.old.browser) self.new.browser) }
     {
         self.browser.drop_part(alloc);
         self.narrow(alloc)

@@ -1,7 +1,8 @@
 //! The rows of the list.
 
-ghost use Rattle.std.specs.Prelude.{◌≡◌, IfOk};
-ghost use Rattle.tui_files_lib.specs.Rows.{ListsNames, has_part, is_hidden, is_wanted};
+ghost use Rattle.std.specs.Option.{option_copied};
+ghost use Rattle.std.specs.Prelude.{◌≡◌, IfOk, Some};
+ghost use Rattle.tui_files_lib.specs.Rows.{ListsNames, has_part, is_hidden, is_wanted, place_of, row_at};
 
 use crate::folders::Name;
 use crate::naming::label_of;
@@ -58,12 +59,25 @@ pub(crate) fn rows_of(alloc: Global, names: &[Name], wish: Wish<'_>) -> Mem<Vec<
 }
 
 /// The row of the name at a place, else the first one.
-pub(crate) fn row_at(rows: &[Row], place: usize) -> usize {
+pub(crate) fn row_at(rows: &[Row], place: usize) -> usize
+    ensures { result ≡ row_at rows.now place }
+{
     rows.iter().position(|row| row.place == place).unwrap_or(0)
 }
 
-/// The place of a name in a listing, else the first one.
-pub(crate) fn place_of(names: &[Name], text: &str) -> usize {
+/// The place of the name that is to be selected, else the first one.
+pub(crate) fn place_of(names: &[Name], name: Option<&str>) -> usize
+    ensures { result ≡ place_of names.now (option_copied name.entry) }
+{
+    match name {
+        Some(text) => place_of_text(names, text),
+        None => 0,
+    }
+}
+
+fn place_of_text(names: &[Name], text: &str) -> usize
+    ensures { result ≡ place_of names.now (Some text.now) }
+{
     names
         .iter()
         .position(|name| name.text.as_str() == text)
