@@ -1,8 +1,7 @@
 //! The app.
 
-ghost use Rattle.std.specs.Prelude.{◌≡◌, ◌↔◌, ⊤};
-ghost use Rattle.tui_app.specs.declared.app.Flow.TheVariants.{Quit};
-ghost use Rattle.tui_keys.specs.declared.event.Event.TheVariants.{Char};
+ghost use Rattle.std.specs.Prelude.{◌≡◌, false, ⊤};
+ghost use Rattle.tui_watch_lib.specs.Watch.{flow_of, paused_after, reads};
 
 use crate::drawing::{draw_headline, draw_meters, rows_of};
 use crate::history::History;
@@ -52,7 +51,10 @@ impl<M: Machine + Drop> Watch<M> {
     }
 
     // Reads the machine.
-    fn look(&mut self, alloc: Global) -> Mem<()> {
+    fn look(&mut self, alloc: Global) -> Mem<()>
+        ensures machine { self.new.machine ≡ self.old.machine }
+        ensures paused { self.new.paused ≡ self.old.paused }
+    {
         let reading = Reading::take(alloc, &self.machine, &mut self.reading)?;
         self.trends.push(&reading);
         drop(mem::replace(&mut self.reading, reading));
@@ -61,9 +63,10 @@ impl<M: Machine + Drop> Watch<M> {
 }
 
 impl<M: Machine + Drop> App for Watch<M> {
-    // What is proved of it: q quits (113 is its code), and nothing else does.
+    // What is proved of it: how it goes on, whether it is paused, and that what it has measured stays, unless an event has it read the machine.
     ghost behaviour = { record {
-      steps = λ old event new flow. (flow ≡ Quit) ↔ (event ≡ Char 113);
+      steps = λ old event new flow. (flow ≡ flow_of event) × (new.paused ≡ paused_after old.paused event) × (new.machine ≡ old.machine)
+          × (reads old.paused event ≡ false → (new.reading ≡ old.reading) × (new.trends ≡ old.trends));
       draws = λ old screen place new. ⊤;
     } };
 
