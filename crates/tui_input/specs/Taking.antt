@@ -60,6 +60,11 @@ pasted s event = s
 abbrev pub took : TypedText → Event → TypedText
 took s event = if s.pasting then pasted s event else keyed s event
 
+-- an event is a character, which alone wants memory
+abbrev pub is_character : Event → Bool
+is_character (events.Char c) = true
+is_character event = false
+
 -- an event is the input's own: its keys, and all that comes within a paste
 abbrev pub is_used : TypedText → Event → Bool
 is_used s event = s.pasting || is_key event

@@ -1,7 +1,7 @@
 //! What a text input makes of events.
 
-ghost use Rattle.std.specs.Prelude.{◌≡◌, IfOk, OnErr, OnOk};
-ghost use Rattle.tui_input.specs.Taking.{commanded, is_command, is_key, is_used, keyed, pasted, pasted_char, took, with_pasting};
+ghost use Rattle.std.specs.Prelude.{◌≡◌, false, IfOk, IsOk, OnErr, OnOk};
+ghost use Rattle.tui_input.specs.Taking.{commanded, is_character, is_command, is_key, is_used, keyed, pasted, pasted_char, took, with_pasting};
 
 use crate::state::InputState;
 use tui_cells::Mem;
@@ -11,10 +11,11 @@ impl InputState {
     /// Takes an event, and answers whether it is one of the input's own: a character, as `insert` takes it; Backspace, Delete, Left,
     /// Right, Home and End; with Ctrl, a and e as Home and End, u and k to take out the text left and right of the cursor, w to take out
     /// a word; and a paste, of which the characters are taken, each newline as a blank, and nothing is a command. Any other event
-    /// changes nothing. At `NoMemory` nothing has changed.
+    /// changes nothing. Only a character wants memory. At `NoMemory` nothing has changed.
     pub fn take(&mut self, event: Event) -> Mem<bool>
         ensures ok { OnOk result (self.new ≡ took self.old event) }
         ensures used { IfOk result (λ used. used ≡ is_used self.old event) }
+        ensures light { is_character event ≡ false → IsOk result }
         ensures err { OnErr result (self.new ≡ self.old) }
     {
         if self.is_pasting() {
@@ -26,6 +27,7 @@ impl InputState {
 
     fn take_pasted(&mut self, event: Event) -> Mem<()>
         ensures ok { OnOk result (self.new ≡ pasted self.old event) }
+        ensures light { is_character event ≡ false → IsOk result }
         ensures err { OnErr result (self.new ≡ self.old) }
     {
         match event {
@@ -44,6 +46,7 @@ impl InputState {
     fn take_key(&mut self, event: Event) -> Mem<bool>
         ensures ok { OnOk result (self.new ≡ keyed self.old event) }
         ensures used { IfOk result (λ used. used ≡ is_key event) }
+        ensures light { is_character event ≡ false → IsOk result }
         ensures err { OnErr result (self.new ≡ self.old) }
     {
         match event {
