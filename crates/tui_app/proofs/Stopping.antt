@@ -1,5 +1,5 @@
 -- What was read and put, one after the other.
-use Rattle.std.proofs.Common.{◌≡◌, ◌⊎◌, inl, inr, ℕ, ◌+◌, List, [], ◌∷◌, ◌++◌, true, length, take, Option, None, Some, Result, Ok, Err, refl, sym, ap, subst, ◌∙◌, arith}
+use Rattle.std.proofs.Common.{◌≡◌, ◌⊎◌, inl, inr, ℕ, ◌+◌, ◌<◌, ◌≤◌, List, [], ◌∷◌, ◌++◌, true, length, take, Option, None, Some, Result, Ok, Err, refl, sym, ap, subst, ◌∙◌, arith}
 use Rattle.std.proofs.lemmas.List.{length-append}
 use Rattle.std.proofs.Math.Seq.{take-append-add}
 use Rattle.std.specs.Io.KnownBytes.{Appends}
@@ -71,7 +71,8 @@ not_opened b o begin app area surface t now e begun h =
       | inl broke ↦ cut enter_text t.faults (enters (stand_of app surface) begun.first refl) broke.part broke.faults
       | inr broke ↦
           cut (enter_text ++ broke.0) t.faults
-          (shows (stand_of app surface) [] (enter_text ++ broke.0) (enter_text ++ broke.0) (begins (stand_of app surface) broke.0 begun.first broke.1) refl)
+          (shows (stand_of app surface) [] (enter_text ++ broke.0) (enter_text ++ broke.0) (begins (stand_of app surface) broke.0 begun.first broke.1)
+          (omega arith) refl)
           broke.2.part broke.2.faults
     ]
 
@@ -109,9 +110,9 @@ turned {A} b o old new bytes t0 t1 t2 result took h = by_result result h
 
 -- what stopped is left, or a put fails
 stopped : {A : Type 0} (b : Behaviour A) (o : Output) (begin last : A) (area : Rect) (stand : Stand A) (end result : AppEnd) (t0 t1 t2 t3 : Told) (count : ℕ) (given : List ℕ) →
-    HasBeen b o begin area stand t0 t1 count → Stops b stand count given last end → Counts end t0.faults t2.faults → Appends t1.bytes t2.bytes given →
+    HasBeen b o begin area stand t0 t1 count → count ≤ 4294967296 → Stops b stand count given last end → Counts end t0.faults t2.faults → Appends t1.bytes t2.bytes given →
     ((result ≡ end) × Took t2 t3 leave_text) ⊎ ((result ≡ ends.WriteFault) × Broke t2 t3 leave_text) → IsAppRun b o begin area t0 t3 last result
-stopped {A} b o begin last area stand end result t0 t1 t2 t3 count given been stops counts appends c =
+stopped {A} b o begin last area stand end result t0 t1 t2 t3 count given been few stops counts appends c =
     let tape = been.tape ++ (given ++ leave_text) in
     let has : (now : ℕ) → Counts end t0.faults now → HasStopped b o begin area last end tape t0.faults now = λ now faults. record {
       stand = stand;
@@ -120,6 +121,7 @@ stopped {A} b o begin last area stand end result t0 t1 t2 t3 count given been st
       sent = been.sent;
       given = given;
       session = been.session;
+      few = subst (λ (n : ℕ). n ≤ 4294967296) (sym been.counted) few;
       stops = subst (λ (n : ℕ). Stops b stand n given last end) (sym been.counted) stops;
       faults = faults;
       tape_is = refl;
@@ -139,26 +141,31 @@ stopped {A} b o begin last area stand end result t0 t1 t2 t3 count given been st
 
 -- a read ends the session
 pub has_ended : {A : Type 0} (b : Behaviour A) (o : Output) (begin : A) (area : Rect) (stand new : Stand A) (t0 t1 t2 t3 : Told) (count : ℕ) (end result : AppEnd) →
-    HasBeen b o begin area stand t0 t1 count → Turned b o stand new t1 t2 (Some end) → Closed end t2 t3 result → IsAppRun b o begin area t0 t3 new.app result
-has_ended {A} b o begin area stand new t0 t1 t2 t3 count end result been t c = by_end end t c
+    HasBeen b o begin area stand t0 t1 count → count < 4294967296 → Turned b o stand new t1 t2 (Some end) → Closed end t2 t3 result →
+    IsAppRun b o begin area t0 t3 new.app result
+has_ended {A} b o begin area stand new t0 t1 t2 t3 count end result been less t c = by_end end t c
   where
+    few : count ≤ 4294967296
+    few = omega (arith, less)
+
     by_end : (e : AppEnd) → Turned b o stand new t1 t2 (Some e) → Closed e t2 t3 result → IsAppRun b o begin area t0 t3 new.app result
     by_end ends.WriteFault t c =
         let tape = been.tape ++ (gave t.0 ++ t.1) in
         let sent = been.sent ++ t.1 in
         let broke : Broke t1 t3 (gave t.0 ++ t.1) = subst (λ (k : Told). Broke t1 k (gave t.0 ++ t.1)) (sym c.1) t.3 in
         subst (λ (e : AppEnd). IsAppRun b o begin area t0 t3 new.app e) (sym c.0)
-        (cut tape t0.faults (shows new (been.reads ++ t.0 ∷ []) tape sent (goes_on stand new been.reads been.tape been.sent t.0 t.1 been.session t.2) refl)
+        (cut tape t0.faults (shows new (been.reads ++ t.0 ∷ []) tape sent (goes_on stand new been.reads been.tape been.sent t.0 t.1 been.session t.2)
+        (omega (arith, less, been.counted, length-append been.reads (t.0 ∷ []))) refl)
         (part_after t0.bytes t1.bytes t3.bytes been.tape (gave t.0 ++ t.1) been.took.taken broke.part)
         (subst (λ (n : ℕ). Rose n t3.faults) been.took.faults broke.faults))
     by_end ends.Quit t c =
-        stopped b o begin new.app area stand ends.Quit result t0 t1 t2 t3 count (gave t.0) been (t.0, t.1, refl, t.2) (t.3.faults ∙ been.took.faults) t.3.taken c
+        stopped b o begin new.app area stand ends.Quit result t0 t1 t2 t3 count (gave t.0) been few (t.0, t.1, refl, t.2) (t.3.faults ∙ been.took.faults) t.3.taken c
     by_end ends.NoMemory t c =
-        stopped b o begin new.app area stand ends.NoMemory result t0 t1 t2 t3 count (gave t.0) been (t.0, t.1, refl) (t.2.faults ∙ been.took.faults) t.2.taken c
+        stopped b o begin new.app area stand ends.NoMemory result t0 t1 t2 t3 count (gave t.0) been few (t.0, t.1, refl) (t.2.faults ∙ been.took.faults) t.2.taken c
     by_end ends.Ended t c =
-        stopped b o begin new.app area stand ends.Ended result t0 t1 t2 t3 count (gave []) been (refl, t.1) (t.0.faults ∙ been.took.faults) t.0.taken c
+        stopped b o begin new.app area stand ends.Ended result t0 t1 t2 t3 count (gave []) been few (refl, t.1) (t.0.faults ∙ been.took.faults) t.0.taken c
     by_end ends.ReadFault t c =
-        stopped b o begin new.app area stand ends.ReadFault result t0 t1 t2 t3 count [] been (refl, t.1) (subst (λ (n : ℕ). Rose n t2.faults) been.took.faults t.0.faults)
+        stopped b o begin new.app area stand ends.ReadFault result t0 t1 t2 t3 count [] been few (refl, t.1) (subst (λ (n : ℕ). Rose n t2.faults) been.took.faults t.0.faults)
         (Appends-keeps t1.bytes t1.bytes t2.bytes [] (Appends-none t1.bytes) t.0.kept) c
     by_end ends.ManyReads t c = absurd t
 
@@ -166,4 +173,4 @@ has_ended {A} b o begin area stand new t0 t1 t2 t3 count end result been t c = b
 pub many_reads : {A : Type 0} (b : Behaviour A) (o : Output) (begin : A) (area : Rect) (stand : Stand A) (t0 t1 t3 : Told) (count : ℕ) (result : AppEnd) →
     count ≡ 4294967296 → HasBeen b o begin area stand t0 t1 count → Closed ends.ManyReads t1 t3 result → IsAppRun b o begin area t0 t3 stand.app result
 many_reads b o begin area stand t0 t1 t3 count result all been c =
-    stopped b o begin stand.app area stand ends.ManyReads result t0 t1 t1 t3 count [] been (refl, refl, all) been.took.faults (Appends-none t1.bytes) c
+    stopped b o begin stand.app area stand ends.ManyReads result t0 t1 t1 t3 count [] been (omega (arith, all)) (refl, refl, all) been.took.faults (Appends-none t1.bytes) c

@@ -1,5 +1,5 @@
 -- Whole runs.
-use Rattle.std.specs.Prelude.{◌≡◌, ℕ, List, [], ◌++◌, length}
+use Rattle.std.specs.Prelude.{◌≡◌, ℕ, ◌≤◌, List, [], ◌++◌, length}
 use Rattle.std.specs.Io.KnownBytes.{Appends}
 use Rattle.tui_app.specs.Behaviour.{Behaviour}
 use Rattle.tui_app.specs.Lives.{IsFirstStand, Stand, Takes, heard}
@@ -28,7 +28,7 @@ abbrev pub Counts : AppEnd → ℕ → ℕ → Type 0
 Counts ReadFault before now = Rose before now
 Counts _ before now = now ≡ before
 
--- a session stopped, and was left
+-- a session of no more reads than that stopped, and was left
 pub record HasStopped {A : Type 0} (b : Behaviour A) (o : Output) (begin : A) (area : Rect) (last : A) (end : AppEnd) (tape : List ℕ)
     (before now : ℕ) : Type 0 where
   pub stand : Stand A
@@ -37,6 +37,7 @@ pub record HasStopped {A : Type 0} (b : Behaviour A) (o : Output) (begin : A) (a
   pub sent : List ℕ
   pub given : List ℕ
   pub session : Session b o begin area stand reads waited sent
+  pub few : length reads ≤ 4294967296
   pub stops : Stops b stand (length reads) given last end
   pub faults : Counts end before now
   pub tape_is : tape ≡ waited ++ (given ++ leave_text)
@@ -44,8 +45,8 @@ pub record HasStopped {A : Type 0} (b : Behaviour A) (o : Output) (begin : A) (a
 -- what is put, and what of the terminal has failed before
 pub data Sending {A : Type 0} (b : Behaviour A) (o : Output) (begin : A) (area : Rect) (last : A) (before : ℕ) : List ℕ → ℕ → Type 0 where
   enters : (first : Stand A) → IsFirstStand b begin area first → last ≡ first.app → Sending b o begin area last before enter_text before
-  shows : (stand : Stand A) (reads : List (List ℕ)) (tape sent : List ℕ) → Session b o begin area stand reads tape sent → last ≡ stand.app
-      → Sending b o begin area last before tape before
+  shows : (stand : Stand A) (reads : List (List ℕ)) (tape sent : List ℕ) → Session b o begin area stand reads tape sent → length reads ≤ 4294967296
+      → last ≡ stand.app → Sending b o begin area last before tape before
   leaves : (end : AppEnd) (tape : List ℕ) (now : ℕ) → HasStopped b o begin area last end tape before now → Sending b o begin area last before tape now
 
 -- A run of an app on a terminal of an area, and the app at its end: a session stopped; a put failed, and the tape is a first part of it; or

@@ -34,7 +34,7 @@ returns-in-Some g c =
     has_ended g.A.App.behaviour c.args.output c.args.app.now (area_of 0 0 c.args.width c.args.height)
     (stand_of c.turns.app c.turns.surface) (stand_of c.turn.new.app c.turn.new.surface)
     (g.T.Sink.told c.args.terminal.now) (g.T.Sink.told c.turns.terminal) (g.T.Sink.told c.turn.new.terminal) (g.T.Sink.told c.close.new.sink)
-    c.turns._i c.in-Some.end c.close.result c.turns.invariant.been c.in-Some.ensures.turned c.close.ensures
+    c.turns._i c.in-Some.end c.close.result c.turns.invariant.been (omega (arith, c.turns-test.true, c.turns.auto._i-end)) c.in-Some.ensures.turned c.close.ensures
 
 pub returns : goal.returns
 returns g c =
