@@ -1,12 +1,14 @@
 -- The cells of a row, one behind another, and the rows of a screen.
-use Rattle.std.proofs.Common.{◌≡◌, ℕ, suc, ◌+◌, ◌-◌, ◌<◌, ◌≤◌, List, [], ◌∷◌, ◌++◌, length, get_or, drop, slice_index_or, flat_map, Option, Some, None, refl, sym, ap, subst, ◌∙◌, append_assoc, add-one, length-append, drop-cons, length-drop, inl, inr, arith}
+use Rattle.std.proofs.Common.{◌≡◌, Bool, true, false, not, ◌&&◌, ◌||◌, ap₂, ℕ, suc, ◌+◌, ◌-◌, ◌<◌, ◌≤◌, List, [], ◌∷◌, ◌++◌, length, get_or, drop, slice_index_or, flat_map, Option, Some, None, refl, sym, ap, subst, ◌∙◌, append_assoc, add-one, length-append, drop-cons, length-drop, inl, inr, arith}
 use Rattle.std.proofs.Math.ListN.{drop_of_length-le}
 use Rattle.std.proofs.Math.Seq.{get_or-append_seam}
 use Rattle.std.proofs.lemmas.List.{get_or_append_left}
-use Rattle.std.proofs.lemmas.Bool.{cases_lt}
+use Rattle.std.proofs.lemmas.Bool.{and_from, and_parts, cases_lt, true≢false}
 use Rattle.tui_cells.specs.Attributes.{look_of}
 use Rattle.tui_cells.specs.Buffer.{Screen}
 use Rattle.tui_cells.specs.Cell.{Look, blank, space}
+use Rattle.tui_cells.specs.Same.{attributes_self, same_color}
+use Rattle.tui_cells.specs.contracts.color.ColorPartialEq as color
 use Rattle.tui_cells.specs.declared.attributes.Attributes.{Attributes}
 use Rattle.tui_cells.specs.declared.color.Color.{Color}
 use Rattle.tui_cells.specs.declared.color.Color.TheVariants.{Reset}
@@ -14,12 +16,13 @@ use Rattle.tui_tty.specs.declared.depth.Depth.{Depth}
 use Rattle.tui_tty.specs.declared.depth.Depth.TheVariants as depths
 use Rattle.tui_tty.specs.declared.trust.Trust.TheVariants.{Common}
 use Rattle.tui_tty.specs.Colours.{color_at, palette_color, sixteen_color}
-use Rattle.tui_tty.specs.Pens.{attributes_of, marks_of, pen_of}
+use Rattle.tui_tty.specs.Pens.{attributes_of, marks_of, marks_stay, pen_of}
 use Rattle.tui_tty.specs.Pieces.{Cover, next_cover, pieces, row_pieces, shown, shown_row, uncovered}
 use Rattle.tui_tty.specs.Spelling.{spelling}
 use Rattle.tui_tty.specs.Styled.{AreStyledRows, Becomes, StyledRow}
 use Rattle.tui_tty.specs.Terminal.{Command, Pen, print, rest}
-use Rattle.tui_terminal.specs.StyledCells.{AreFirst, StyledCell, styled_line}
+use Rattle.tui_terminal.specs.Adding.{sent_pen}
+use Rattle.tui_terminal.specs.StyledCells.{AreFirst, StyledCell, has_same_marks, is_sent_same, styled_line}
 use Rattle.tui_terminal.proofs.Texts.{more_text, one_text}
 
 -- ---- pens
@@ -46,8 +49,61 @@ rest_pen depth a is =
 abbrev pub at_depth : Depth → Attributes → Attributes
 at_depth depth a = record { fg = color_at depth a.fg; bg = color_at depth a.bg; modifier = a.modifier }
 
-pub one_pen : (depth : Depth) (a b : Attributes) → at_depth depth a ≡ at_depth depth b → pen_of depth a ≡ pen_of depth b
-one_pen depth a b e = λ i. record { fg = (e i).fg; bg = (e i).bg; marks = marks_of (e i).modifier.bits }
+mark_same : (a b : Bool) → (not a || b) ≡ true → (not b || a) ≡ true → a ≡ b
+mark_same true true e f = refl
+mark_same true false e f = absurd (true≢false (sym e))
+mark_same false true e f = absurd (true≢false (sym f))
+mark_same false false e f = refl
+
+marks_same : (ms ns : List Bool) → length ms ≡ length ns → marks_stay ms ns ≡ true → marks_stay ns ms ≡ true → ms ≡ ns
+marks_same [] [] long e f = refl
+marks_same [] (n ∷ ns) long e f = absurd (omega (arith, long))
+marks_same (m ∷ ms) [] long e f = absurd (omega (arith, long))
+marks_same (m ∷ ms) (n ∷ ns) long e f =
+    let there = and_parts (not m || n) (marks_stay ms ns) e in
+    let back = and_parts (not n || m) (marks_stay ns ms) f in
+    ap₂ (λ (k : Bool) (ks : List Bool). k ∷ ks) (mark_same m n there.0 back.0) (marks_same ms ns (omega (arith, long)) there.1 back.1)
+
+mark_stays : (m : Bool) → (not m || m) ≡ true
+mark_stays true = refl
+mark_stays false = refl
+
+marks_stay_same : (ms : List Bool) → marks_stay ms ms ≡ true
+marks_stay_same [] = refl
+marks_stay_same (m ∷ ms) = and_from (not m || m) (marks_stay ms ms) (mark_stays m) (marks_stay_same ms)
+
+own_color : (c : Color) → color.TheImpl.ghosts.eq c c ≡ true
+own_color c = (and_parts (color.TheImpl.ghosts.eq c c) _ (attributes_self (record { fg = c; bg = c; modifier = record { bits = 0 } }))).0
+
+same_sent : (a b : Attributes) → is_sent_same a b ≡ true → sent_pen a ≡ sent_pen b
+same_sent a b e =
+    let colors = color.TheImpl.ghosts.eq a.fg b.fg && color.TheImpl.ghosts.eq a.bg b.bg in
+    let first = and_parts colors (has_same_marks a b) e in
+    let second = and_parts (color.TheImpl.ghosts.eq a.fg b.fg) (color.TheImpl.ghosts.eq a.bg b.bg) first.0 in
+    let third = and_parts (marks_stay (marks_of a.modifier.bits) (marks_of b.modifier.bits))
+    (marks_stay (marks_of b.modifier.bits) (marks_of a.modifier.bits)) first.1 in
+    let fg = same_color a.fg b.fg second.0 in
+    let bg = same_color a.bg b.bg second.1 in
+    let marks = marks_same (marks_of a.modifier.bits) (marks_of b.modifier.bits) refl third.0 third.1 in
+    λ i. record { fg = fg i; bg = bg i; marks = marks i }
+
+sent_same : (a b : Attributes) → sent_pen a ≡ sent_pen b → is_sent_same a b ≡ true
+sent_same a b e =
+    let marks : marks_of a.modifier.bits ≡ marks_of b.modifier.bits = ap (λ (p : Pen). p.marks) e in
+    let fg = subst (λ (c : Color). color.TheImpl.ghosts.eq a.fg c ≡ true) (ap (λ (p : Pen). p.fg) e) (own_color a.fg) in
+    let bg = subst (λ (c : Color). color.TheImpl.ghosts.eq a.bg c ≡ true) (ap (λ (p : Pen). p.bg) e) (own_color a.bg) in
+    let there = subst (λ (ms : List Bool). marks_stay (marks_of a.modifier.bits) ms ≡ true) marks (marks_stay_same (marks_of a.modifier.bits)) in
+    let back = subst (λ (ms : List Bool). marks_stay ms (marks_of a.modifier.bits) ≡ true) marks (marks_stay_same (marks_of a.modifier.bits)) in
+    and_from (color.TheImpl.ghosts.eq a.fg b.fg && color.TheImpl.ghosts.eq a.bg b.bg) (has_same_marks a b)
+    (and_from (color.TheImpl.ghosts.eq a.fg b.fg) (color.TheImpl.ghosts.eq a.bg b.bg) fg bg)
+    (and_from (marks_stay (marks_of a.modifier.bits) (marks_of b.modifier.bits)) (marks_stay (marks_of b.modifier.bits) (marks_of a.modifier.bits)) there back)
+
+-- attributes at a depth set one pen exactly where they are the same as they are sent
+pub one_pen : (depth : Depth) (a b : Attributes) → is_sent_same (at_depth depth a) (at_depth depth b) ≡ true → pen_of depth a ≡ pen_of depth b
+one_pen depth a b e = same_sent (at_depth depth a) (at_depth depth b) e
+
+pub pen_one : (depth : Depth) (a b : Attributes) → pen_of depth a ≡ pen_of depth b → is_sent_same (at_depth depth a) (at_depth depth b) ≡ true
+pen_one depth a b e = sent_same (at_depth depth a) (at_depth depth b) e
 
 -- ---- rows
 

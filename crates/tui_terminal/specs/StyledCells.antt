@@ -1,14 +1,25 @@
 -- The cells of a row, one behind another.
-use Rattle.std.specs.Prelude.{◌≡◌, ℕ, ◌<◌, List, [], ◌∷◌, ◌++◌, length, slice_index_or, flat_map, Option, None, Some}
+use Rattle.std.specs.Prelude.{◌≡◌, Bool, ◌&&◌, ℕ, ◌<◌, List, [], ◌∷◌, ◌++◌, length, slice_index_or, flat_map, Option, None, Some}
 use Rattle.tui_cells.specs.Buffer.{Screen}
 use Rattle.tui_cells.specs.Cell.{Look}
+use Rattle.tui_cells.specs.contracts.color.ColorPartialEq as color
+use Rattle.tui_cells.specs.declared.attributes.Attributes.{Attributes}
 use Rattle.tui_tty.specs.declared.depth.Depth.{Depth}
 use Rattle.tui_tty.specs.declared.trust.Trust.TheVariants.{Common}
-use Rattle.tui_tty.specs.Pens.{attributes_of, pen_of}
+use Rattle.tui_tty.specs.Pens.{attributes_of, marks_of, marks_stay, pen_of}
 use Rattle.tui_tty.specs.Pieces.{row_pieces}
 use Rattle.tui_tty.specs.Spelling.{spelling}
 use Rattle.tui_tty.specs.Styled.{Becomes, StyledRow}
 use Rattle.tui_tty.specs.Terminal.{Command, Pen, print, rest}
+
+-- whether attributes have the same marks, whatever their other bits
+abbrev pub has_same_marks : Attributes → Attributes → Bool
+has_same_marks a b =
+    marks_stay (marks_of a.modifier.bits) (marks_of b.modifier.bits) && marks_stay (marks_of b.modifier.bits) (marks_of a.modifier.bits)
+
+-- whether attributes whose colours are as they are sent set one pen
+abbrev pub is_sent_same : Attributes → Attributes → Bool
+is_sent_same a b = color.TheImpl.ghosts.eq a.fg b.fg && color.TheImpl.ghosts.eq a.bg b.bg && has_same_marks a b
 
 -- commands that print what shows in a column, if anything begins there, by its pen
 abbrev pub StyledCell : Depth → Pen → Option Look → Pen → List Command → Type 0

@@ -115,7 +115,8 @@ fn is_own(color: Color) -> bool
     matches!(color, Color::Reset)
 }
 
-fn marks_stay(was: u16, is: u16) -> bool
+/// Whether each of the marks is one of others.
+pub(crate) fn marks_stay(was: u16, is: u16) -> bool
     ensures { result ≡ marks_stay (marks_of was) (marks_of is) }
 {
     mark_stays(was, is, 1)

@@ -1,10 +1,10 @@
 //! The rows of a buffer one under another, in colours.
 
-ghost use Rattle.std.specs.Prelude.{◌≡◌, ◌<◌, ◌++◌, IsTrue, List, flat_map, length, ℕ};
+ghost use Rattle.std.specs.Prelude.{◌≡◌, ◌↔◌, ◌<◌, ◌++◌, IsTrue, List, flat_map, length, ℕ};
 ghost use Rattle.tui_outside.specs.Causes.{Writes};
 ghost use Rattle.tui_outside.specs.Gathers.{Gathers};
 ghost use Rattle.tui_terminal.specs.Seeing.{cover_of};
-ghost use Rattle.tui_terminal.specs.StyledCells.{StyledCell, styled_line};
+ghost use Rattle.tui_terminal.specs.StyledCells.{StyledCell, has_same_marks, is_sent_same, styled_line};
 ghost use Rattle.tui_tty.specs.Pens.{pen_of};
 ghost use Rattle.tui_tty.specs.Pieces.{next_cover, pieces, shown, shown_row, uncovered};
 ghost use Rattle.tui_tty.specs.Spelling.{spelling};
@@ -12,6 +12,7 @@ ghost use Rattle.tui_tty.specs.Styled.{AreStyledRows, Becomes, StyledRow};
 ghost use Rattle.tui_tty.specs.Terminal.{Command, rest};
 ghost use Rattle.tui_tty.specs.declared.trust.Trust.TheVariants.{Common};
 
+use crate::adding::marks_stay;
 use crate::pens::{at_depth, put_pen};
 use crate::seeing::{Under, see};
 use tui_cells::{Attributes, Buffer, Cell};
@@ -115,15 +116,30 @@ fn put_change<K: Sink>(
 
 // Whether two cells are drawn by one pen.
 fn is_same_pen(depth: Depth, one: Attributes, other: Attributes) -> bool
-    ensures { IsTrue result → pen_of depth one ≡ pen_of depth other }
+    ensures { IsTrue result ↔ (pen_of depth one ≡ pen_of depth other) }
 {
     is_same(one, other) || is_same_at(depth, one, other)
 }
 
 fn is_same_at(depth: Depth, one: Attributes, other: Attributes) -> bool
-    ensures { IsTrue result → pen_of depth one ≡ pen_of depth other }
+    ensures { IsTrue result ↔ (pen_of depth one ≡ pen_of depth other) }
 {
-    is_same(at_depth(depth, one), at_depth(depth, other))
+    is_sent_same(at_depth(depth, one), at_depth(depth, other))
+}
+
+// Whether attributes set one pen where their colours are as they are sent. Bits that are no mark set nothing.
+fn is_sent_same(one: Attributes, other: Attributes) -> bool
+    ensures { result ≡ is_sent_same one other }
+{
+    one.fg == other.fg && one.bg == other.bg && has_same_marks(one, other)
+}
+
+fn has_same_marks(one: Attributes, other: Attributes) -> bool
+    ensures { result ≡ has_same_marks one other }
+{
+    let bits = one.modifier.bits();
+    let others = other.modifier.bits();
+    marks_stay(bits, others) && marks_stay(others, bits)
 }
 
 fn is_same(one: Attributes, other: Attributes) -> bool

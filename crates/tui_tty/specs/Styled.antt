@@ -1,5 +1,5 @@
 -- The rows of a screen one under another, for a pipe or a log: no cursor is moved.
-use Rattle.std.specs.Prelude.{◌≡◌, ℕ, ◌<◌, List, [], ◌∷◌, ◌++◌, length, slice_index_or, flat_map, ◌⊎◌}
+use Rattle.std.specs.Prelude.{◌≡◌, ◌≢◌, ℕ, ◌<◌, List, [], ◌∷◌, ◌++◌, length, slice_index_or, flat_map, ◌⊎◌}
 use Rattle.tui_cells.specs.Buffer.{Screen}
 use Rattle.tui_text.specs.Visible.{Placed}
 use Rattle.tui_tty.specs.declared.depth.Depth.{Depth}
@@ -9,9 +9,9 @@ use Rattle.tui_tty.specs.Pieces.{row_pieces}
 use Rattle.tui_tty.specs.Spelling.{spelling}
 use Rattle.tui_tty.specs.Terminal.{Pen, rest, Command, print}
 
--- one pen becomes another: it is set, or is that one
+-- one pen becomes another: it is that one, or else it is set
 abbrev pub Becomes : Pen → Pen → List Command → Type 0
-Becomes pen next cs = ((pen ≡ next) × (cs ≡ [])) ⊎ (cs ≡ paints_of next)
+Becomes pen next cs = ((pen ≡ next) × (cs ≡ [])) ⊎ ((pen ≢ next) × (cs ≡ paints_of next))
 
 pub record StyledFirst (pen next : Pen) (p : Placed) (others : List Command → Type 0) (cs : List Command) : Type 0 where
   pub paints : List Command

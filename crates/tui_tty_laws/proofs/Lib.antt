@@ -6,6 +6,7 @@ pub mod Depths
 pub mod Adding
 pub mod Steps
 pub mod StyledSafe
+pub mod StyledOnce
 pub mod Mending
 pub mod Rows
 pub mod Apart

@@ -26,13 +26,13 @@ no_back c more = elim (cases_Bool (has_name c)) [
 
 no_paints : (pen next : Pen) (cs more : List Command) → Becomes pen next cs → without_paints (cs ++ more) ≡ without_paints more
 no_paints pen next cs more (inl h) = ap (λ (ds : List Command). without_paints (ds ++ more)) h.1
-no_paints pen next cs more (inr h) = ap (λ (ds : List Command). without_paints (ds ++ more)) h ∙ no_back next.bg more
+no_paints pen next cs more (inr h) = ap (λ (ds : List Command). without_paints (ds ++ more)) h.1 ∙ no_back next.bg more
 
 symbols_of : (depth : Depth) (pen : Pen) (ps : List Placed) (cs : List Command) → StyledRow depth pen ps cs →
     flat_map spelling (without_paints cs) ≡ flat_map (λ (p : Placed). p.cell.symbol) ps
 unfolding spelling has_name
 symbols_of depth pen [] cs (inl h) = ap (λ (ds : List Command). flat_map spelling (without_paints ds)) h.1
-symbols_of depth pen [] cs (inr h) = ap (λ (ds : List Command). flat_map spelling (without_paints ds)) h
+symbols_of depth pen [] cs (inr h) = ap (λ (ds : List Command). flat_map spelling (without_paints ds)) h.1
 symbols_of depth pen (p ∷ ps) cs h =
     let next = pen_of depth (attributes_of p.cell) in
     let rest_of = without_paints h.more in
@@ -89,8 +89,8 @@ paints_draw_none : (knows : List ℕ → Bool) (pen next : Pen) (cs more : List 
 paints_draw_none knows pen next cs more t (inl h) =
     ap (λ (ds : List Command). drawn_by knows (ds ++ more) t) h.1 ∙ sym (ap (λ (ds : List Command). drawn_by knows more (run knows ds t)) h.1)
 paints_draw_none knows pen next cs more t (inr h) =
-    ap (λ (ds : List Command). drawn_by knows (ds ++ more) t) h
-    ∙ (back_draws_none knows next.bg more _ ∙ sym (ap (λ (ds : List Command). drawn_by knows more (run knows ds t)) h))
+    ap (λ (ds : List Command). drawn_by knows (ds ++ more) t) h.1
+    ∙ (back_draws_none knows next.bg more _ ∙ sym (ap (λ (ds : List Command). drawn_by knows more (run knows ds t)) h.1))
 
 -- the pen is the next one behind them
 becomes_has : (knows : List ℕ → Bool) (pen : Pen) (f b : Color) (m : ℕ) (cs : List Command) (t : Tty) → Becomes pen (pen_from f b m) cs → Has pen t →
@@ -99,7 +99,7 @@ becomes_has knows pen f b m cs t (inl h) has =
     subst (λ (ds : List Command). Has (pen_from f b m) (run knows ds t)) (sym h.1) (record { whole = has.whole; is = has.is ∙ ap (λ (p : Pen). Some p) h.0 })
 becomes_has knows pen f b m cs t (inr h) has =
     let there : Has (pen_from f b m) (with_pen (pen_from f b m) t) = record { whole = has.whole; is = refl } in
-    subst (λ (ds : List Command). Has (pen_from f b m) (run knows ds t)) (sym h) (subst (Has (pen_from f b m)) (sym (pen_set knows f b m t has.whole)) there)
+    subst (λ (ds : List Command). Has (pen_from f b m) (run knows ds t)) (sym h.1) (subst (Has (pen_from f b m)) (sym (pen_set knows f b m t has.whole)) there)
 
 -- each cell is drawn by its own pen, and the pen is at rest behind the last one
 record CommandsDraw (depth : Depth) (knows : List ℕ → Bool) (ps : List Placed) (cs : List Command) (t : Tty) : Type 0 where

@@ -23,7 +23,7 @@ IsSafePrint p = IsSafe (print p.cell.symbol)
 
 becomes_safe : (pen : Pen) (f b : Color) (m : ℕ) (cs : List Command) → Becomes pen (pen_from f b m) cs → Each IsSafe cs
 becomes_safe pen f b m cs (inl h) = subst (Each IsSafe) (sym h.1) tt
-becomes_safe pen f b m cs (inr h) = subst (Each IsSafe) (sym h) (pen_safe f b m)
+becomes_safe pen f b m cs (inr h) = subst (Each IsSafe) (sym h.1) (pen_safe f b m)
 
 row_safe : (depth : Depth) (pen : Pen) (ps : List Placed) (cs : List Command) → Each IsSafePrint ps → StyledRow depth pen ps cs → Each IsSafe cs
 row_safe depth pen [] cs quiet h = becomes_safe pen Reset Reset 0 cs h

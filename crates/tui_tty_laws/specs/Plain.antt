@@ -45,6 +45,10 @@ abbrev pub StyledRowsArePlain : Type 0
 StyledRowsArePlain = (depth : Depth) (b : Screen) (text : List ℕ) (k : AreStyledRows depth b text) (y : ℕ) → y < length b.rows →
     IsPlainRow depth (row_pieces Common b y) (slice_index_or k.rows y [])
 
+-- there is one such text for a screen: no pen is set that is that one already
+abbrev pub StyledRowsAreOne : Type 0
+StyledRowsAreOne = (depth : Depth) (b : Screen) (text other : List ℕ) → AreStyledRows depth b text → AreStyledRows depth b other → other ≡ text
+
 -- and none of its symbols holds a control character, so no text of a cell begins a command
 abbrev pub StyledRowsAreSafe : Type 0
 StyledRowsAreSafe = (depth : Depth) (b : Screen) (text : List ℕ) (k : AreStyledRows depth b text) (y : ℕ) → y < length b.rows →

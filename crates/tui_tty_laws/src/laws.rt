@@ -14,7 +14,7 @@ ghost use Rattle.tui_tty_laws.specs.Laws.{
   SendsNothing,
   TrueChangesNothing,
 };
-ghost use Rattle.tui_tty_laws.specs.Plain.{StyledRowsArePlain, StyledRowsAreSafe};
+ghost use Rattle.tui_tty_laws.specs.Plain.{StyledRowsAreOne, StyledRowsArePlain, StyledRowsAreSafe};
 ghost use Rattle.tui_tty_laws.specs.Reading.{HasOneReading, TrustedHaveOneReading};
 
 /// The commands of a full screen show it on any terminal, and those of a change show the new screen where the old one showed; so
@@ -51,9 +51,11 @@ pub fn colour_laws()
 {}
 
 /// Rows one under another are, but for what sets the pen, their symbols, and a newline behind each. On a terminal whose pen is at rest each
-/// symbol is drawn by the pen of its own cell, and the pen is at rest at each newline. No text of a cell begins a command.
+/// symbol is drawn by the pen of its own cell, and the pen is at rest at each newline. A screen has one such text, and no text of a cell begins a
+/// command.
 pub fn styled_law()
     ensures plain { StyledRowsArePlain }
+    ensures one { StyledRowsAreOne }
     ensures safe { StyledRowsAreSafe }
 {}
 
