@@ -5,6 +5,7 @@ turn: status 7, and a first part was written. Random bytes are its keys: it make
 what `tui_pager` prints behind the keys that tools/keys.py makes of them. Keys that come in two reads, cut anywhere but behind an ESC, do what they do in
 one. Controls in its input and in a paste: what is sent is commands of docs/TERMINAL.md and printable characters. Where a program has answers, none are
 written but at its usual end."""
+import itertools
 import json
 import os
 import pathlib
@@ -147,20 +148,26 @@ def shows_what_was_read(living, entries, work):
 
 
 def in_two_reads(living):
-    """Its keys in two reads, cut at each place but behind an ESC, end as in one, with the same answers, or else with the same screen."""
-    given = b"".join(living.keys) + SIZE_AGAIN
+    """Its keys up to each one, in one read and in two that are cut in it or before it, but not behind an ESC: the same end and screen; and how often. Where
+    there are answers, all its keys: the same end and answers. How far a list of fields is scrolled may depend on what was drawn between two reads."""
+    given = b"".join(living.keys)
 
     def end_by(*reads):
         status, written, _ = one_a_read(living, reads, {})
         return status, living.answered() if living.answers else last_screen(written, WIDTH, HEIGHT)
 
-    whole = end_by(given)
-    cuts = [cut for cut in range(1, len(given)) if given[cut - 1 : cut] != b"\x1b"]
-    for cut in cuts:
-        found = end_by(given[:cut], given[cut:])
-        if found != whole:
-            fail(living.name, "ends with", found, "where its keys are cut between", given[:cut][-8:], "and", given[cut:][:8], "and not with", whole)
-    return len(cuts)
+    start = cuts = 0
+    for end in [len(given)] if living.answers else itertools.accumulate(map(len, living.keys)):
+        whole = end_by(given[:end] + SIZE_AGAIN)
+        for cut in range(max(start, 1), end):
+            if given[cut - 1 : cut] == b"\x1b":
+                continue
+            found = end_by(given[:cut], given[cut:end] + SIZE_AGAIN)
+            cuts += 1
+            if found != whole:
+                fail(living.name, "ends with", found, "where its keys are cut between", given[:cut][-8:], "and", given[cut:end][:8], "and not with", whole)
+        start = end
+    return cuts
 
 
 def sends_no_command(living, keys):
