@@ -1,5 +1,6 @@
 pub mod Heeding
 pub mod Listed
+pub mod Reading
 pub mod Selected
 pub mod Shown
 pub mod Typed

@@ -9,6 +9,7 @@ use Rattle.tui_app_laws.specs.Showing.{WaitingShows}
 use Rattle.tui_cells.specs.Buffer.{Screen}
 use Rattle.tui_cells.specs.Rect.{is_empty}
 use Rattle.tui_cells.specs.declared.rect.Rect.{Rect}
+use Rattle.tui_files_lib.specs.Browsing.{Lists}
 use Rattle.tui_files_lib.specs.Drawing.{BrowserDraws, ShowsNames, has_room, names_area, names_list, row_item, selected_row, selecting}
 use Rattle.tui_files_lib.specs.Rows.{row_label}
 use Rattle.tui_files_lib.specs.Laws.{NamesAreSeen, NamesAreShown, files}
@@ -56,15 +57,15 @@ names_seen old new screen room shows =
           (place, at, shows.moves.seen some items place at (omega (arith, low (map row_label new.rows.items) place)));
     }
 
-lives_drawn : (F : Type 0) (begin : FilesApp F) (area : Rect) (reads : List (List ℕ)) (stand : Stand (FilesApp F)) → Lives (files F) begin area reads stand →
+lives_drawn : (F : Type 0) (lists : F → Lists) (begin : FilesApp F) (area : Rect) (reads : List (List ℕ)) (stand : Stand (FilesApp F)) → Lives (files F lists) begin area reads stand →
     (old : Browser) × BrowserDraws old stand.screen stand.place stand.app.browser
-lives_drawn F begin area _ _ (drew stand is) = (begin.browser, is.draws)
-lives_drawn F begin area _ _ (lived reads bytes flow old new lives turn) = (turn.moved.browser, turn.draws)
+lives_drawn F lists begin area _ _ (drew stand is) = (begin.browser, is.draws.draws)
+lives_drawn F lists begin area _ _ (lived reads bytes flow old new lives turn) = (turn.moved.browser, turn.draws.draws)
 
-pub names_are_shown : (F : Type 0) (o : Output) → WaitingShows (files F) o → NamesAreShown F o
-names_are_shown F o waits begin area stand reads tape sent session =
+pub names_are_shown : (F : Type 0) (lists : F → Lists) (o : Output) → WaitingShows (files F lists) o → NamesAreShown F lists o
+names_are_shown F lists o waits begin area stand reads tape sent session =
     let present = waits begin area stand reads tape sent session in
-    let drawn = lives_drawn F begin area reads stand present.lives in
+    let drawn = lives_drawn F lists begin area reads stand present.lives in
     record {
       present = present;
       names = λ room. names_seen drawn.0 stand.app.browser stand.screen room (drawn.1.names room);

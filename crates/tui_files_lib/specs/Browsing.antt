@@ -34,13 +34,14 @@ use Rattle.tui_app.specs.declared.app.Flow.TheVariants.{Go}
 use Rattle.tui_files_lib.specs.Asked.{browsed, flow_after, idle, typing}
 use Rattle.tui_files_lib.specs.Drawing.{selected_row}
 use Rattle.tui_files_lib.specs.Naming.{without_controls}
-use Rattle.tui_files_lib.specs.Rows.{ListsNames, place_of, row_at, row_place}
+use Rattle.tui_files_lib.specs.Rows.{IsInOrder, ListsNames, place_of, row_at, row_place}
 use Rattle.tui_files_lib.specs.declared.asking.Asked.{Asked}
 use Rattle.tui_files_lib.specs.declared.asking.Asked.TheVariants.{GoIn, GoOut, TurnHidden, BeginPart, KeepPart, DropPart, Move}
 use Rattle.tui_files_lib.specs.declared.asking.Motion.{Motion}
 use Rattle.tui_files_lib.specs.declared.asking.Motion.TheVariants.{Down, Up, PageDown, PageUp, First, Last}
 use Rattle.tui_files_lib.specs.declared.browser.Browser.{Browser}
 use Rattle.tui_files_lib.specs.declared.folders.Kind.{Kind}
+use Rattle.tui_files_lib.specs.declared.folders.Listing.{Listing}
 use Rattle.tui_files_lib.specs.declared.folders.Name.{Name}
 use Rattle.tui_files_lib.specs.declared.rows.Row.{Row}
 use Rattle.tui_input.specs.State.{empty_input, text_of}
@@ -129,39 +130,51 @@ pub record Narrows (place : ℕ) (old new : Browser) : Type 0 where
   pub rows : ListsWanted new
   pub listed : IsListed place new
 
--- another folder is shown, with a name of it selected, if one is given
-pub record ShowsFolder (folder : List ℕ) (name : Option (List ℕ)) (old new : Browser) : Type 0 where
+-- the names of a listing are shown as another folder's, with one of them selected, if it is given
+pub record ShowsListing (listing : Listing) (folder : List ℕ) (name : Option (List ℕ)) (old new : Browser) : Type 0 where
   pub folder_is : string_bytes new.folder ≡ folder
   pub title_is : string_bytes new.title ≡ without_controls folder
+  pub order : IsInOrder listing new.listing
   pub narrows : Narrows (place_of new.listing.names.items name) (record (without_part old) {
     folder = new.folder;
     title = new.title;
     listing = new.listing;
   }) new
 
+-- what a folder may be read as, by its path, and that it can't be read
+abbrev pub Lists : Type 1
+Lists = List ℕ → Option Listing → Type 0
+
+-- another folder is read and shown
+pub record ShowsFolder (lists : Lists) (folder : List ℕ) (name : Option (List ℕ)) (old new : Browser) : Type 0 where
+  pub listing : Listing
+  pub read : lists folder (Some listing)
+  pub shown : ShowsListing listing folder name old new
+
 -- or it is told that it can't be read
-pub record TellsUnread (folder : List ℕ) (old new : Browser) : Type 0 where
+pub record TellsUnread (lists : Lists) (folder : List ℕ) (old new : Browser) : Type 0 where
+  pub read : lists folder None
   pub stays : new ≡ record old { notice = new.notice }
   pub told : string_bytes new.notice ≡ without_controls folder ++ codes " cannot be read"
 
-abbrev pub Opens : List ℕ → Option (List ℕ) → Browser → Browser → Type 0
-Opens folder name old new = ShowsFolder folder name old new ⊎ TellsUnread folder old new
+abbrev pub Opens : Lists → List ℕ → Option (List ℕ) → Browser → Browser → Type 0
+Opens lists folder name old new = ShowsFolder lists folder name old new ⊎ TellsUnread lists folder old new
 
 -- the folder that a folder stands in is shown, and that folder selected; above the root there is none
-abbrev pub GoesOut : Option (List ℕ) → Option (List ℕ) → Browser → Browser → Type 0
-GoesOut (Some parent) (Some name) old new = Opens parent (Some name) old new
-GoesOut _ _ old new = new ≡ old
+abbrev pub GoesOut : Lists → Option (List ℕ) → Option (List ℕ) → Browser → Browser → Type 0
+GoesOut lists (Some parent) (Some name) old new = Opens lists parent (Some name) old new
+GoesOut _ _ _ old new = new ≡ old
 
 -- What is asked is done. The selected name stays selected, where it is listed still.
-abbrev pub Does : Asked → Browser → Browser → Type 0
-Does GoIn old new = Opens (chosen_path old) None old new
-Does GoOut old new = GoesOut (path_parent (string_bytes old.folder)) (path_file_name (string_bytes old.folder)) old new
-Does TurnHidden old new = Narrows (selected_place old) (record old { hidden = not old.hidden }) new
-Does BeginPart old new = new ≡ record old { types = true }
-Does KeepPart old new = new ≡ record old { types = false }
-Does DropPart old new = Narrows (selected_place old) (without_part old) new
-Does (Move motion) old new = new ≡ record old { state = moved motion old; head = new.head }
-Does _ old new = new ≡ old
+abbrev pub Does : Lists → Asked → Browser → Browser → Type 0
+Does lists GoIn old new = Opens lists (chosen_path old) None old new
+Does lists GoOut old new = GoesOut lists (path_parent (string_bytes old.folder)) (path_file_name (string_bytes old.folder)) old new
+Does lists TurnHidden old new = Narrows (selected_place old) (record old { hidden = not old.hidden }) new
+Does lists BeginPart old new = new ≡ record old { types = true }
+Does lists KeepPart old new = new ≡ record old { types = false }
+Does lists DropPart old new = Narrows (selected_place old) (without_part old) new
+Does lists (Move motion) old new = new ≡ record old { state = moved motion old; head = new.head }
+Does lists _ old new = new ≡ old
 
 -- The part takes an event. Where its text changes the names are listed anew, and the selected one stays selected, where it is listed still.
 abbrev pub Takes : Event → Browser → Browser → Type 0
@@ -170,22 +183,23 @@ Takes event old new =
     ((length (text_of typed.part) ≡ length (text_of old.part)) × (new ≡ typed)) ⊎ Narrows (selected_place old) typed new
 
 -- What was refused is told no longer. Then the part takes the event, or what it asks is done.
-pub record Heeds (old : Browser) (event : Event) (new : Browser) : Type 0 where
+pub record Heeds (lists : Lists) (old : Browser) (event : Event) (new : Browser) : Type 0 where
   pub quiet : Browser
   pub stays : quiet ≡ record old { notice = quiet.notice }
   pub silent : string_bytes quiet.notice ≡ []
   pub takes : takes_event quiet event ≡ true → Takes event quiet new
-  pub does : takes_event quiet event ≡ false → Does (asked quiet event) quiet new
+  pub does : takes_event quiet event ≡ false → Does lists (asked quiet event) quiet new
 
 -- what an event makes of a browser, and nothing where it asks nothing of it
-pub record Steps (old : Browser) (event : Event) (new : Browser) : Type 0 where
+pub record Steps (lists : Lists) (old : Browser) (event : Event) (new : Browser) : Type 0 where
   pub rests : (flow : Flow) → idle event ≡ Some flow → new ≡ old
-  pub heeds : idle event ≡ None → Heeds old event new
+  pub heeds : idle event ≡ None → Heeds lists old event new
 
--- a folder's names are listed at first, but those that begin with a dot, and nothing is refused; a page has a name until one is drawn
-pub record IsBegun (folder : List ℕ) (b : Browser) : Type 0 where
+-- A folder's names are listed at first, but those that begin with a dot, and nothing is refused. A page has a name until one is drawn.
+pub record IsBegun (listing : Listing) (folder : List ℕ) (b : Browser) : Type 0 where
   pub folder_is : string_bytes b.folder ≡ folder
   pub title_is : string_bytes b.title ≡ without_controls folder
+  pub order : IsInOrder listing b.listing
   pub rows : ListsWanted b
   pub listed : IsListed 0 b
   pub page : b.page ≡ 1
@@ -193,3 +207,9 @@ pub record IsBegun (folder : List ℕ) (b : Browser) : Type 0 where
   pub part : b.part ≡ empty_input 255
   pub types : b.types ≡ false
   pub silent : string_bytes b.notice ≡ []
+
+-- as what it was read
+pub record Begins (lists : Lists) (folder : List ℕ) (b : Browser) : Type 0 where
+  pub listing : Listing
+  pub read : lists folder (Some listing)
+  pub shown : IsBegun listing folder b

@@ -1,16 +1,18 @@
 -- What a session of a browser shows.
-use Rattle.std.specs.Prelude.{◌≡◌, ℕ, ◌<◌, true, false, List, length, Some}
+use Rattle.std.specs.Prelude.{◌≡◌, ℕ, ◌<◌, true, false, List, length, Option, Some}
 use Rattle.tui_app.specs.Behaviour.{Behaviour}
 use Rattle.tui_app.specs.Lives.{Stand}
 use Rattle.tui_app.specs.Session.{Session}
 use Rattle.tui_app.specs.TooSmall.{SaysTooSmall}
+use Rattle.tui_app.specs.declared.app.Flow.{Flow}
 use Rattle.tui_app_laws.specs.Showing.{IsPresent}
 use Rattle.tui_cells.specs.Buffer.{Screen, cell_at}
 use Rattle.tui_cells.specs.Cell.{blank}
 use Rattle.tui_cells.specs.Layers.{layers_at}
 use Rattle.tui_cells.specs.Rect.{covers}
+use Rattle.tui_cells.specs.declared.position.Position.{Position}
 use Rattle.tui_cells.specs.declared.rect.Rect.{Rect}
-use Rattle.tui_files_lib.specs.Browsing.{Steps, flow_of}
+use Rattle.tui_files_lib.specs.Browsing.{Lists, Steps, flow_of}
 use Rattle.tui_files_lib.specs.Drawing.{BrowserDraws, ShowsCursor, has_room, names_area, names_list}
 use Rattle.tui_files_lib.specs.declared.browser.Browser.{Browser}
 use Rattle.tui_files_lib.specs.declared.files.FilesApp.{FilesApp}
@@ -18,13 +20,25 @@ use Rattle.tui_frames.specs.InBlock.{inner_of}
 use Rattle.tui_lists.specs.List.{IsSeen}
 use Rattle.tui_lists.specs.ListItem.{heights_of}
 use Rattle.tui_lists.specs.ListStrokes.{list_layers}
+use Rattle.tui_keys.specs.declared.event.Event.{Event}
 use Rattle.tui_tty.specs.declared.output.Output.{Output}
 
--- what events make of a browser, and what it draws
-abbrev pub files : (F : Type 0) → Behaviour (FilesApp F)
-files F = record {
-  steps = λ old event new flow. (flow ≡ flow_of old.browser event) × Steps old.browser event new.browser;
-  draws = λ old screen place new. BrowserDraws old.browser screen place new.browser;
+-- an event makes this of an app's browser; its folders stay
+pub record AppSteps {F : Type 0} (lists : F → Lists) (old : FilesApp F) (event : Event) (new : FilesApp F) (flow : Flow) : Type 0 where
+  pub goes_on : flow ≡ flow_of old.browser event
+  pub steps : Steps (lists old.folders) old.browser event new.browser
+  pub folders : new.folders ≡ old.folders
+
+-- and so they do where it draws
+pub record AppDraws {F : Type 0} (old : FilesApp F) (screen : Screen) (place : Option Position) (new : FilesApp F) : Type 0 where
+  pub draws : BrowserDraws old.browser screen place new.browser
+  pub folders : new.folders ≡ old.folders
+
+-- what events make of a browser of folders that may be read as this, and what it draws
+abbrev pub files : (F : Type 0) → (F → Lists) → Behaviour (FilesApp F)
+files F lists = record {
+  steps = λ old event new flow. AppSteps lists old event new flow;
+  draws = λ old screen place new. AppDraws old screen place new;
 }
 
 -- In the left half of the screen stands the list of the names on blank cells. Where there are names one is selected, and it is one of those that the list draws
@@ -37,14 +51,14 @@ pub record NamesAreSeen (b : Browser) (screen : Screen) : Type 0 where
 
 -- The terminal shows the screen that was drawn last; if that has room for the names they are seen, and the cursor of the part while it is typed. Else it says
 -- that it is too small.
-pub record IsOnScreen {F : Type 0} (o : Output) (begin : FilesApp F) (area : Rect) (stand : Stand (FilesApp F)) (reads : List (List ℕ))
+pub record IsOnScreen {F : Type 0} (lists : F → Lists) (o : Output) (begin : FilesApp F) (area : Rect) (stand : Stand (FilesApp F)) (reads : List (List ℕ))
     (sent : List ℕ) : Type 0 where
-  pub present : IsPresent (files F) o begin area stand reads sent
+  pub present : IsPresent (files F lists) o begin area stand reads sent
   pub names : has_room stand.screen.area ≡ true → NamesAreSeen stand.app.browser stand.screen
   pub cursor : has_room stand.screen.area ≡ true → stand.app.browser.types ≡ true → ShowsCursor stand.app.browser.part stand.screen stand.place
   pub other : has_room stand.screen.area ≡ false → SaysTooSmall stand.screen
 
 -- whenever a session of a browser waits for input
-abbrev pub NamesAreShown : Type 0 → Output → Type 0
-NamesAreShown F o = (begin : FilesApp F) (area : Rect) (stand : Stand (FilesApp F)) (reads : List (List ℕ)) (tape sent : List ℕ) →
-    Session (files F) o begin area stand reads tape sent → IsOnScreen o begin area stand reads sent
+abbrev pub NamesAreShown : (F : Type 0) → (F → Lists) → Output → Type 0
+NamesAreShown F lists o = (begin : FilesApp F) (area : Rect) (stand : Stand (FilesApp F)) (reads : List (List ℕ)) (tape sent : List ℕ) →
+    Session (files F lists) o begin area stand reads tape sent → IsOnScreen lists o begin area stand reads sent

@@ -1,10 +1,33 @@
 -- Which names a list has, and what their rows show.
 use Rattle.std.specs.Prelude.{◌≡◌, ◌==◌, ◌&&◌, ◌||◌, ℕ, Bool, false, not, List, [], ◌∷◌, All, length, map, nat_eq, Option, None, Some, option_map, slice_get, slice_index, string_bytes, unwrap_or}
+use Rattle.std.specs.Cmp.Lexicographic.{slice_cmp}
+use Rattle.std.specs.List.Sorted.{IsPermutation, IsSorted}
+use Rattle.std.specs.Ordering.{nat_cmp, ordering_then}
 use Rattle.std.specs.List.{filter, position, range_with_len, starts_with}
 use Rattle.std.specs.Str.{bytes_eq}
+use Rattle.std.specs.declared.cmp.Ordering.{Ordering}
 use Rattle.tui_files_lib.specs.Naming.{label_of}
+use Rattle.tui_files_lib.specs.declared.folders.Kind.{Kind}
+use Rattle.tui_files_lib.specs.declared.folders.Kind.TheVariants.{Folder, File}
+use Rattle.tui_files_lib.specs.declared.folders.Listing.{Listing}
 use Rattle.tui_files_lib.specs.declared.folders.Name.{Name}
 use Rattle.tui_files_lib.specs.declared.rows.Row.{Row}
+
+-- folders come before files
+abbrev pub kind_rank : Kind → ℕ
+kind_rank Folder = 0
+kind_rank File = 1
+
+-- and both are in the order of the bytes of their names
+abbrev pub name_cmp : Name → Name → Ordering
+name_cmp a b = ordering_then (nat_cmp (kind_rank a.kind) (kind_rank b.kind)) (slice_cmp nat_cmp (string_bytes a.text) (string_bytes b.text))
+
+-- a listing in order
+pub record IsInOrder (given listing : Listing) : Type 0 where
+  pub same : IsPermutation given.names.items listing.names.items
+  pub sorted : IsSorted name_cmp listing.names.items
+  pub beyond : listing.beyond ≡ given.beyond
+  pub odd : listing.odd ≡ given.odd
 
 -- what a row shows
 abbrev pub row_label : Row → List ℕ

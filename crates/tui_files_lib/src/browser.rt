@@ -2,7 +2,7 @@
 
 ghost use Rattle.std.specs.Option.{option_copied};
 ghost use Rattle.std.specs.Prelude.{◌≡◌, ◌-◌, IfOk, OnOk, length, min, string_bytes};
-ghost use Rattle.tui_files_lib.specs.Browsing.{IsBegun, Narrows, ShowsFolder, asked, row_after, selected_kind, selected_name, selected_place, selecting_in, without_part};
+ghost use Rattle.tui_files_lib.specs.Browsing.{IsBegun, Narrows, ShowsListing, asked, row_after, selected_kind, selected_name, selected_place, selecting_in, without_part};
 ghost use Rattle.tui_files_lib.specs.Drawing.{selected_row};
 
 use crate::asking::{Asked, Motion, browsed, typing};
@@ -44,7 +44,7 @@ pub(crate) struct Browser {
 impl Browser {
     /// A browser of a folder with these names.
     pub(crate) fn new(alloc: Global, folder: String, listing: Listing) -> Mem<Browser>
-        ensures { IfOk result (IsBegun (string_bytes folder)) }
+        ensures { IfOk result (IsBegun listing (string_bytes folder)) }
     {
         let mut browser = Browser {
             folder: String::new(alloc),
@@ -75,7 +75,7 @@ impl Browser {
         mut listing: Listing,
         name: Option<&str>,
     ) -> Mem<()>
-        ensures { OnOk result (ShowsFolder (string_bytes folder) (option_copied name.entry) self.old self.new) }
+        ensures { OnOk result (ShowsListing listing (string_bytes folder) (option_copied name.entry) self.old self.new) }
     {
         listing.names.sort_unstable();
         self.title = without_controls(alloc, folder.as_str())?;

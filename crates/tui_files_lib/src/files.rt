@@ -2,9 +2,9 @@
 
 ghost use Rattle.std.specs.Option.{option_copied};
 ghost use Rattle.std.specs.Path.{path_file_name, path_parent};
-ghost use Rattle.std.specs.Prelude.{◌≡◌, None, IfOk, IfSome, OnOk, false, not, string_bytes, true};
+ghost use Rattle.std.specs.Prelude.{◌≡◌, None, IfOk, IfSome, MatchOption, OnOk, false, not, string_bytes, true};
 ghost use Rattle.tui_files_lib.specs.Asked.{idle};
-ghost use Rattle.tui_files_lib.specs.Browsing.{Does, GoesOut, Heeds, IsBegun, Narrows, Opens, Takes, chosen_path, flow_of, moved, selected_place, takes_event, without_part};
+ghost use Rattle.tui_files_lib.specs.Browsing.{Begins, Does, GoesOut, Heeds, Narrows, Opens, Takes, chosen_path, flow_of, moved, selected_place, takes_event, without_part};
 
 use crate::asking::{Asked, Motion, flow_after, idle};
 use crate::browser::Browser;
@@ -26,7 +26,9 @@ pub struct FilesApp<F> {
 impl<F: Folders + Drop> FilesApp<F> {
     /// A browser of a folder by its path from the root; None where it can't be read.
     pub fn new(alloc: Global, folders: F, folder: &str) -> Mem<Option<FilesApp<F>>>
-        ensures { IfOk result (λ opened. IfSome opened (λ app. IsBegun folder.now app.browser)) }
+        ensures begins { IfOk result (λ opened. MatchOption opened (F.lists folders folder.now None)
+            (λ app. Begins (F.lists folders) folder.now app.browser)) }
+        ensures folders { IfOk result (λ opened. IfSome opened (λ app. app.folders ≡ folders)) }
     {
         match folders.list(alloc, folder)? {
             None => Ok(None),
@@ -73,12 +75,14 @@ impl<F: Folders + Drop> FilesApp<F> {
 
     /// Shows a folder, with this name selected, unless it can't be read.
     fn open(&mut self, alloc: Global, folder: String, name: Option<&str>) -> Mem<()>
-        ensures { OnOk result (Opens (string_bytes folder) (option_copied name.entry) self.old.browser self.new.browser) }
+        ensures opens { OnOk result (Opens (F.lists self.old.folders) (string_bytes folder) (option_copied name.entry) self.old.browser self.new.browser) }
+        ensures folders { OnOk result (self.new.folders ≡ self.old.folders) }
     {
         match self.folders.list(alloc, folder.as_str())? {
             Some(listing) => {
                 self.browser.show(alloc, folder, listing, name)?;
-                self.read_head(alloc)
+                self.read_head(alloc)?;
+                Ok(())
             }
             None => {
                 self.browser.notice = without_controls(alloc, folder.as_str())?;
@@ -90,7 +94,8 @@ impl<F: Folders + Drop> FilesApp<F> {
 
     /// Goes into the selected folder.
     fn go_in(&mut self, alloc: Global) -> Mem<()>
-        ensures { OnOk result (Opens (chosen_path self.old.browser) None self.old.browser self.new.browser) }
+        ensures opens { OnOk result (Opens (F.lists self.old.folders) (chosen_path self.old.browser) None self.old.browser self.new.browser) }
+        ensures folders { OnOk result (self.new.folders ≡ self.old.folders) }
     {
         let folder = self.chosen(alloc)?;
         self.open(alloc, folder, None)
@@ -98,8 +103,9 @@ impl<F: Folders + Drop> FilesApp<F> {
 
     /// Goes out of the folder, which is selected then.
     fn go_out(&mut self, alloc: Global) -> Mem<()>
-        ensures { let folder = string_bytes self.old.browser.folder in
-            OnOk result (GoesOut (path_parent folder) (path_file_name folder) self.old.browser self.new.browser) }
+        ensures goes { let folder = string_bytes self.old.browser.folder in
+            OnOk result (GoesOut (F.lists self.old.folders) (path_parent folder) (path_file_name folder) self.old.browser self.new.browser) }
+        ensures folders { OnOk result (self.new.folders ≡ self.old.folders) }
     {
         let left = String::from_str(alloc, self.browser.folder.as_str())?;
         let path = Path::new(left.as_str());
@@ -114,7 +120,8 @@ impl<F: Folders + Drop> FilesApp<F> {
 
     /// Shows the names that are wanted now. The selected one stays, if it is among them.
     fn narrow(&mut self, alloc: Global) -> Mem<()>
-        ensures { OnOk result (Narrows (selected_place self.old.browser) self.old.browser self.new.browser) }
+        ensures narrows { OnOk result (Narrows (selected_place self.old.browser) self.old.browser self.new.browser) }
+        ensures folders { OnOk result (self.new.folders ≡ self.old.folders) }
     {
         let place = self.browser.place();
         self.browser.narrow(alloc, place)?;
@@ -123,7 +130,8 @@ impl<F: Folders + Drop> FilesApp<F> {
 
     /// Shows the names that begin with a dot, or hides them.
     fn turn_hidden(&mut self, alloc: Global) -> Mem<()>
-        ensures { OnOk result (Narrows (selected_place self.old.browser) (record self.old.browser { hidden = not self.old.browser.hidden }) self.new.browser) }
+        ensures narrows { OnOk result (Narrows (selected_place self.old.browser) (record self.old.browser { hidden = not self.old.browser.hidden }) self.new.browser) }
+        ensures folders { OnOk result (self.new.folders ≡ self.old.folders) }
     {
         self.browser.hidden = !self.browser.hidden;
         self.narrow(alloc)
@@ -131,7 +139,8 @@ impl<F: Folders + Drop> FilesApp<F> {
 
     /// Drops the part that names are wanted with.
     fn drop_part(&mut self, alloc: Global) -> Mem<()>
-        ensures { OnOk result (Narrows (selected_place self.old.browser) (without_part self.old.browser) self.new.browser) }
+        ensures narrows { OnOk result (Narrows (selected_place self.old.browser) (without_part self.old.browser) self.new.browser) }
+        ensures folders { OnOk result (self.new.folders ≡ self.old.folders) }
     {
         self.browser.drop_part(alloc);
         self.narrow(alloc)
@@ -139,7 +148,8 @@ impl<F: Folders + Drop> FilesApp<F> {
 
     /// Moves the selection.
     fn move_by(&mut self, alloc: Global, motion: Motion) -> Mem<()>
-        ensures { OnOk result (self.new.browser ≡ record self.old.browser { state = moved motion self.old.browser; head = self.new.browser.head }) }
+        ensures moves { OnOk result (self.new.browser ≡ record self.old.browser { state = moved motion self.old.browser; head = self.new.browser.head }) }
+        ensures folders { OnOk result (self.new.folders ≡ self.old.folders) }
     {
         let row = self.browser.row_after(motion);
         self.browser.select(row);
@@ -151,6 +161,7 @@ impl<F: Folders + Drop> FilesApp<F> {
         ensures used { IfOk result (λ used. used ≡ takes_event self.old.browser event) }
         ensures takes { OnOk result (takes_event self.old.browser event ≡ true → Takes event self.old.browser self.new.browser) }
         ensures stays { OnOk result (takes_event self.old.browser event ≡ false → self.new.browser ≡ self.old.browser) }
+        ensures folders { OnOk result (self.new.folders ≡ self.old.folders) }
     {
         if !self.browser.types {
             return Ok(false);
@@ -169,7 +180,8 @@ impl<F: Folders + Drop> FilesApp<F> {
 
     /// Does what is asked.
     fn follow(&mut self, alloc: Global, asked: Asked) -> Mem<()>
-        ensures { OnOk result (Does asked self.old.browser self.new.browser) }
+        ensures does { OnOk result (Does (F.lists self.old.folders) asked self.old.browser self.new.browser) }
+        ensures folders { OnOk result (self.new.folders ≡ self.old.folders) }
     {
         match asked {
             Asked::GoIn => self.go_in(alloc),
@@ -193,7 +205,8 @@ impl<F: Folders + Drop> FilesApp<F> {
     fn heed(&mut self, alloc: Global, event: Event) -> Mem<Flow>
         requires { idle event ≡ None }
         ensures flow { IfOk result (λ flow. flow ≡ flow_of self.old.browser event) }
-        ensures heeds { OnOk result (Heeds self.old.browser event self.new.browser) }
+        ensures heeds { OnOk result (Heeds (F.lists self.old.folders) self.old.browser event self.new.browser) }
+        ensures folders { OnOk result (self.new.folders ≡ self.old.folders) }
     {
         self.browser.notice.clear();
         if self.take(alloc, event)? {
@@ -208,7 +221,7 @@ impl<F: Folders + Drop> FilesApp<F> {
 impl<F: Folders + Drop> App for FilesApp<F> {
     ghost use Rattle.tui_files_lib.specs.Laws.{files};
 
-    ghost behaviour = { files F };
+    ghost behaviour = { files F F.lists };
 
     fn step(&mut self, alloc: Global, event: Event) -> Mem<Flow> {
         match idle(event) {

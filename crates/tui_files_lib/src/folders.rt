@@ -1,5 +1,7 @@
 //! What a browser asks of the system.
 
+ghost use Rattle.std.specs.Prelude.{ℕ, IfOk, List, Option};
+
 use std::alloc::Global;
 use tui_cells::Mem;
 
@@ -36,8 +38,14 @@ pub struct Listing {
 
 /// Folders and their files.
 pub trait Folders {
+    ghost use Rattle.tui_files_lib.specs.declared.folders.Listing.{Listing};
+
+    // What a folder may be read as, by its path; None where it can't be read.
+    ghost lists: { Self → List ℕ → Option Listing → Type 0 };
+
     /// The names in a folder; None where it can't be read.
-    fn list(&self, alloc: Global, folder: &str) -> Mem<Option<Listing>>;
+    fn list(&self, alloc: Global, folder: &str) -> Mem<Option<Listing>>
+        ensures { IfOk result (lists self.now folder.now) };
 
     /// The first bytes of a file, at most `HEAD_BYTES`; None where it can't be read.
     fn head(&self, alloc: Global, file: &str) -> Mem<Option<Vec<u8>>>;

@@ -13,7 +13,7 @@ use tui_tty::Output;
 /// room, the list of the names stands in its left half, and where there are names the selected one is among those that are drawn. On a screen that is
 /// too small that is said instead.
 pub fn files_law<F: Folders + Drop>(output: Output)
-    ensures { NamesAreShown F output }
+    ensures { NamesAreShown F F.lists output }
 {
     waiting_law::<FilesApp<F>>(output);
 }
