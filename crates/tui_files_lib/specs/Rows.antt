@@ -1,5 +1,29 @@
 -- Which names a list has, and what their rows show.
-use Rattle.std.specs.Prelude.{◌≡◌, ◌==◌, ◌&&◌, ◌||◌, ℕ, Bool, false, not, List, [], ◌∷◌, All, length, map, nat_eq, Option, None, Some, option_map, slice_get, slice_index, string_bytes, unwrap_or}
+use Rattle.std.specs.Prelude.{
+  ◌≡◌,
+  ◌==◌,
+  ◌&&◌,
+  ◌||◌,
+  ℕ,
+  Bool,
+  false,
+  not,
+  List,
+  [],
+  ◌∷◌,
+  All,
+  length,
+  map,
+  nat_eq,
+  Option,
+  None,
+  Some,
+  option_map,
+  slice_get,
+  slice_index,
+  string_bytes,
+  unwrap_or,
+}
 use Rattle.std.specs.Cmp.Lexicographic.{slice_cmp}
 use Rattle.std.specs.List.Sorted.{IsPermutation, IsSorted}
 use Rattle.std.specs.Ordering.{nat_cmp, ordering_then}

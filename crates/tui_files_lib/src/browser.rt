@@ -2,7 +2,18 @@
 
 ghost use Rattle.std.specs.Option.{option_copied};
 ghost use Rattle.std.specs.Prelude.{◌≡◌, ◌-◌, IfOk, OnOk, length, min, string_bytes};
-ghost use Rattle.tui_files_lib.specs.Browsing.{IsBegun, Narrows, ShowsListing, asked, row_after, selected_kind, selected_name, selected_place, selecting_in, without_part};
+ghost use Rattle.tui_files_lib.specs.Browsing.{
+  IsBegun,
+  Narrows,
+  ShowsListing,
+  asked,
+  row_after,
+  selected_kind,
+  selected_name,
+  selected_place,
+  selecting_in,
+  without_part,
+};
 ghost use Rattle.tui_files_lib.specs.Drawing.{selected_row};
 
 use crate::asking::{Asked, Motion, browsed, typing};

@@ -4,7 +4,21 @@ ghost use Rattle.std.specs.Option.{option_copied};
 ghost use Rattle.std.specs.Path.{path_file_name, path_parent};
 ghost use Rattle.std.specs.Prelude.{◌≡◌, None, IfOk, IfSome, MatchOption, OnOk, false, not, string_bytes, true};
 ghost use Rattle.tui_files_lib.specs.Asked.{idle};
-ghost use Rattle.tui_files_lib.specs.Browsing.{Begins, Does, GoesOut, Heeds, Narrows, Opens, Takes, chosen_path, flow_of, moved, selected_place, takes_event, without_part};
+ghost use Rattle.tui_files_lib.specs.Browsing.{
+  Begins,
+  Does,
+  GoesOut,
+  Heeds,
+  Narrows,
+  Opens,
+  Takes,
+  chosen_path,
+  flow_of,
+  moved,
+  selected_place,
+  takes_event,
+  without_part,
+};
 
 use crate::asking::{Asked, Motion, flow_after, idle};
 use crate::browser::Browser;
@@ -130,7 +144,8 @@ impl<F: Folders + Drop> FilesApp<F> {
 
     /// Shows the names that begin with a dot, or hides them.
     fn turn_hidden(&mut self, alloc: Global) -> Mem<()>
-        ensures narrows { OnOk result (Narrows (selected_place self.old.browser) (record self.old.browser { hidden = not self.old.browser.hidden }) self.new.browser) }
+        ensures narrows { OnOk result
+            (Narrows (selected_place self.old.browser) (record self.old.browser { hidden = not self.old.browser.hidden }) self.new.browser) }
         ensures folders { OnOk result (self.new.folders ≡ self.old.folders) }
     {
         self.browser.hidden = !self.browser.hidden;
