@@ -1,6 +1,6 @@
 """What a terminal's bytes say, by the table of docs/TERMINAL.md (*What a terminal sends*), and what a pager's keys they are, by docs/PROGRAMS.md
-(*tui_browse*): an oracle for tools/sessions.py, written from these pages alone. Events that a pager passes over by themselves are left out: seconds,
-what is unknown, and all that is in no table."""
+(*tui_browse*): an oracle for tools/sessions.py, written over these tables in another form than the code. Events that a pager passes over by themselves
+are left out: seconds, what is unknown, and all that is in no table."""
 import re
 
 # A byte 0 breaks nothing, so it is taken away before. A sequence that is cut short ends before the byte that cuts it.
@@ -24,7 +24,7 @@ PASTED = re.compile(rb"""
 
 CONTROLS = {8: "Backspace", 127: "Backspace", 9: "Tab", 10: "Enter", 13: "Enter"}
 LETTERS = {"A": "Up", "B": "Down", "C": "Right", "D": "Left", "H": "Home", "F": "End"}
-NUMBERED = {1: "Home", 7: "Home", 4: "End", 8: "End", 2: "Insert", 3: "Delete", 5: "PageUp", 6: "PageDown", 200: "PasteBegin"}
+NUMBERED = {1: "Home", 7: "Home", 4: "End", 8: "End", 2: "Insert", 3: "Delete", 5: "PageUp", 6: "PageDown"}
 SHIFT_ALT_CTRL = 7
 
 
@@ -40,6 +40,8 @@ def sequence(text, last):
     numbers = [int(number or 0) for number in text.split(";")]
     if last == "t":
         return ("Resize", numbers[2], numbers[1]) if len(numbers) == 3 and numbers[0] == 8 and all(1 <= number <= 1000 for number in numbers[1:]) else None
+    if last == "~" and numbers == [200]:
+        return "PasteBegin"
     if len(numbers) > 2:
         return None
     event = NUMBERED.get(numbers[0]) if last == "~" else LETTERS.get(last) if numbers[0] < 2 else None
