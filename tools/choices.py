@@ -1,24 +1,24 @@
-"""Kinds that are one of several, those of widgets, and what in a value is not read."""
+"""Kinds that are one of several kinds, the kinds of widgets, and remarks on what in a value is not read."""
 import json
 
-from kinds import Kind, Names, Number, Symbol, Text, Tuple, Wrong, listed, near, step
+from kinds import Kind, Names, Number, Symbol, Text, Tuple, Wrong, listed, suggestion, step
 
 
 class Choice(Kind):
-    """One of some kinds."""
+    """One of several kinds."""
 
     def __init__(self, kinds, title=""):
         self.kinds, self.title = kinds, title
 
     def alternatives(self):
-        """Its kinds, those of a choice among them in its place."""
+        """Returns its kinds. A choice among them is replaced by its own kinds."""
         return [inner for kind in self.kinds for inner in (kind.alternatives() if isinstance(kind, Choice) else [kind])]
 
-    def words(self):
-        return (f"{self.title}: " if self.title else "") + ", or ".join(kind.words() for kind in self.alternatives())
+    def describe(self):
+        return (f"{self.title}: " if self.title else "") + ", or ".join(kind.describe() for kind in self.alternatives())
 
     def of(self, node):
-        """The kind that a value is meant to be of: the one that takes it."""
+        """Returns the kind that a value is meant to have: the one that accepts it."""
         taking = [kind for kind in self.kinds if kind.accepts(node)]
         return next((kind for kind in taking if kind.holds(node)), taking[0] if len(taking) == 1 else None)
 
@@ -30,7 +30,7 @@ class Choice(Kind):
         if kind:
             return kind.wrong(node, path)
         hints = [kind.hint(node) for kind in self.kinds]
-        return Wrong(path, node.at, self.words(), self.what(node) + next((hint for hint in hints if hint), ""))
+        return Wrong(path, node.at, self.describe(), self.what(node) + next((hint for hint in hints if hint), ""))
 
     def children(self, node):
         return self.of(node).children(node)
@@ -47,7 +47,7 @@ class Choice(Kind):
 
 
 class Keyed(Choice):
-    """An object that has a key is of one kind, and any other value of another one."""
+    """One kind for an object that has a certain key, and another kind for every other value."""
 
     def __init__(self, key, having, other, title=""):
         super().__init__([other, having], title)
@@ -62,19 +62,19 @@ class Keyed(Choice):
     def wrong(self, node, path):
         if self.other.accepts(node) or self.having.accepts(node):
             return self.of(node).wrong(node, path)
-        return Wrong(path, node.at, self.words(), self.what(node) + self.hint(node))
+        return Wrong(path, node.at, self.describe(), self.what(node) + self.hint(node))
 
 
 class Width(Kind):
-    """A number of columns, or an object whose first key of some says which."""
+    """A number of columns, or an object of which the first known key counts."""
 
     def __init__(self, number, fields, most=None):
         self.number, self.fields, self.most = number, dict(fields), most
         if most is not None:
             self.fields["percentage"] = (False, Number(0, most), None)
 
-    def words(self):
-        return "a number of columns, " + self.number.words() + ", or an object with one of " + listed(self.fields)
+    def describe(self):
+        return "a number of columns, " + self.number.describe() + ", or an object with one of " + listed(self.fields)
 
     def hint(self, node):
         return self.number.hint(node)
@@ -98,7 +98,7 @@ class Width(Kind):
 class Date(Tuple):
     """A day of the calendar."""
 
-    def words(self):
+    def describe(self):
         return "[year, month, day], a day of the calendar from 1 January -9999 to 31 December 9999"
 
     def holds(self, node):
@@ -116,14 +116,14 @@ class Date(Tuple):
 
 
 class Item(Kind):
-    """A widget with its fields, and with an area if it has one of its own."""
+    """A widget with its fields. `fields` are those that every widget has: its area, or none."""
     json = ("object",)
 
     def __init__(self, widgets, fields):
         self.widgets, self.fields = widgets, fields
         self.widget = Names(list(widgets))
 
-    def words(self):
+    def describe(self):
         return "an item: an object with `widget` (required)"
 
     def children(self, node):
@@ -141,7 +141,7 @@ class Item(Kind):
 
 
 class Named(Kind):
-    """A kind by its name, which is found when it is asked for."""
+    """A kind by its name. The kind is looked up at each use, since it may be defined later."""
 
     def __init__(self, name, kinds):
         self.name, self.kinds = name, kinds
@@ -153,21 +153,21 @@ class Named(Kind):
 
 
 def remarks(kind, node, path):
-    """(place, line) for each key inside of a value that is not read or stands twice, and each text of which characters are left out."""
+    """Yields (offset, remark) for each key in a value that is not read or is given twice, and for each character left out."""
     while isinstance(kind, Choice):
         kind = kind.of(node)
         if kind is None:
             return
     if node.kind == "text" and isinstance(kind, Text) and not isinstance(kind, Symbol):
         for c in kind.left_out(node.value):
-            yield node.at, f"in {path} the control character U+{ord(c):04X} is left out"
+            yield node.at, f"the control character U+{ord(c):04X} in {path} is left out"
     if node.kind == "object":
         known, seen = kind.known(node), set()
         for name, at, _ in node.value:
             if name in seen:
-                yield at, f"{step(path, name)} stands twice; the last one counts"
+                yield at, f"{step(path, name)} is given twice; the last one counts"
             elif known is not None and name not in known and not (name == "about" and not path):
-                yield at, f"{step(path, name)} is not read{near(name, known)}"
+                yield at, f"{step(path, name)} is not read{suggestion(name, known)}"
             seen.add(name)
     if kind.accepts(node):
         for name, inner, inside, _ in kind.children(node):

@@ -1,6 +1,10 @@
 #!/usr/bin/env python3
-"""Shows the print of a scene (docs/SCENE.md), which it reads from standard input, in the terminal's own colours:
-tools/colour.py [SCENE.json] < PRINT. The scene tells the width of the rows."""
+"""Shows the output of `tui_show` (docs/SCENE.md) in the terminal's own colours.
+
+tools/colour.py [SCENE.json] < OUTPUT
+
+The rows are as wide as the scene. Without SCENE.json, they are as wide as most of them are.
+"""
 import os
 import sys
 
@@ -9,7 +13,7 @@ from drawn import BRIGHT, MODIFIERS, NAMES, read, scene_width, styled
 
 
 def colour_code(name, base):
-    """The parameters that set a colour; base is 30 for the foreground and 40 for the background."""
+    """Returns the parameters that set a colour. `base` is 30 for the foreground and 40 for the background."""
     if name == "reset":
         return []
     if name in NAMES:
@@ -22,15 +26,17 @@ def colour_code(name, base):
 
 
 def sequence(fg, bg, bits):
-    """The escape sequence of a style run. The parameters of the modifiers are 1 to 9, in their order."""
+    """Returns the escape sequence of a style run. The modifiers are the parameters 1 to 9, in order."""
     codes = [1 + i for i in range(len(MODIFIERS)) if bits >> i & 1]
     codes += colour_code(fg, 30) + colour_code(bg, 40)
     return "\x1b[0;" + ";".join(map(str, codes)) + "m"
 
 
 def painted(row, runs, placed):
-    """A row with the escape sequences of its runs. If it is to be `placed`, the cell behind a symbol on whose width terminals differ,
-    such as an emoji, is told its column."""
+    """Returns a row with the escape sequences of its runs.
+
+    If `placed`, the column is set after each symbol whose width differs between terminals, such as an emoji.
+    """
     out, current = [], ""
     for column, width, symbol, look in styled(row, runs):
         style = sequence(*look) if look else ""
@@ -57,6 +63,6 @@ try:
 except OSError as error:
     if not isinstance(error, BrokenPipeError):
         print("show: cannot write to standard output", file=sys.stderr)
-    # What could not be written is not tried again at the end.
+    # Python must not try to write the rest again when it exits.
     os.dup2(os.open(os.devnull, os.O_WRONLY), 1)
     sys.exit(7)

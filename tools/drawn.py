@@ -1,8 +1,9 @@
-"""What a scene's print says (docs/SCENE.md): its rows, cut into cells, and its style runs. tools/colour.py and tools/picture read it.
+"""Reads the output of `tui_show` (docs/SCENE.md) for tools/colour.py and tools/picture: rows of cells, and style runs.
 
-A row is cut into graphemes, and a cell takes as many columns as its grapheme, at least one, as in the program's own print. What a
-scene puts into cells by itself (a mark, a joiner) may be read as a part of the cell before it. So the row's width decides: a row
-that is too narrow is cut finer from its end on, and the last cell takes what stands past the width or what is left to it.
+A row is cut into graphemes. A cell takes as many columns as its grapheme, at least one, as in the program. A
+mark or a joiner that has a cell of its own may be taken for a part of the cell before it, and the row is then
+too narrow. Such a row is cut into more cells, from its end on. The last cell takes all that is past the
+width, or all columns that are left.
 """
 import collections
 import json
@@ -16,12 +17,12 @@ MODIFIERS = ["bold", "dim", "italic", "underlined", "slow_blink", "rapid_blink",
 
 
 def step(symbol):
-    """The columns from a cell with this symbol to the next one."""
+    """Returns the number of columns from a cell with this symbol to the next cell."""
     return max(columns(symbol), 1)
 
 
 def finer(symbol, lacking):
-    """A symbol with as many of its last characters in cells of their own as make it wider by what is lacking, or by less."""
+    """Returns a symbol with its last characters in cells of their own, if that makes it wider by at most `lacking`."""
     for at in range(1, len(symbol)):
         found = [symbol[:at], *symbol[at:]]
         if 0 < sum(map(step, found)) - step(symbol) <= lacking:
@@ -30,7 +31,7 @@ def finer(symbol, lacking):
 
 
 def symbols(text, width):
-    """The symbols of a row's cells."""
+    """Returns the symbols of the cells of a row."""
     found = graphemes(text)
     lacking = width - sum(map(step, found))
     for at in range(len(found) - 1, -1, -1):
@@ -44,7 +45,7 @@ def symbols(text, width):
 
 
 def cells(text, width):
-    """The cells of a row that show: (column, columns, symbol). Together they take the row's width."""
+    """Returns the visible cells of a row: (column, number of columns, symbol). Together they are as wide as the row."""
     found, column = [], 0
     for symbol in symbols(text, width):
         if column >= width:
@@ -58,19 +59,19 @@ def cells(text, width):
 
 
 def scene_width(file):
-    """The columns of the scene in a file."""
+    """Returns the width of the scene in a file."""
     with open(file, encoding="utf-8") as scene:
         return json.load(scene)["width"]
 
 
 def program_of(file):
-    """The program that reads a file of examples/: the one that NAME-input.json names, else the one that draws scenes."""
+    """Returns the program that reads a file of examples/: NAME for NAME-input.json, else the one that draws scenes."""
     name = file.name.removesuffix("-input.json")
     return name if name != file.name else "scene"
 
 
 def sheets(lines):
-    """The lines of a print in parts, each of which begins with a line `p`; one part where there is none."""
+    """Cuts the lines of an output into parts that begin with a line `p`. Without such a line it is one part."""
     found = [[]]
     for line in lines:
         if line.startswith("p ") and found != [[]]:
@@ -80,8 +81,10 @@ def sheets(lines):
 
 
 def read(lines, width=None):
-    """The rows, each its cells and its runs (column, length, foreground, background, bits); other lines are left out. Where no
-    width is given, it is the one that most rows come to."""
+    """Returns the cells and the style runs (column, length, foreground, background, bits) of each row.
+
+    Other lines are ignored. If no width is given, it is that of most rows.
+    """
     texts, runs = [], {}
     for line in lines:
         if line.startswith("r "):
@@ -96,7 +99,7 @@ def read(lines, width=None):
 
 
 def styled(row, runs):
-    """The cells of a row, each with the colours and bits of its run, or None."""
+    """Yields the cells of a row, each with the colours and bits of its run, or None."""
     rest = collections.deque(runs)
     for column, width, symbol in row:
         while rest and rest[0][0] + rest[0][1] <= column:

@@ -1,4 +1,4 @@
-"""What a session on a terminal begins and ends with, as crates/tui_terminal/src/session.rt has it."""
+"""The bytes with which a session on a terminal begins and ends, read from crates/tui_terminal/src/session.rt."""
 import pathlib
 import re
 
@@ -6,7 +6,7 @@ SOURCE = pathlib.Path(__file__).resolve().parent.parent / "crates/tui_terminal/s
 
 
 def text_of(call):
-    """The text that a call writes."""
+    """Returns the text that a call writes."""
     written = re.search(rf'pub fn {call}<.*?b"((?:[^"\\]|\\.)*)"', SOURCE.read_text(encoding="utf-8"), re.DOTALL)[1]
     return written.encode().decode("unicode_escape")
 

@@ -1,5 +1,7 @@
-"""The graphemes of a text (UAX #29), and how many columns each has: the rules by which the program draws (docs/RULES.md), over
-the properties in tools/graphemes.txt. Python's own tables are those of another version of Unicode, so they are not asked."""
+"""The graphemes of a text (UAX #29) and their widths, by the rules by which the program draws (docs/RULES.md).
+
+The properties of characters are in tools/graphemes.txt. Python's own tables are of another version of Unicode.
+"""
 import bisect
 import functools
 import pathlib
@@ -8,7 +10,7 @@ ZWJ, KEYCAP, TEXT_STYLE, EMOJI_STYLE, WIDE_QUOTE = 0x200D, 0x20E3, 0xFE0E, 0xFE0
 
 
 def read_ranges():
-    """The first and the last code points of the ranges of each name."""
+    """Returns the first and the last code points of the ranges of each property."""
     found, name = {}, None
     for line in (pathlib.Path(__file__).parent / "graphemes.txt").read_text(encoding="utf-8").split("\n"):
         for word in line.split(" ") if not line.startswith("#") else ():
@@ -27,7 +29,7 @@ RANGES = read_ranges()
 
 @functools.lru_cache(maxsize=None)
 def names(code):
-    """What graphemes.txt says of a code point."""
+    """Returns the properties of a code point."""
     of = set()
     for name, (firsts, lasts) in RANGES.items():
         at = bisect.bisect_right(firsts, code) - 1
@@ -40,7 +42,7 @@ def names(code):
     return frozenset(of)
 
 
-# What follows in a syllable of Hangul without a break.
+# What may follow in a Hangul syllable without a break.
 SYLLABLE = {
     "lead": {"lead", "vowel", "lead vowel", "lead vowel trail"},
     "vowel": {"vowel", "trail"},
@@ -51,7 +53,7 @@ SYLLABLE = {
 
 
 def ends_in(before, name, passed):
-    """Whether the codes end in one of this name, behind which stand only such as are `passed`."""
+    """Whether the code points end in one with a property, followed only by code points that `passed` accepts."""
     for code in reversed(before):
         if name in names(code):
             return True
@@ -61,7 +63,7 @@ def ends_in(before, name, passed):
 
 
 def joins(before, code):
-    """Whether a code point belongs to the grapheme that these codes begin."""
+    """Whether a code point belongs to the same grapheme as the code points before it."""
     last, this = names(before[-1]), names(code)
     if "control" in last or "control" in this:
         return False
@@ -77,7 +79,7 @@ def joins(before, code):
 
 
 def graphemes(text):
-    """The graphemes of a text without control characters."""
+    """Returns the graphemes of a text without control characters."""
     found = []
     for character in text:
         code = ord(character)
@@ -89,7 +91,7 @@ def graphemes(text):
 
 
 def alone(code):
-    """The columns of a character by itself."""
+    """Returns the width of a character by itself, in columns."""
     if code < 0x300:
         return 0 if code == 0xAD else 1
     of = names(code)
@@ -100,9 +102,9 @@ def alone(code):
     return 3 if code == 0x17D8 else 1
 
 
-# What is said of a joiner with an emoji behind it: an emoji before it takes no columns of its own.
+# The values of `after` for a joiner followed by an emoji. An emoji before such a joiner takes no columns of its own.
 JOINED = ("joiner", "joined keycap")
-# Vowels of Kirat Rai that are written together: what stands behind one, and it; the columns that it adds, and what it then is.
+# Vowels of Kirat Rai that are written together: (`after`, the vowel) -> (the columns that it adds, the next `after`).
 KIRAT = {
     ("e", 0x16D63): (0, ""),
     ("e", 0x16D67): (0, "ai"),
@@ -113,7 +115,7 @@ KIRAT = {
 
 
 def followed(code, of):
-    """What a character means for the one before it."""
+    """Returns the `after` of the character before this one."""
     if 0x1F3FB <= code <= 0x1F3FF:
         return "tone"
     if code in (0x16D67, 0x16D68):
@@ -122,7 +124,7 @@ def followed(code, of):
 
 
 def joined(code, of, after):
-    """What a character adds before what joins it, and what it then is for the one before it; None if it stands by itself."""
+    """Returns the columns that a character adds if it joins what follows, and the next `after`. Else returns None."""
     if code == ZWJ and after in ("emoji", "tone", "khmer"):
         return 0, "khmer" if after == "khmer" else "joiner"
     if after == "tone" and "toned" in of:
@@ -146,7 +148,11 @@ def joined(code, of, after):
 
 @functools.lru_cache(maxsize=None)
 def columns(grapheme):
-    """The columns of a grapheme, read from its end: what follows a character may take its columns, or give it others."""
+    """Returns the width of a grapheme in columns.
+
+    It is read from its end, since what follows a character may take its columns away or change them. `after`
+    says what follows the current character, and `style` which variation selector does.
+    """
     total, after, style = 0, "", 0
     for code in reversed([ord(character) for character in grapheme]):
         of = names(code)

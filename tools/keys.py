@@ -1,9 +1,13 @@
-"""What a terminal's bytes say, by the table of docs/TERMINAL.md (*What a terminal sends*), and what a pager's keys they are, by docs/PROGRAMS.md
-(*tui_browse*): an oracle for tools/sessions.py, written over these tables in another form than the code. Events that a pager passes over by themselves
-are left out: seconds, what is unknown, and all that is in no table."""
+"""Decodes the bytes of a terminal into events, and these into keys of a pager: an oracle for tools/sessions.py.
+
+It follows the tables of docs/TERMINAL.md (*What a terminal sends*) and docs/PROGRAMS.md (*tui_browse*), and
+is written in another way than the code. Events that a pager ignores are left out: seconds, unknown sequences,
+and all that is in no table.
+"""
 import re
 
-# A byte 0 breaks nothing, so it is taken away before. A sequence that is cut short ends before the byte that cuts it.
+# A byte 0 interrupts nothing, so all are removed first. A sequence that is cut short ends before the byte
+# that cuts it.
 TYPED = re.compile(rb"""
     \x1b [\]PX^_] [^\x07\x1b]* (?: \x07 | \x1b\\ )?
   | \x1b\[\[ [\x20-\x7e]?
@@ -28,13 +32,13 @@ NUMBERED = {1: "Home", 7: "Home", 4: "End", 8: "End", 2: "Insert", 3: "Delete", 
 SHIFT_ALT_CTRL = 7
 
 
-def held(numbers):
-    """Whether Shift, Alt or Ctrl is held down, by the second number."""
+def is_modified(numbers):
+    """Whether the second number says that Shift, Alt or Ctrl is held down."""
     return bool((max(numbers[1], 1) - 1) & SHIFT_ALT_CTRL) if len(numbers) > 1 else False
 
 
 def sequence(text, last):
-    """The event of a whole sequence, or None where it has no meaning here."""
+    """Returns the event of a complete sequence, or None if it has no meaning here."""
     if not re.fullmatch(r"[\d;]*", text):
         return None
     numbers = [int(number or 0) for number in text.split(";")]
@@ -45,11 +49,11 @@ def sequence(text, last):
     if len(numbers) > 2:
         return None
     event = NUMBERED.get(numbers[0]) if last == "~" else LETTERS.get(last) if numbers[0] < 2 else None
-    return None if event in ("Up", "Down", "Left", "Right", "Home", "End") and held(numbers) else event
+    return None if event in ("Up", "Down", "Left", "Right", "Home", "End") and is_modified(numbers) else event
 
 
 def typed(found):
-    """The events of one piece outside a paste."""
+    """Returns the events of one piece outside a paste."""
     if found["text"] is not None:
         return list(found["text"].decode(errors="ignore"))
     if found["control"]:
@@ -62,7 +66,7 @@ def typed(found):
 
 
 def events_of(data):
-    """The events of bytes that come in full reads: a character by itself, others by their names, and (`Resize`, columns, rows)."""
+    """Returns the events of bytes that come in full reads: characters, names of keys, and (`Resize`, columns, rows)."""
     data, at, pasting, events = data.replace(b"\0", b""), 0, False, []
     while at < len(data):
         found = (PASTED if pasting else TYPED).match(data, at)
@@ -80,11 +84,11 @@ def events_of(data):
 
 KEYS = {"j": "Down", "Down": "Down", "k": "Up", "Up": "Up", "PageDown": "PageDown", "PageUp": "PageUp", "Home": "First", "End": "Last",
         "J": "LineDown", "K": "LineUp"}
-TURNS = {" ": "LineDown", "Backspace": "LineUp"}
+SCREENFULS = {" ": "LineDown", "Backspace": "LineUp"}
 
 
 def pager_keys(data, width, height):
-    """The keys and sizes of `tui_pager` for what `tui_browse` reads on a screen of this size."""
+    """Returns the keys and sizes of `tui_pager` for the bytes that `tui_browse` reads on a screen of this size."""
     keys = []
     for event in events_of(data):
         if isinstance(event, tuple):
@@ -93,6 +97,6 @@ def pager_keys(data, width, height):
                 keys.append([width, height])
         elif event in KEYS:
             keys.append(KEYS[event])
-        elif event in TURNS:
-            keys += [TURNS[event]] * (height - 3)
+        elif event in SCREENFULS:
+            keys += [SCREENFULS[event]] * (height - 3)
     return keys

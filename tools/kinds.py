@@ -1,4 +1,4 @@
-"""Kinds of values in JSON: in words, what is wrong with a value, and what in it is not read."""
+"""Kinds of JSON values: how they are described, what is wrong with a value, and which keys of it are read."""
 import difflib
 import json
 import re
@@ -6,8 +6,8 @@ import re
 NEAR = 0.6
 
 
-def near(word, names):
-    """The nearest of some names to a word, in quotes behind a question; nothing if none is near."""
+def suggestion(word, names):
+    """Returns a question with the name nearest to a word, or an empty string if no name is near."""
     by_case = {name.lower(): name for name in names}
     found = difflib.get_close_matches(word.lower(), by_case, 1, NEAR)
     return f"; did you mean {json.dumps(by_case[found[0]])}?" if found else ""
@@ -23,21 +23,21 @@ def listed(names, last="or"):
 
 
 def found(node):
-    """What a value is, in words."""
+    """Returns a description of a value."""
     if node.kind == "text":
-        return f"the text {quoted(node.value)}"
+        return f"the string {quoted(node.value)}"
     if node.kind == "number":
         return f"the number {node.value if len(node.value) < 40 else node.value[:40] + '…'}"
     if node.kind == "word":
         return json.dumps(node.value)
     if node.kind == "array":
-        return f"an array of {len(node.value)}"
+        return f"an array of length {len(node.value)}"
     keys = list(dict.fromkeys(name for name, _, _ in node.value))
-    return "an object with " + listed(keys[:5], "and") if 0 < len(keys) <= 5 else f"an object of {len(keys)} keys"
+    return "an object with " + listed(keys[:5], "and") if 0 < len(keys) <= 5 else f"an object with {len(keys)} keys"
 
 
 def step(path, name):
-    """A path with one step more."""
+    """Returns a path with one more step."""
     if isinstance(name, int):
         return f"{path}[{name}]"
     name = name if re.fullmatch(r"\w+", name) else json.dumps(name, ensure_ascii=False)
@@ -45,29 +45,33 @@ def step(path, name):
 
 
 class Wrong:
-    """The first value that is not of its kind: its path, the place of it or of what lacks it, what it wants, and what was found; the
-    empty text if it is missing."""
+    """The first value that is not of its kind: its path, its offset, what was expected, and what was found.
 
-    def __init__(self, path, at, wanted, what):
-        self.path, self.at, self.wanted, self.what = path, at, wanted, what
+    If the value is missing, `at` is the offset of the value that lacks it, and `what` is empty.
+    """
 
-    def said(self):
+    def __init__(self, path, at, expected, what):
+        self.path, self.at, self.expected, self.what = path, at, expected, what
+
+    def message(self):
         path = self.path or "the input"
-        return f"{path} wants {self.wanted}, {self.what}" if self.what else f"{path} is missing; it wants {self.wanted}"
+        if self.what:
+            return f"{path}: expected {self.expected}, {self.what}"
+        return f"{path} is missing; expected {self.expected}"
 
 
 class Kind:
-    """One that has nothing inside of it. `json` are the kinds of JSON that it takes."""
+    """A kind whose values have nothing inside. `json` has the JSON types that it accepts."""
     json = ()
 
-    def words(self):
+    def describe(self):
         raise NotImplementedError
 
     def accepts(self, node):
         return node.kind in self.json
 
     def holds(self, node):
-        """Whether a value that it takes is of this kind, but for what is inside of it."""
+        """Whether an accepted value is of this kind, apart from what is inside it."""
         return True
 
     def hint(self, node):
@@ -77,20 +81,20 @@ class Kind:
         return f"found {found(node)}"
 
     def children(self, node):
-        """(step, its kind, its Node or None, whether it is required) for all that is read inside of a value, in order."""
+        """Returns (step, kind, Node or None, whether it is required) for everything that is read inside a value, in order."""
         return []
 
     def known(self, node):
-        """The keys of an object that are read; None for what is no object with keys that are told."""
+        """Returns the keys of an object that are read, or None if the value is no object or its keys are not known."""
         return None
 
     def wrong(self, node, path):
         if not self.accepts(node) or not self.holds(node):
-            return Wrong(path, node.at, self.words(), self.what(node) + self.hint(node))
+            return Wrong(path, node.at, self.describe(), self.what(node) + self.hint(node))
         for name, kind, inside, required in self.children(node):
             if inside is None or inside.is_null() and not required and not kind.reads_null():
                 if required:
-                    return Wrong(step(path, name), node.at, kind.words(), "")
+                    return Wrong(step(path, name), node.at, kind.describe(), "")
                 continue
             bad = kind.wrong(inside, step(path, name))
             if bad:
@@ -101,7 +105,7 @@ class Kind:
         return False
 
     def child(self, node, name):
-        """The kind of what a step leads to, and its Node or None; None where there is no such step."""
+        """Returns the kind of what a step leads to, and its Node or None. Returns None if there is no such step."""
         for at, kind, inside, _ in self.children(node) if self.accepts(node) else []:
             if at == name:
                 return kind, inside
@@ -114,11 +118,11 @@ class Number(Kind):
     def __init__(self, low, high):
         self.low, self.high = low, high
 
-    def words(self):
+    def describe(self):
         if self.high in (2 ** 64 - 1, 2 ** 32 - 1):
             return f"a whole number from {self.low}, below 2^{(self.high + 1).bit_length() - 1}"
         if self.high == 2 ** 31 - 1:
-            return "a whole number of 32 bits with a sign"
+            return "a signed 32-bit whole number"
         return f"a whole number from {self.low} to {self.high}"
 
     def holds(self, node):
@@ -126,7 +130,7 @@ class Number(Kind):
         return number is not None and self.low <= number <= self.high
 
     def hint(self, node):
-        return "; a number has no quotes" if node.kind == "text" and re.fullmatch("[0-9]+", node.value) else ""
+        return "; write a number without quotes" if node.kind == "text" and re.fullmatch("[0-9]+", node.value) else ""
 
 
 U16, U64 = Number(0, 65535), Number(0, 2 ** 64 - 1)
@@ -138,8 +142,8 @@ class Text(Kind):
     def __init__(self, most=None, lines=True):
         self.most, self.lines = most, lines
 
-    def words(self):
-        return "a text" + (f" of at most {self.most:,} bytes" if self.most else "")
+    def describe(self):
+        return "a string" + (f" of at most {self.most:,} bytes" if self.most else "")
 
     def holds(self, node):
         return not self.most or len(node.value.encode("utf-8", "surrogatepass")) <= self.most
@@ -153,7 +157,7 @@ class Text(Kind):
         return f'; quote it: "{node.value}"' if node.kind == "number" else ""
 
     def left_out(self, text):
-        """The control characters of a text that are not shown."""
+        """Returns the control characters of a string that are not shown."""
         if self.lines:
             text = text.replace("\r\n", "").replace("\n", "")
         return sorted({c for c in text if c < " " or "\x7f" <= c < "\xa0"})
@@ -163,8 +167,8 @@ class Symbol(Text):
     def __init__(self):
         super().__init__(32)
 
-    def words(self):
-        return "a text of at most 32 bytes without control characters"
+    def describe(self):
+        return "a string of at most 32 bytes without control characters"
 
     def holds(self, node):
         return super().holds(node) and not self.left_out(node.value + ("\0" if "\n" in node.value else ""))
@@ -179,18 +183,18 @@ class Symbol(Text):
 class Flag(Kind):
     json = ("word",)
 
-    def words(self):
+    def describe(self):
         return "true or false"
 
     def accepts(self, node):
         return node.kind == "word" and node.value is not None
 
     def hint(self, node):
-        return "; it has no quotes" if node.kind == "text" and node.value in ("true", "false") else ""
+        return "; write it without quotes" if node.kind == "text" and node.value in ("true", "false") else ""
 
 
 class Null(Kind):
-    def words(self):
+    def describe(self):
         return "null"
 
     def accepts(self, node):
@@ -206,20 +210,20 @@ class Names(Kind):
     def __init__(self, names, title=""):
         self.names, self.title = names, title
 
-    def words(self):
+    def describe(self):
         return (f"{self.title}: " if self.title else "") + listed(self.names)
 
     def holds(self, node):
         return node.value in self.names
 
     def hint(self, node):
-        return near(node.value, self.names) if node.kind == "text" else ""
+        return suggestion(node.value, self.names) if node.kind == "text" else ""
 
 
 class Hex(Kind):
     json = ("text",)
 
-    def words(self):
+    def describe(self):
         return "`#` and six hexadecimal digits"
 
     def holds(self, node):
@@ -232,7 +236,7 @@ class Array(Kind):
     def __init__(self, element, least, most, word):
         self.element, self.least, self.most, self.word = element, least, most, word
 
-    def words(self):
+    def describe(self):
         if self.most is None:
             return f"an array of {self.word}"
         return f"an array of {f'{self.least} to' if self.least else 'at most'} {self.most:,} {self.word}"
@@ -246,7 +250,7 @@ class Array(Kind):
     def hint(self, node):
         if node.kind == "array" or not self.element.accepts(node):
             return ""
-        return "; one alone stands in [ ] too"
+        return "; a single one needs [ ] too"
 
 
 class Tuple(Kind):
@@ -255,10 +259,10 @@ class Tuple(Kind):
     def __init__(self, labels, elements, share=False):
         self.labels, self.elements, self.share = labels, elements, share
 
-    def words(self):
-        each = self.elements[0].words().replace("a whole number", "whole numbers", 1)
-        if len({kind.words() for kind in self.elements}) > 1:
-            each = ", ".join(f"{label} {kind.words()}" for label, kind in zip(self.labels, self.elements))
+    def describe(self):
+        each = self.elements[0].describe().replace("a whole number", "whole numbers", 1)
+        if len({kind.describe() for kind in self.elements}) > 1:
+            each = ", ".join(f"{label} {kind.describe()}" for label, kind in zip(self.labels, self.elements))
         return f"[{', '.join(self.labels)}], {each}" + (", the first at most the second" if self.share else "")
 
     def holds(self, node):
@@ -277,17 +281,21 @@ class Tuple(Kind):
 
 
 class Object(Kind):
-    """Of the fields each (required, its kind, the field and the value that it stands with alone, or None)."""
+    """An object with fields, each of them (required, kind, condition).
+
+    A condition is another field and its value: the field is read only with it. It is None for a field that is
+    always read.
+    """
     json = ("object",)
 
     def __init__(self, fields, title=""):
         self.fields, self.title = fields, title
 
-    def words(self):
+    def describe(self):
         names = [f"`{name}`" + (" (required)" if required else "") for name, (required, _, _) in self.fields.items()]
         return (f"{self.title}: " if self.title else "") + "an object" + (" with " + ", ".join(names) if names else "")
 
-    def stands(self, node, only):
+    def is_read(self, node, only):
         if not only:
             return True
         other = node.get(only[0])
@@ -295,7 +303,7 @@ class Object(Kind):
 
     def children(self, node):
         return [(name, kind, node.get(name), required or bool(only))
-                for name, (required, kind, only) in self.fields.items() if self.stands(node, only)]
+                for name, (required, kind, only) in self.fields.items() if self.is_read(node, only)]
 
     def known(self, node):
-        return {name for name, (_, _, only) in self.fields.items() if self.stands(node, only)}
+        return {name for name, (_, _, only) in self.fields.items() if self.is_read(node, only)}

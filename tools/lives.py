@@ -1,5 +1,8 @@
-"""The programs that live on a terminal, each under ./live in tmux as its user would try it, for `tools/live_check`: keys, a paste, a narrow terminal and one
-that is too small, Ctrl-Z and `fg`, its ends, and a kill. What they show is worked out from docs/PROGRAMS.md."""
+"""Tests of the interactive programs for `tools/live_check`: each runs under ./live in tmux, as its user would try it.
+
+They try keys, a paste, a narrow terminal and one that is too small, Ctrl-Z and `fg`, each way to end, and a
+kill. What the programs have to show is worked out by hand from docs/PROGRAMS.md.
+"""
 import json
 import os
 import shutil
@@ -13,16 +16,16 @@ NARROW, TINY = (30, 9), (8, 2)
 LIMIT = 1_048_576
 
 
-class Living(NamedTuple):
-    """How a program is called, what stands on its first screen, on a narrow one and on a tiny one."""
+class Program(NamedTuple):
+    """The command line of a program, and what is on its first screen, on a narrow one and on a tiny one."""
 
-    words: str
+    command: str
     first: list
     narrow: list
     tiny: list
 
     def name(self):
-        return self.words.split()[0]
+        return self.command.split()[0]
 
 
 def is_built(name):
@@ -32,57 +35,57 @@ def is_built(name):
     return False
 
 
-def sizes(tmux, living):
-    """Another size, one that is too small, and the first one again."""
-    name = living.name()
+def sizes(tmux, program):
+    """Tries a narrow terminal, one that is too small, and the first size again."""
+    name = program.name()
     tmux.resize(*NARROW)
-    tmux.shows(f"{name}: a narrow terminal", *living.narrow)
+    tmux.shows(f"{name}: a narrow terminal", *program.narrow)
     tmux.resize(*TINY)
-    tmux.shows(f"{name}: a tiny terminal", *living.tiny)
+    tmux.shows(f"{name}: a tiny terminal", *program.tiny)
     tmux.resize(*SIZE)
-    tmux.shows(f"{name}: the first size again", *living.first)
+    tmux.shows(f"{name}: the first size again", *program.first)
 
 
-def stop_and_go_on(tmux, name, *wanted):
-    """Ctrl-Z, another command and `fg`."""
+def stop_and_continue(tmux, name, *expected):
+    """Tries Ctrl-Z, another command and `fg`."""
     tmux.keys("C-z")
     tmux.shows(f"{name}: Ctrl-Z", "Stopped")
-    tmux.until(f"{name}: the modes behind Ctrl-Z", lambda: tmux.tells(MODES[2:]) == tmux.modes.split(" ", 2)[2])
-    tmux.equal(f"{name}: stty -a behind Ctrl-Z", tmux.run("stty -a"), tmux.lines)
+    tmux.until(f"{name}: the modes after Ctrl-Z", lambda: tmux.query(MODES[2:]) == tmux.modes.split(" ", 2)[2])
+    tmux.equal(f"{name}: stty -a after Ctrl-Z", tmux.run("stty -a"), tmux.lines)
     tmux.type("clear; fg; echo $? >status")
-    tmux.shows(f"{name}: fg", *wanted)
+    tmux.shows(f"{name}: fg", *expected)
 
 
-def kills(tmux, living):
-    """Ctrl-C, a signal to ./live, and the death of the program."""
-    name = living.name()
-    tmux.start(living.words, living.first[0])
+def kills(tmux, program):
+    """Tries Ctrl-C, a signal to ./live, and a kill of the program."""
+    name = program.name()
+    tmux.start(program.command, program.first[0])
     tmux.keys("C-c")
     tmux.ended(f"{name}: Ctrl-C", 130)
-    tmux.start(living.words, living.first[0])
+    tmux.start(program.command, program.first[0])
     os.kill(tmux.process("live"), signal.SIGTERM)
     tmux.ended(f"{name}: TERM", 143)
-    tmux.start(living.words, living.first[0])
+    tmux.start(program.command, program.first[0])
     os.kill(tmux.process(f"out/{name}"), signal.SIGKILL)
     tmux.ended(f"{name}: killed", 137)
 
 
-def lives(tmux, living):
-    """What all programs have in common that take keys."""
-    tmux.start(living.words, living.first[0])
-    tmux.shows(f"{living.name()}: the first screen", *living.first)
-    sizes(tmux, living)
-    stop_and_go_on(tmux, living.name(), *living.first)
+def common_tests(tmux, program):
+    """Tests what all programs that take keys have in common."""
+    tmux.start(program.command, program.first[0])
+    tmux.shows(f"{program.name()}: the first screen", *program.first)
+    sizes(tmux, program)
+    stop_and_continue(tmux, program.name(), *program.first)
     tmux.keys("C-c")
-    tmux.ended_behind_fg(f"{living.name()}: Ctrl-C behind fg", 130)
-    kills(tmux, living)
+    tmux.ended_after_fg(f"{program.name()}: Ctrl-C after fg", 130)
+    kills(tmux, program)
 
 
-def refuses(tmux, name, cases):
-    """Refusals, at which the terminal is not entered: the words, the status, and what is said."""
-    for words, status, said in cases:
-        tmux.start(f"{name} {words}".strip(), said[0] if said else "ready>")
-        tmux.ended(f"{name} {words}", status, *said)
+def rejects(tmux, name, cases):
+    """Tests errors after which the screen is not entered. A case has the arguments, the exit status and the output."""
+    for arguments, status, output in cases:
+        tmux.start(f"{name} {arguments}".strip(), output[0] if output else "ready>")
+        tmux.ended(f"{name} {arguments}", status, *output)
 
 
 def browses(tmux):
@@ -92,7 +95,7 @@ def browses(tmux):
     shutil.copy(CRATES / "tui_browse/data/entries.json", tmux.folder)
     (tmux.folder / "text").write_text("".join(f"line {number}\n" for number in range(1, 1502)), encoding="utf-8")
     (tmux.folder / "latin").write_bytes(b"caf\xe9\n")
-    lives(tmux, Living("tui_browse entries.json", ["│>Rattle", "Each function may have a contract.", "1/3"], ["│>Rattle", "1/3"], ["too smal"]))
+    common_tests(tmux, Program("tui_browse entries.json", ["│>Rattle", "Each function may have a contract.", "1/3"], ["│>Rattle", "1/3"], ["too smal"]))
     tmux.start("tui_browse entries.json", "1/3")
     tmux.keys("Down")
     tmux.shows("the second entry", "│>Cells", "A buffer holds a cell", "2/3")
@@ -111,24 +114,25 @@ def browses(tmux):
     tmux.shows("the second piece", "│>1001 line 1001", "││line 1019")
     tmux.keys("C-c")
     tmux.ended("Ctrl-C of tui_browse", 130)
-    refuses(tmux, "tui_browse", [("text", 4, ["refused: not JSON"]), ("--text latin", 4, ["refused: not UTF-8"]), ("", 2, ["refused: usage"]), ("nothing", 6, [])])
+    rejects(tmux, "tui_browse", [("text", 4, ["refused: not JSON"]), ("--text latin", 4, ["refused: not UTF-8"]), ("", 2, ["refused: usage"]), ("nothing", 6, [])])
     (tmux.folder / "wrong.json").write_text('{"entries": [{"title": "one", "body": ""}, {"title": 2, "body": ""}]}', encoding="utf-8")
     (tmux.folder / "long.json").write_text('{"entries": []}'.ljust(LIMIT + 1), encoding="utf-8")
-    refuses(tmux, "tui_browse", [("wrong.json", 5, ["refused: field title at 1"]), ("long.json", 3, ["refused: too long"])])
+    rejects(tmux, "tui_browse", [("wrong.json", 5, ["refused: field title at 1"]), ("long.json", 3, ["refused: too long"])])
 
 
 def lines_of(count, length):
-    """Lines of a length, with their newlines, each of which begins with its number in four digits."""
+    """Returns lines of a length, newlines included. Each begins with its number in four digits."""
     return [f"{number:04}".ljust(length - 1, "x") + "\n" for number in range(1, count + 1)]
 
 
-# Texts, how many pieces they have, keys, and what stands on the screen behind them: the title of a piece, and its first lines. A piece has at most 1,000
-# lines and 65,536 bytes, which are 512 lines of 128 bytes; of a longer line it ends before a character that would go beyond.
+# Texts, how many pieces they have, keys, and what is on the screen after these keys: the title of a piece,
+# and its first lines. A piece has at most 1,000 lines and 65,536 bytes, which are 512 lines of 128 bytes. If
+# a line is longer, the piece ends before the character that would pass the limit.
 TEXTS = {
     "65,536 bytes": ("".join(lines_of(600, 128)), 2, "j", ["│>513 0513xxxxxx", "││0513xxx", "2/2"]),
     "a byte more": ("x" + "".join(lines_of(600, 128)), 2, "j", ["│>512 0512xxxxxx", "││0512xxx", "2/2"]),
-    "a line that goes on": (65_535 * "a" + "漢bc\nlast\n", 2, "j", ["│>1 漢bc  ", "││漢bc  ", "││last  ", "2/2"]),
-    "a third line that goes on": ("one\ntwo\n" + 65_530 * "a" + 65_535 * "b" + "漢\n", 3, "jj", ["│>3 bbbb", "││bbbb", "3/3"]),
+    "a line of two pieces": (65_535 * "a" + "漢bc\nlast\n", 2, "j", ["│>1 漢bc  ", "││漢bc  ", "││last  ", "2/2"]),
+    "a third line of two pieces": ("one\ntwo\n" + 65_530 * "a" + 65_535 * "b" + "漢\n", 3, "jj", ["│>3 bbbb", "││bbbb", "3/3"]),
     "no text": ("", 0, "j", ["││ ", "0/0"]),
     "1,000 pieces": (1_000_000 * "\n", 1000, "j", ["│>1001  ", "2/1000"]),
     "1,048,576 bytes": ("".join(lines_of(LIMIT // 64, 64)), 17, "j", ["│>1001 1001xxxxxx", "││1001xxx", "2/17"]),
@@ -139,20 +143,20 @@ def cuts_texts(tmux):
     """tui_browse --text: where a text is cut into pieces, and how long it may be."""
     if not is_built("tui_browse"):
         return
-    for name, (text, pieces, keys, wanted) in TEXTS.items():
+    for name, (text, pieces, keys, expected) in TEXTS.items():
         (tmux.folder / "text").write_text(text, encoding="utf-8")
         tmux.start("tui_browse --text text", f"{min(pieces, 1)}/{pieces}")
         tmux.text(keys)
-        tmux.shows(name, *wanted)
+        tmux.shows(name, *expected)
         tmux.text("q")
         tmux.ended(name, 0)
     for name, text in (("pieces", 1_000_001 * "\n"), ("bytes", "x" * (LIMIT + 1))):
         (tmux.folder / name).write_text(text, encoding="utf-8")
-        refuses(tmux, "tui_browse", [(f"--text {name}", 3, ["refused: too long"])])
+        rejects(tmux, "tui_browse", [(f"--text {name}", 3, ["refused: too long"])])
 
 
 def goes_through_folders(tmux):
-    """tui_files: folders and their names, a part that is pasted, the file CHOSEN."""
+    """tui_files: folders and their names, a filter that is pasted, the file CHOSEN."""
     if not is_built("tui_files"):
         return
     folder = tmux.folder / "house"
@@ -161,12 +165,12 @@ def goes_through_folders(tmux):
     for name, text in (("apple", "an apple\n"), ("pear", "a pear\n"), (".hidden", "")):
         (folder / name).write_text(text, encoding="utf-8")
     (folder / "bytes").write_bytes(b"\xff\xfe")
-    lives(tmux, Living("tui_files house chosen", [">cellar/", "1/4", "apple"], [">cellar/", "1/4"], ["too smal"]))
+    common_tests(tmux, Program("tui_files house chosen", [">cellar/", "1/4", "apple"], [">cellar/", "1/4"], ["too smal"]))
     tmux.start("tui_files house chosen", ">cellar/")
     tmux.keys("Down")
     tmux.shows("the beginning of a file", ">apple", "an apple", "2/4")
     tmux.text("j")
-    tmux.shows("a file that is no text", ">bytes", "binary", "3/4")
+    tmux.shows("a file that is not text", ">bytes", "binary", "3/4")
     tmux.text(".")
     tmux.shows("names with a dot", ".hidden", "4/5")
     tmux.text(".")
@@ -176,11 +180,11 @@ def goes_through_folders(tmux):
     tmux.shows("out of it", ">cellar/", "1/4")
     tmux.text("/")
     tmux.paste("pe")
-    tmux.shows("a part that was pasted", ">pear", "/pe")
+    tmux.shows("a filter that was pasted", ">pear", "/pe")
     tmux.keys("Enter", "Enter")
     tmux.ended("Enter at a file", 0)
     tmux.equal("the path that was chosen", (tmux.folder / "chosen").read_text(encoding="utf-8"), f"{folder.resolve()}/pear\n")
-    refuses(tmux, "tui_files", [("a b c", 2, ["refused: usage"]), ("nothing", 6, [])])
+    rejects(tmux, "tui_files", [("a b c", 2, ["refused: usage"]), ("nothing", 6, [])])
 
 
 FORM = {"title": "Ask", "fields": [{"name": "who", "label": "Who?", "kind": "text", "needed": True}, {"name": "secret", "label": "Secret", "kind": "text", "mask": True},
@@ -188,19 +192,19 @@ FORM = {"title": "Ask", "fields": [{"name": "who", "label": "Who?", "kind": "tex
 
 
 def asks(tmux):
-    """tui_form: texts, one of them pasted, a choice and a check; a needed field; the answers, and an end without them."""
+    """tui_form: texts, one of them pasted, a choice and a check; a required field; the answers, and an end without them."""
     if not is_built("tui_form"):
         return
     (tmux.folder / "form.json").write_text(json.dumps(FORM), encoding="utf-8")
     (tmux.folder / "wrong.json").write_text('{"title": 1}', encoding="utf-8")
     answers = tmux.folder / "answers"
     answers.write_text("before\n", encoding="utf-8")
-    lives(tmux, Living("tui_form form.json answers", ["┌Ask", "> Who? *", "Room", "[ ]"], ["┌Ask", "> Who? *", "Secret"], ["too smal"]))
+    common_tests(tmux, Program("tui_form form.json answers", ["┌Ask", "> Who? *", "Room", "[ ]"], ["┌Ask", "> Who? *", "Secret"], ["too smal"]))
     tmux.start("tui_form form.json answers", "> Who? *")
     tmux.keys("Enter")
-    tmux.shows("a needed field without an answer", "> Who? * needed")
+    tmux.shows("a required field without an answer", "> Who? * needed")
     tmux.paste("Ada\nL")
-    tmux.shows("a paste, its newline a blank", "Ada L")
+    tmux.shows("a paste whose newline becomes a space", "Ada L")
     tmux.keys("Tab")
     tmux.text("漢x")
     tmux.shows("a mask", "> Secret", "**")
@@ -215,7 +219,7 @@ def asks(tmux):
     tmux.shows("one Esc", "> Who? *")
     tmux.keys("Escape")
     tmux.ended("Esc twice", 1)
-    refuses(tmux, "tui_form", [("", 2, ["refused: usage"]), ("wrong.json", 5, ["refused: field title"]), ("nothing", 6, [])])
+    rejects(tmux, "tui_form", [("", 2, ["refused: usage"]), ("wrong.json", 5, ["refused: field title"]), ("nothing", 6, [])])
 
 
 def watches(tmux):
@@ -223,7 +227,7 @@ def watches(tmux):
     if not is_built("tui_watch"):
         return
     shutil.copytree(CRATES / "tui_watch/data/machine", tmux.folder / "machine")
-    lives(tmux, Living("tui_watch machine", ["load 0.52 0.58 0.59", "2 processors ", "PID S"], ["load 0.52 0.58 0.59"], ["load 0.5"]))
+    common_tests(tmux, Program("tui_watch machine", ["load 0.52 0.58 0.59", "2 processors ", "PID S"], ["load 0.52 0.58 0.59"], ["load 0.5"]))
     tmux.start("tui_watch machine", "load 0.52")
     (tmux.folder / "machine/loadavg").write_text("9.00 1.00 1.00 1/2 3\n", encoding="utf-8")
     tmux.shows("the next second", "load 9.00 1.00 1.00")
@@ -234,7 +238,7 @@ def watches(tmux):
     tmux.shows("a file that is missing", "no loadavg")
     tmux.text("q")
     tmux.ended("q of tui_watch", 0)
-    refuses(tmux, "tui_watch", [("a b", 2, ["refused: usage"])])
+    rejects(tmux, "tui_watch", [("a b", 2, ["refused: usage"])])
 
 
 def scene(text, width=20):
@@ -242,14 +246,14 @@ def scene(text, width=20):
 
 
 def feed(tmux, name, lines):
-    """A script that gives scenes."""
+    """Writes a script whose output is scenes."""
     script = tmux.folder / name
     script.write_text(f"#!/bin/sh\n{lines}\n", encoding="utf-8")
     script.chmod(0o755)
 
 
 def shows_scenes(tmux):
-    """tui_view frames: scenes, a line that is none, Ctrl-Z and `fg`, and its ends."""
+    """tui_view frames: scenes, a line that is not a scene, Ctrl-Z and `fg`, and each way to end."""
     if not is_built("tui_view"):
         return
     for name, lines in (("one", scene("one")), ("two", "\n" + scene("two") + "no scene\n"), ("three", scene("three", 30))):
@@ -258,7 +262,7 @@ def shows_scenes(tmux):
     feed(tmux, "other", "cat one; sleep 5; cat three; sleep 2")
     feed(tmux, "hold", "cat one; sleep 5")
     tmux.start("tui_view frames", "one", "./both | ")
-    tmux.shows("the next scene, and a line that is none", "two", "refused: not JSON")
+    tmux.shows("the next scene, and a line that is not a scene", "two", "refused: not JSON")
     tmux.ended("the end of scenes", 0)
     tmux.start("tui_view frames", "one", "./other | ")
     tmux.resize(*NARROW)
@@ -268,8 +272,8 @@ def shows_scenes(tmux):
     tmux.shows("Ctrl-Z of scenes", "Stopped")
     tmux.equal("Ctrl-Z of scenes: stty -a", tmux.run("stty -a"), tmux.lines)
     tmux.type("clear; fg; echo $? >status")
-    tmux.shows("a scene of another size behind fg", "three")
-    tmux.ended_behind_fg("the end of scenes behind fg", 0)
+    tmux.shows("a scene of another size after fg", "three")
+    tmux.ended_after_fg("the end of scenes after fg", 0)
     tmux.start("tui_view frames", "one", "./hold | ")
     tmux.keys("C-c")
     tmux.ended("Ctrl-C of scenes", 130)
@@ -281,10 +285,10 @@ def shows_scenes(tmux):
 
 
 def keeps_a_list(tmux):
-    """list_app_example of docs/TASKS.md: a list of 20 columns and 4 rows until another size is told."""
+    """list_app_example of docs/TASKS.md: a list of 20 columns and 4 rows, until it gets another size."""
     if not is_built("list_app_example"):
         return
-    lives(tmux, Living("list_app_example", ["> apples", "  dates"], ["> apples", "  figs"], ["> apples", "  brea"]))
+    common_tests(tmux, Program("list_app_example", ["> apples", "  dates"], ["> apples", "  figs"], ["> apples", "  brea"]))
     tmux.start("list_app_example", "> apples")
     tmux.text("jjj")
     tmux.shows("the last row", "  apples", "> dates")
@@ -296,4 +300,4 @@ def keeps_a_list(tmux):
     tmux.ended("q of list_app_example", 0)
 
 
-LIVES = (browses, cuts_texts, goes_through_folders, asks, watches, shows_scenes, keeps_a_list)
+PROGRAMS = (browses, cuts_texts, goes_through_folders, asks, watches, shows_scenes, keeps_a_list)

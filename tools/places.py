@@ -1,5 +1,8 @@
-"""JSON with the place of each value: `read` gives the value of a text as the programs read it, or raises `NotJSON` with the place and the
-reason. A value is a Node; the programs' own bounds hold, such as 127 brackets inside one another."""
+"""A JSON reader that keeps the position of each value.
+
+`read` returns the value of some bytes as the programs read it, or raises `Unreadable` with the position and
+the reason. A value is a `Node`. The programs' own limits apply, such as 127 nested brackets.
+"""
 import difflib
 import json
 import math
@@ -8,7 +11,7 @@ import re
 STRING = re.compile(r'"(?:[^"\\\x00-\x1f]|\\(?:["\\/bfnrt]|u[0-9a-fA-F]{4}))*"')
 NUMBER = re.compile(r"-?(?:0|[1-9][0-9]*)(?:\.[0-9]+)?(?:[eE][+-]?[0-9]+)?")
 WORD = re.compile(r"-?[^\W\d]\w*")
-BLANKS = re.compile(r"[ \t\n\r]*")
+SPACE = re.compile(r"[ \t\n\r]*")
 WORDS = {"true": True, "false": False, "null": None}
 OTHERS = {"none": "null", "nil": "null", "undefined": "null", "yes": "true", "no": "false"}
 DEEPEST = 127
@@ -22,14 +25,17 @@ class NotJSON(Exception):
 
 
 class Node:
-    """A value and where it begins: `value` is a text, a number as it is written, True, False, None, or of an object a list of
-    (key, where the key begins, its Node) and of an array a list of Nodes."""
+    """A value and the offset at which it begins.
+
+    `value` is a string, a number as it is written, True, False or None; for an array a list of Nodes; for an object a
+    list of (key, offset of the key, Node).
+    """
 
     def __init__(self, kind, value, at):
         self.kind, self.value, self.at = kind, value, at
 
     def get(self, key):
-        """The member of a name, the last one of several; None if there is none or this is no object."""
+        """Returns the last member with a key, or None if there is none or this is not an object."""
         found = [member for name, _, member in self.value if name == key] if self.kind == "object" else []
         return found[-1] if found else None
 
@@ -37,12 +43,12 @@ class Node:
         return self.kind == "word" and self.value is None
 
     def whole(self):
-        """The whole number that it is, or None."""
+        """Returns the value as a whole number, or None if it is not one."""
         return int(self.value) if self.kind == "number" and re.fullmatch(r"-?[0-9]+", self.value) and self.value != "-0" else None
 
 
 def place(text, at):
-    """The line and the column of a character, each from 1."""
+    """Returns the line and the column of an offset, both counted from 1."""
     return f"line {text.count(chr(10), 0, at) + 1}, column {at - text.rfind(chr(10), 0, at)}"
 
 
@@ -50,35 +56,35 @@ class Reader:
     def __init__(self, text):
         self.text, self.at, self.opened = text, 0, []
 
-    def blanks(self):
-        self.at = BLANKS.match(self.text, self.at).end()
+    def skip_space(self):
+        self.at = SPACE.match(self.text, self.at).end()
         if self.text.startswith(("//", "/*"), self.at):
-            raise NotJSON(self.at, "a comment, which JSON does not have")
+            raise NotJSON(self.at, "a comment; JSON has none")
 
     def next(self):
-        """The next character but blanks; the empty text at the end."""
-        self.blanks()
+        """Skips whitespace and returns the next character, or an empty string at the end."""
+        self.skip_space()
         return self.text[self.at:self.at + 1]
 
-    def shown(self):
-        """What stands here, in words."""
+    def describe_next(self):
+        """Returns a description of what is at the current offset."""
         word = WORD.match(self.text, self.at)
         return f"the word {word[0]}" if word else self.text[self.at] if self.at < len(self.text) else "the end"
 
     def unclosed(self):
-        """Of the innermost bracket that is open: itself, where it is, and the one that closes it."""
+        """Returns the innermost open bracket, its position, and the bracket that closes it."""
         at = self.opened[-1]
         return self.text[at], place(self.text, at), CLOSING[self.text[at]]
 
-    def fail(self, wanted):
-        """What stands here is not what is wanted."""
+    def fail(self, expected):
+        """Raises `NotJSON`, since what is at the current offset is not what was expected."""
         if self.opened and self.at >= len(self.text):
             bracket, where, closing = self.unclosed()
-            raise NotJSON(self.at, f"the text ends here, and the {bracket} of {where} has no {closing}")
+            raise NotJSON(self.at, f"the input ends here, but the {bracket} at {where} has no {closing}")
         if self.opened and self.text[self.at] in "}]" and self.text[self.at] != CLOSING[self.text[self.opened[-1]]]:
             bracket, where, closing = self.unclosed()
-            raise NotJSON(self.at, f"found {self.shown()}, and the {bracket} of {where} wants {closing}")
-        raise NotJSON(self.at, f"{wanted}, found {self.shown()}")
+            raise NotJSON(self.at, f"found {self.describe_next()}, but the {bracket} at {where} needs {closing}")
+        raise NotJSON(self.at, f"expected {expected}, found {self.describe_next()}")
 
     def string(self):
         found = STRING.match(self.text, self.at)
@@ -86,10 +92,10 @@ class Reader:
             rest = re.compile(r'"(?:[^"\\\x00-\x1f]|\\(?:["\\/bfnrt]|u[0-9a-fA-F]{4}))*').match(self.text, self.at)
             end = self.text[rest.end():rest.end() + 1]
             if end == "\\":
-                raise NotJSON(rest.end(), f"{self.text[rest.end():rest.end() + 2]} is no escape; a backslash is written \\\\")
+                raise NotJSON(rest.end(), f"{self.text[rest.end():rest.end() + 2]} is not an escape; write a backslash as \\\\")
             if end and end != "\n":
-                raise NotJSON(rest.end(), f"the control character U+{ord(end):04X} inside a text; write \\u{ord(end):04x}")
-            raise NotJSON(self.at, "this text is not closed in its line" if end else "this text is not closed")
+                raise NotJSON(rest.end(), f"the control character U+{ord(end):04X} inside a string; write \\u{ord(end):04x}")
+            raise NotJSON(self.at, "this string is not closed on its line" if end else "this string is not closed")
         text = found[0][1:-1]
         if "\\" in text:
             text = json.loads(found[0])
@@ -102,25 +108,25 @@ class Reader:
         at, found = self.at, NUMBER.match(self.text, self.at)
         end = found.end() if found else at + 1
         if not found or re.match(r"[0-9.eE+-]", self.text[end:end + 1]):
-            shown = re.compile(r"[-+.0-9eE]+").match(self.text, at)[0]
-            raise NotJSON(at, f"{shown} is no JSON number")
+            written = re.compile(r"[-+.0-9eE]+").match(self.text, at)[0]
+            raise NotJSON(at, f"{written} is not a JSON number")
         if math.isinf(float(found[0])):
-            raise NotJSON(at, "a number that is too great")
+            raise NotJSON(at, "the number is too large")
         self.at = end
         return Node("number", found[0], at)
 
     def word(self):
         found = WORD.match(self.text, self.at)
         if not found:
-            self.fail("a value is wanted")
+            self.fail("a value")
         word = found[0]
         if word in WORDS:
             self.at += len(word)
             return Node("word", WORDS[word], found.start())
         if word.lstrip("-") in ("NaN", "Infinity"):
-            raise NotJSON(self.at, f"{word} is no JSON")
+            raise NotJSON(self.at, f"{word} is not JSON")
         near = [OTHERS[word.lower()]] if word.lower() in OTHERS else difflib.get_close_matches(word.lower(), WORDS, 1)
-        raise NotJSON(self.at, f"a value is wanted, found the word {word}; " + (f"did you mean {near[0]}?" if near else "texts stand in double quotes"))
+        raise NotJSON(self.at, f"expected a value, found the word {word}; " + (f"did you mean {near[0]}?" if near else "strings need double quotes"))
 
     def value(self):
         first = self.next()
@@ -129,26 +135,26 @@ class Reader:
         if first and first in "-0123456789" and not self.text.startswith("-Infinity", self.at):
             return self.number()
         if first == "'":
-            raise NotJSON(self.at, "texts stand in double quotes, not in single ones")
+            raise NotJSON(self.at, "strings need double quotes, not single quotes")
         if not first or first not in "{[":
             return self.word()
         if len(self.opened) == DEEPEST:
-            raise NotJSON(self.at, f"more than {DEEPEST} brackets inside one another")
+            raise NotJSON(self.at, f"more than {DEEPEST} nested brackets")
         return self.inside("object" if first == "{" else "array", self.member if first == "{" else self.value)
 
     def member(self):
         if self.next() == "'":
-            raise NotJSON(self.at, "keys stand in double quotes, not in single ones")
+            raise NotJSON(self.at, "keys need double quotes, not single quotes")
         if self.next() != '"':
-            self.fail("a key in double quotes is wanted")
+            self.fail("a key in double quotes")
         key = self.string()
         if self.next() != ":":
-            self.fail(f"a colon is wanted behind the key {json.dumps(key.value)}")
+            self.fail(f"a colon after the key {json.dumps(key.value)}")
         self.at += 1
         return key.value, key.at, self.value()
 
     def inside(self, kind, one):
-        """An object or an array."""
+        """Reads an object or an array, whose members `one` reads."""
         at, closing, found = self.at, CLOSING[self.text[self.at]], []
         self.opened.append(at)
         self.at += 1
@@ -158,18 +164,18 @@ class Reader:
             if after == closing:
                 break
             if after != ",":
-                self.fail(f"a comma or {closing} is wanted")
+                self.fail(f"a comma or {closing}")
             comma = self.at
             self.at += 1
             if self.next() and self.next() in "]}":
-                raise NotJSON(comma, f"a comma before {self.next()}; none may stand there")
+                raise NotJSON(comma, f"a comma before {self.next()}; JSON allows none there")
         self.at += 1
         self.opened.pop()
         return Node(kind, found, at)
 
 
 def read(data):
-    """The value of some bytes, and their text."""
+    """Returns the value of some bytes, and their text."""
     try:
         text = data.decode("utf-8")
     except UnicodeDecodeError as error:
@@ -180,15 +186,15 @@ def read(data):
         if text.startswith("\ufeff"):
             raise NotJSON(0, "a byte order mark")
         if reader.next() == "":
-            raise NotJSON(0, "nothing stands here")
+            raise NotJSON(0, "the input is empty")
         value = reader.value()
         after = reader.next()
         if after:
-            raise NotJSON(reader.at, f"{after} closes nothing" if after in "}]" else f"the value has ended, found {reader.shown()}")
+            raise NotJSON(reader.at, f"{after} closes nothing" if after in "}]" else f"expected the end of the input, found {reader.describe_next()}")
     except NotJSON as error:
         raise Unreadable(f"{place(text, error.at)}: {error.why}") from None
     return value, text
 
 
 class Unreadable(Exception):
-    """The bytes are no JSON: where and why."""
+    """The bytes are not JSON: the position and the reason."""

@@ -1,8 +1,11 @@
-/* Loaded before a program (LD_PRELOAD), it refuses requests for memory: with REFUSE_AT the one of that number, from 1, and no
-   other (0: none); else every one once REFUSE_COUNT pieces of REFUSE_SIZE bytes were given. At the end it tells on standard error
-   how many requests were met and how many were refused, and with REFUSE_AT who made the refused one: the C library itself, or the
-   program; or whether the program asked once more at once, for as much or for less. With FAIL_PUT_AT the write to standard output of
-   that number fails, from 1, and no other. */
+/* Loaded before a program (LD_PRELOAD), this library makes requests for memory fail. With REFUSE_AT, only the request
+   with that number fails, counted from 1 (0: none). Without it, every request fails once REFUSE_COUNT pieces of
+   REFUSE_SIZE bytes were given. With FAIL_WRITE_AT, only the write to standard output with that number fails, counted
+   from 1.
+
+   When the program exits, the library reports on standard error how many requests it met and how many it refused. With
+   REFUSE_AT it also reports who made the refused request: the C library itself, or the program; and whether the next
+   request of the program was for as much or less. */
 #define _GNU_SOURCE
 #include <dlfcn.h>
 #include <errno.h>
@@ -19,7 +22,7 @@ extern void *__libc_realloc(void *, size_t);
 extern void *__libc_memalign(size_t, size_t);
 
 static size_t size, left = 1, at, met, refused;
-static size_t put_at, puts_made;
+static size_t write_at, writes_made;
 static size_t wanted, next_wanted;
 static int one;
 static const void *asker;
@@ -29,15 +32,15 @@ __attribute__((constructor)) static void begin(void)
     const char *text = getenv("REFUSE_AT");
     one = text != NULL;
     at = text ? strtoul(text, NULL, 10) : 0;
-    text = getenv("FAIL_PUT_AT");
-    put_at = text ? strtoul(text, NULL, 10) : 0;
+    text = getenv("FAIL_WRITE_AT");
+    write_at = text ? strtoul(text, NULL, 10) : 0;
     text = getenv("REFUSE_SIZE");
     size = text ? strtoul(text, NULL, 10) : 0;
     text = getenv("REFUSE_COUNT");
     left = text ? strtoul(text, NULL, 10) : 1;
 }
 
-/* The name of the file whose code stands at an address. */
+/* Returns the name of the file whose code is at an address. */
 static const char *file_of(const void *place)
 {
     Dl_info info;
@@ -64,7 +67,7 @@ static void *refuse(const void *place)
     return NULL;
 }
 
-/* Whether a request of `bytes` bytes is met. */
+/* Whether a request for `bytes` bytes is met. */
 static int may(size_t bytes)
 {
     if (one && refused && !next_wanted)
@@ -98,7 +101,7 @@ int posix_memalign(void **place, size_t step, size_t bytes)
 
 ssize_t write(int file, const void *bytes, size_t count)
 {
-    if (file == 1 && put_at && ++puts_made == put_at) {
+    if (file == 1 && write_at && ++writes_made == write_at) {
         errno = EIO;
         return -1;
     }

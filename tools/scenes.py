@@ -1,5 +1,5 @@
 #!/usr/bin/env python3
-"""Writes the scenes and the other programs' inputs that docs/PERFORMANCE.md measures into a folder: scenes.py FOLDER."""
+"""Writes the inputs that docs/PERFORMANCE.md measures into a folder: tools/scenes.py FOLDER"""
 import json
 import pathlib
 import random
@@ -15,7 +15,7 @@ def fill(symbol, area=(0, 0, 1000, 1000), **fields):
 
 
 def words(length):
-    """A text of about `length` bytes, of words of 1 to 9 letters."""
+    """Returns a text of about `length` bytes, with words of 1 to 9 letters."""
     source = random.Random(4711)
     text = []
     while length > 0:
@@ -26,13 +26,13 @@ def words(length):
 
 
 def compounds(length):
-    """A text of about `length` bytes, in the words of the text above, every third of them with a hyphen at its third letter."""
+    """Returns the text of `words`. In every third word, if it has more than 3 letters, the third letter is a hyphen."""
     each = words(length).split(" ")
     return " ".join(word[:2] + "-" + word[3:] if i % 3 == 0 and len(word) > 3 else word for i, word in enumerate(each))
 
 
 def short_lines(length):
-    """A text of about `length` bytes, in lines of five words of the text above."""
+    """Returns the text of `words` in lines of five words."""
     each = words(length).split(" ")
     return "\n".join(" ".join(each[i : i + 5]) for i in range(0, len(each), 5))
 
@@ -42,7 +42,7 @@ def paragraph(text, area, **fields):
 
 
 def styled():
-    """Every second cell of 1000 by 1000 has a style: columns of fills, and wide characters, whose second cells have none."""
+    """Every second cell of 1000 by 1000 has a style: columns of fills, and wide characters without style in their second cells."""
     red = {"fg": "red"}
     columns = [fill("x", (2 * i, 0, 1, 1000), style=red) for i in range(254)]
     wide = {"lines": ["\u30b3" * 246 for _ in range(1000)], "style": red}
@@ -64,7 +64,7 @@ def blocks():
 
 
 def items(count):
-    """Texts of about 50 bytes, every third as an object with a style."""
+    """Returns texts of about 50 bytes. Every third is an object with a style."""
     source = random.Random(4713)
     texts = ["".join(source.choice("abcdefghij ") for _ in range(source.randint(40, 60))) for _ in range(count)]
     return [{"text": text, "style": {"fg": "red"}} if i % 3 == 0 else text for i, text in enumerate(texts)]
@@ -123,7 +123,7 @@ def dashboard(x, y):
 
 
 def ignored():
-    """One blank cell, beside 1 MB of JSON that the schema passes over."""
+    """One blank cell, and 1 MB of JSON that the schema ignores."""
     source = random.Random(4717)
     name = lambda: "".join(source.choice("abcdefghij") for _ in range(source.randint(6, 12)))
     more = [{"id": i, "name": name(), "size": source.randint(0, 99_999), "tags": [name(), name()]} for i in range(12_000)]
@@ -131,7 +131,10 @@ def ignored():
 
 
 def wide_words(length):
-    """A text of about `length` bytes, of words of one to eight CJK characters, every fourth with accents by combining marks at its end."""
+    """Returns a text of about `length` bytes, with words of one to eight CJK characters.
+
+    Every fourth word ends with two letters that have combining marks.
+    """
     source = random.Random(4719)
     each = []
     while length > 0:
@@ -142,7 +145,7 @@ def wide_words(length):
 
 
 def words_of(letters, length):
-    """A text of about `length` bytes, of words of one to nine of these letters."""
+    """Returns a text of about `length` bytes, with words of one to nine of these letters."""
     source = random.Random(4720)
     each = []
     while length > 0:
@@ -152,20 +155,23 @@ def words_of(letters, length):
 
 
 def many_tabs():
-    """250 rows of a hundred tabs."""
+    """250 rows, each with a hundred tabs."""
     titles = [f"tab {i}" for i in range(100)]
     return scene(1000, 250, [{"widget": "tabs", "area": [0, y, 1000, 1], "titles": titles} for y in range(250)])
 
 
 def stripes():
-    """250 filled stripes of two columns, four apart, each with its own colours, bold."""
+    """250 bold stripes of two columns, one every four columns, each with its own colours."""
     colour = lambda i: f"#{(i * 7919) % 0x1000000:06x}"
     style = lambda i: {"fg": colour(i), "bg": colour(i + 250), "add": ["bold"]}
     return scene(1000, 1000, [fill("x", (4 * i, 0, 2, 1000), style=style(i)) for i in range(250)])
 
 
 def pager(width, height, entries, key):
-    """Entries, as many as the first of the pair, each with a title of four bytes and a body of as many bytes as the second, and 1,000 times one key."""
+    """The input of a pager with the same key 1,000 times.
+
+    `entries` is the number of entries and the length of each body in bytes. A title has four bytes.
+    """
     count, length = entries
     each = [{"title": f"e{i:03}", "body": words(length)[:length]} for i in range(count)]
     return {"width": width, "height": height, "entries": each, "keys": [key] * 1_000}
@@ -176,7 +182,7 @@ def pane_item(i):
 
 
 def grid(rows, changes):
-    """16 panes of 60 by 60 in each of the rows, and the changes, each of one pane."""
+    """16 panes of 60 by 60 in each row, and changes of one pane each."""
     row = lambda y: {"parts": [{"size": {"fill": 1}, "pane": {"item": pane_item(16 * y + x)}} for x in range(16)]}
     root = {"direction": "Vertical", "parts": [{"size": {"fill": 1}, "pane": row(y)} for y in range(rows)]}
     changed = [{"leaf": i % (16 * rows), "item": pane_item(i + 16 * rows)} for i in range(changes)]
@@ -184,7 +190,7 @@ def grid(rows, changes):
 
 
 def areas(rows, changes):
-    """The same widgets as a scene with areas, and for each change a Clear and the new widget."""
+    """The same widgets as items of a scene. Each change is a Clear and the new widget."""
     area = lambda i: [60 * (i % 16), 60 * (i // 16), 60, 60]
     each = [{**pane_item(i), "area": area(i)} for i in range(16 * rows)]
     for i in range(changes):
@@ -199,7 +205,7 @@ def report(width, height, sizes, records):
 
 
 def records(count):
-    """Records of three texts of 5 to 20, 10 to 80 and 5 to 30 letters, in words of 1 to 9."""
+    """Returns records of three texts, with 5 to 20, 10 to 80 and 5 to 30 letters, in words of 1 to 9 letters."""
     source = random.Random(4718)
 
     def text(length):
@@ -213,12 +219,12 @@ def records(count):
 
 
 def letters(count):
-    """`count` records of one word of 4,096 letters, a line for each letter."""
+    """`count` records with one word of 4,096 letters, each letter in a line of its own."""
     return report(3, 4, [1], [["abcdefghijklmnop" * 256] for _ in range(count)])
 
 
 def newlines(count):
-    """`count` records of 4,096 lines of one letter."""
+    """`count` records with 4,096 lines of one letter."""
     return report(3, 4, [1], [["a\n" * 4096] for _ in range(count)])
 
 

@@ -1,15 +1,18 @@
-"""The screen that a session shows last: the last full draw of what it wrote, read by the commands of docs/TERMINAL.md, as `tui_pager` prints one."""
+"""The last screen of a session, in the form in which `tui_pager` writes a screen.
+
+It is the last full draw in the output of the session, read by the commands of docs/TERMINAL.md.
+"""
 import re
 
 from drawn import step
 from graphemes import graphemes
 
 COMMAND = re.compile(rb"\x1b\[(\d+);(\d+)H|\x1b\[(\d+)G|\x1b\[([\d;]*)m|\x1b\[[?\d]*[hlr]|\x1b\(B|[\x0f\x18]|\x1b\\")
-TAME = b"\x18\x1b\\"
+RESET = b"\x18\x1b\\"
 
 
 def pieces(data):
-    """The commands of bytes and the symbols between them, in order."""
+    """Yields the commands in some bytes, and the symbols between them, in order."""
     at = 0
     while at < len(data):
         found = COMMAND.match(data, at)
@@ -23,12 +26,12 @@ def pieces(data):
 
 
 def last_screen(written, width, height):
-    """The rows, and the columns in them that are reversed, as lines of a print, of the last full draw on a screen of this size."""
+    """Returns the last full draw on a screen of this size, as lines of an output: the rows, and the runs of reversed cells."""
     rows = [[" "] * width for _ in range(height)]
     marks = [[False] * width for _ in range(height)]
     column = row = 0
     reverse = False
-    for piece in pieces(written[written.rindex(TAME) :]):
+    for piece in pieces(written[written.rindex(RESET) :]):
         if isinstance(piece, str):
             for place, part in enumerate([piece, *[""] * (step(piece) - 1)]):
                 rows[row][column + place], marks[row][column + place] = part, reverse
@@ -44,7 +47,7 @@ def last_screen(written, width, height):
 
 
 def runs(marks):
-    """The runs of reversed cells, as a print has them where nothing else is set."""
+    """Yields the style runs of reversed cells that have no other style."""
     for row, cells in enumerate(marks):
         for found in re.finditer("x+", "".join("x" if mark else " " for mark in cells)):
             yield f"s {row} {found.start()} {len(found[0])} reset reset 64"

@@ -18,41 +18,41 @@ def number(text):
 
 
 class Leaf(Number):
-    """The number of a leaf; how many there are is said by the value."""
+    """The number of a leaf. The input decides how many leaves there are."""
 
-    def words(self):
+    def describe(self):
         return f"the number of a leaf, from 0 to {self.high}"
 
 
 class Tables:
-    """The kinds by their names, of both pages. `scene`, `pages`, `pager`, `panes` and `form` are the inputs."""
+    """The kinds of both pages, by name. `scene`, `pages`, `pager`, `panes` and `form` are the inputs of programs."""
 
     def __init__(self):
         self.kinds, self.widgets, self.raw_widgets, self.raw_kinds = {}, {}, {}, {}
-        self.kinds["text"] = Text()
+        self.kinds["text"] = self.kinds["string"] = Text()
         self.read_scene()
         self.read_programs()
 
-    # A cell's words.
+    # The text of a cell of a table.
 
     def named(self, word):
-        """The kind that a word names, in the singular or the plural."""
+        """Returns the kind with a name, which may be in the plural."""
         for name in (word, re.sub("ies$", "y", word), re.sub("s$", "", word)):
             if name in self.kinds or name in self.raw_kinds:
                 return Named(name, self.kinds)
         raise ValueError(f"no kind {word}")
 
     def sequence(self, phrase):
-        """`[..]` with what stands behind it."""
+        """Returns the kind for `[..]` and the text after it."""
         labels = re.match(r"`\[(.*?)\]`,? ?(.*)", phrase)
-        names, said = labels[1].split(", "), labels[2]
-        if "day of the calendar" in said:
+        names, rest = labels[1].split(", "), labels[2]
+        if "day of the calendar" in rest:
             return Date(names, [Number(-9999, 9999), Number(1, 12), Number(1, 31)])
-        element = self.simple(said.replace(", at most 1", ""))
-        return Tuple(names, [element] * len(names), "at most 1" in said)
+        element = self.simple(rest.replace(", at most 1", ""))
+        return Tuple(names, [element] * len(names), "at most 1" in rest)
 
     def simple(self, phrase):
-        """A kind without alternatives, or None."""
+        """Returns a kind without alternatives, or None."""
         found = re.search(r"numbers? from (\d+) to ([\d,]+)", phrase)
         if found:
             return Number(number(found[1]), number(found[2]))
@@ -69,7 +69,7 @@ class Tables:
     def array(self, phrase):
         found = re.match(r"an array of (?:at most ([\d,]+) |(\d+) to (\d+) )?(`.*|\w+)(?:, each (.*)|, percentages at most (\d+))?", phrase)
         least, most = (int(found[2]), int(found[3])) if found[2] else (0, number(found[1]) if found[1] else None)
-        word = found[4]
+        word = "strings" if found[4] == "texts" else found[4]
         if word.startswith("`"):
             names = re.findall(r"`(\w+)`", phrase)
             return Array(Names(names), least, most, listed(names))
@@ -81,7 +81,7 @@ class Tables:
         return Width(U16, self.raw_kinds["Width"], most)
 
     def kind(self, phrase):
-        """The kind that a field's words say, without what stands behind a semicolon."""
+        """Returns the kind that the text of a field describes. Text after a semicolon is ignored."""
         phrase = phrase.split(";")[0].strip()
         if phrase.startswith("an array of"):
             return self.array(phrase)
@@ -92,6 +92,8 @@ class Tables:
         if "the boolean" in phrase:
             inside = re.findall(r"the boolean `(\w+)`(, which is required)?", phrase)
             return Object({name: (bool(required), Flag(), None) for name, required in inside})
+        if re.match(r"a (text|string) or a boolean\b", phrase):
+            return Choice([Text(), Flag()])
         if "a boolean" in phrase:
             return Flag()
         if phrase.startswith("the name of a key"):
@@ -101,8 +103,6 @@ class Tables:
         found = re.match(r"(?:a )?text of at most ([\d,]+) bytes", phrase)
         if found:
             return Text(number(found[1]))
-        if phrase == "a text or a boolean":
-            return Choice([Text(), Flag()])
         if re.match(r"a (text|string)\b", phrase):
             return Text()
         if "Width of docs/SCENE.md" in phrase:
@@ -112,7 +112,7 @@ class Tables:
         return self.simple(phrase) or self.named(re.match(r"(?:an? )?(\w+)", phrase)[1])
 
     def alternatives(self, name, phrase, fields):
-        """The kind of a row of the table of kinds."""
+        """Returns the kind that a row of the table of kinds describes."""
         keyed = re.search(r"has the key `(\w+)`; any other value is a (\w+)", phrase)
         article = with_article(name)
         having = Object(fields)
@@ -146,22 +146,22 @@ class Tables:
 
     # docs/SCENE.md.
 
-    def said_fields(self, text):
-        """The fields of a table's cell with their words: name -> (required, words)."""
-        fields, said = {}, ""
-        for name, star, words in FIELD.findall(text):
-            if words.startswith("as of a "):
-                words = self.raw_widgets[words[len("as of a "):].replace(" ", "_")][name][1]
+    def described_fields(self, text):
+        """Returns the fields in a cell of a table: name -> (required, description)."""
+        fields, phrase = {}, ""
+        for name, star, description in FIELD.findall(text):
+            if description.startswith("as of a "):
+                description = self.raw_widgets[description[len("as of a "):].replace(" ", "_")][name][1]
             default = {"block": "Block", "alignment": "alignment"}.get(name, "Style")
-            said = said if words == "likewise" else words or default
-            fields[name] = (star == "*", said)
+            phrase = phrase if description == "likewise" else description or default
+            fields[name] = (star == "*", phrase)
         return fields
 
     def made(self, fields):
         out = {}
-        for name, (required, said) in fields.items():
-            only = re.search(r"required with the (\w+) `(\w+)`, and read with no other", said)
-            out[name] = (required, self.kind(said), only and (only[1], only[2]))
+        for name, (required, phrase) in fields.items():
+            only = re.search(r"required with the (\w+) `(\w+)`, and read with no other", phrase)
+            out[name] = (required, self.kind(phrase), only and (only[1], only[2]))
         return out
 
     def read_scene(self):
@@ -171,10 +171,10 @@ class Tables:
             row = [cell.strip() for cell in line.strip("|").split("|")] if line.startswith("| ") else []
             if len(row) == 2 and row[0] != "widget":
                 name = re.match(r"\[`(\w+)`\]", row[0])
-                self.raw_widgets[name[1] if name else row[0]] = self.said_fields(row[1])
+                self.raw_widgets[name[1] if name else row[0]] = self.described_fields(row[1])
             elif len(row) == 3 and row[0] != "kind":
                 phrases[row[0]] = row[1]
-                self.raw_kinds[row[0]] = self.said_fields(row[2])
+                self.raw_kinds[row[0]] = self.described_fields(row[2])
         self.scene_kinds = list(phrases)
         self.raw_kinds["item"] = {}
         for name, phrase in phrases.items():
@@ -199,15 +199,18 @@ class Tables:
                 self.read_program(name[1], part)
 
     def read_program(self, name, part):
-        """The fields of an input and of what is inside of it: rows of three cells, the first of which is `field` or `field` of a kind."""
+        """Reads the fields of an input and of the objects in it.
+
+        A row has three cells. The first is `field`, or `field` of a kind.
+        """
         rows = re.findall(r"^\| `(\w+)`(?: of an? (\w+))? \| (.*?) \| (yes|no)[^|]* \|$", part, re.M)
         owners = dict.fromkeys(owner for _, owner, _, _ in rows)
         self.raw_kinds.update({owner: {} for owner in owners if owner} | {"pane": {}, "key": {}})
         fields = {owner: {} for owner in owners}
-        for field, owner, said, needed in rows:
-            if "name of a key" in said:
+        for field, owner, phrase, needed in rows:
+            if "name of a key" in phrase:
                 self.read_keys(part, fields[""])
-            fields[owner][field] = (needed == "yes", self.kind(said), None)
+            fields[owner][field] = (needed == "yes", self.kind(phrase), None)
         self.inputs[name] = [(field, kind) for inside in fields.values() for field, (_, kind, _) in inside.items()]
         for owner, inside in fields.items():
             self.kinds[owner or name] = Object(inside, with_article(owner) if owner else "")

@@ -1,19 +1,22 @@
-"""A terminal that does what the model of docs/TERMINAL.md says, and draws lots wherever the model says that something is not known."""
+"""A terminal that does what the model of docs/TERMINAL.md says, and chooses at random what the model leaves unknown."""
 import random
 import re
 
-from page import MENDING, REST, is_trusted
+from page import MENDING, REST, has_known_width
 
-TAME = b"\x18\x1b\\\x1b[?2026l\x1b[?69l\x1b[?6l\x1b[4l\x1b[r\x1b(B\x0f\x1b[?7l"
-MODES = {b"7": "autowrap", b"25": "visible", b"2026": "held", b"2004": "bracketed"}
+RESET = b"\x18\x1b\\\x1b[?2026l\x1b[?69l\x1b[?6l\x1b[4l\x1b[r\x1b(B\x0f\x1b[?7l"
+MODES = {b"7": "autowrap", b"25": "visible", b"2026": "synchronized", b"2004": "bracketed"}
 NUMBER = rb"(?:0|[1-9]\d*)"
 COMMAND = re.compile(
-    rb"(?P<tame>%b)|\x1b\[(?P<row>%b);(?P<column>%b)H|\x1b\[(?P<across>%b)G|\x1b\[0(?P<paint>(?:;%b)*)m|\x1b\[(?P<add>[1-9]\d*(?:;%b)*)m"
-    rb"|\x1b\[\?(?P<mode>7|25|2026|2004)(?P<on>[hl])|(?P<text>[^\x00-\x1f\x7f]+)" % (re.escape(TAME), *[NUMBER] * 5))
+    rb"(?P<reset>%b)|\x1b\[(?P<row>%b);(?P<column>%b)H|\x1b\[(?P<across>%b)G|\x1b\[0(?P<paint>(?:;%b)*)m|\x1b\[(?P<add>[1-9]\d*(?:;%b)*)m"
+    rb"|\x1b\[\?(?P<mode>7|25|2026|2004)(?P<on>[hl])|(?P<text>[^\x00-\x1f\x7f]+)" % (re.escape(RESET), *[NUMBER] * 5))
 
 
 def color_of(first, numbers, base):
-    """The colour that a parameter sets with those behind it that belong to it, which are taken away: 30 and on in front, 40 and on behind."""
+    """Returns the colour that a parameter sets, with those after it that belong to it. These are removed from `numbers`.
+
+    `base` is 30 for the foreground and 40 for the background.
+    """
     if first == base + 9:
         return REST
     if first == base + 8:
@@ -29,25 +32,25 @@ def color_of(first, numbers, base):
 
 
 def set_by(pen, numbers):
-    """A pen after some parameters, or None if one of them is not in the table of commands."""
+    """Returns a pen after some parameters, or None if one of them is not in the table of commands."""
     front, back, marks = pen
     numbers = list(numbers)
     while numbers:
         first = numbers.pop(0)
-        ahead, behind = color_of(first, numbers, 30), color_of(first, numbers, 40)
+        foreground, background = color_of(first, numbers, 30), color_of(first, numbers, 40)
         if 1 <= first <= 9:
             marks |= 1 << (first - 1)
-        elif ahead:
-            front = ahead
-        elif behind:
-            back = behind
+        elif foreground:
+            front = foreground
+        elif background:
+            back = background
         else:
             return None
     return front, back, marks
 
 
 def is_text(data):
-    """Whether bytes are UTF-8 without a C1 character."""
+    """Whether bytes are UTF-8 without C1 characters."""
     try:
         return not any("\x80" <= c <= "\x9f" for c in data.decode())
     except UnicodeDecodeError:
@@ -59,19 +62,19 @@ class Adversary:
 
     def __init__(self, symbols):
         self.symbols = symbols
-        self.faults = []
+        self.errors = []
 
-    def begin(self, size, junk, trust, seed):
-        """Anything may show, and something was cut short."""
-        self.lots, self.trust, self.knowing = random.Random(f"lots {seed}"), trust, {}
-        self.skill = self.lots.choice([0, 0.5, 0.5, 1])
+    def begin(self, size, junk, known_widths, seed):
+        """Begins with any screen, and with a command that was cut short."""
+        self.random, self.known_widths, self.knowing = random.Random(f"lots {seed}"), known_widths, {}
+        self.skill = self.random.choice([0, 0.5, 0.5, 1])
         self.resize(size)
 
     def resize(self, size):
         self.columns, self.height = size
         self.cells = [[self.unknown() for _ in range(self.columns)] for _ in range(self.height)]
-        self.dark()
-        self.whole = self.lots.random() < 0.5
+        self.forget_all()
+        self.whole = self.random.random() < 0.5
 
     def end(self):
         pass
@@ -79,67 +82,70 @@ class Adversary:
     def close(self):
         pass
 
-    def fault(self, *said):
-        self.faults.append(" ".join(map(str, said)))
+    def error(self, *parts):
+        self.errors.append(" ".join(map(str, parts)))
 
     def knows(self, symbol):
         if symbol not in self.knowing:
-            self.knowing[symbol] = self.lots.random() < self.skill
-        return is_trusted(self.trust, symbol) or self.knowing[symbol]
+            self.knowing[symbol] = self.random.random() < self.skill
+        return has_known_width(self.known_widths, symbol) or self.knowing[symbol]
 
-    # ---- what is not known
+    # ---- unknown cells
 
     def unknown(self):
-        return ("?", self.lots.random())
+        return ("?", self.random.random())
 
-    def spoil(self, row, part):
-        self.cells[row] = [self.unknown() if self.lots.random() < part else cell for cell in self.cells[row]]
+    def forget_row(self, row, part):
+        self.cells[row] = [self.unknown() if self.random.random() < part else cell for cell in self.cells[row]]
 
-    def lost(self):
-        self.cursor, part = None, self.lots.choice([0.3, 0.7, 1])
+    def forget_cells(self):
+        self.cursor, part = None, self.random.choice([0.3, 0.7, 1])
         for row in range(self.height):
-            self.spoil(row, part)
+            self.forget_row(row, part)
 
-    def dark(self):
-        self.lost()
-        self.pen, self.tamed, self.whole = None, False, False
-        self.modes = {name: self.lots.random() < 0.5 for name in MODES.values()}
+    def forget_all(self):
+        self.forget_cells()
+        self.pen, self.modes_reset, self.whole = None, False, False
+        self.modes = {name: self.random.random() < 0.5 for name in MODES.values()}
 
     def strange(self, symbol):
-        """A symbol that this terminal does not know: of any width, joined to what stands left of it or not, or all the row is spoilt."""
-        (column, row), kind = self.cursor, self.lots.randrange(4)
-        for place in range(column, column + self.lots.randint(0, self.symbols.reach(symbol))):
+        """Prints a symbol that this terminal does not know.
+
+    It takes any width up to its reach, and may join the cell at its left, shift its row, or make the row unknown.
+    """
+        (column, row), kind = self.cursor, self.random.randrange(4)
+        for place in range(column, column + self.random.randint(0, self.symbols.reach(symbol))):
             self.cells[row][place] = self.unknown()
         if kind == 0 and column:
             self.cells[row][column - 1] = self.unknown()
         elif kind == 1:
-            self.spoil(row, self.lots.choice([0.5, 1]))
+            self.forget_row(row, self.random.choice([0.5, 1]))
         elif kind == 2:
-            shift = self.lots.choice([-1, 1])
+            shift = self.random.choice([-1, 1])
             self.cells[row] = [self.cells[row][(place - shift) % self.columns] for place in range(self.columns)]
         self.cursor = None
 
     # ---- commands
 
     def cut(self, row, start, end):
-        """Of a symbol that loses some of its columns, the others are kept, blanked or spoilt."""
+        """If a symbol loses some of its columns, the others are kept, become blank or become unknown."""
         for place, cell in enumerate(self.cells[row]):
             if cell[0] != "?":
                 begins = place - cell[2]
                 if begins < end and start < begins + self.symbols.step(cell[0]):
-                    self.cells[row][place] = self.lots.choice([cell, (" ", self.pen, 0), self.unknown()])
+                    self.cells[row][place] = self.random.choice([cell, (" ", self.pen, 0), self.unknown()])
 
     def print_symbol(self, symbol):
         if symbol not in self.symbols.widths:
-            return self.fault("prints", repr(symbol), "which is no cell")
-        if self.cursor is None or self.pen is None or not self.tamed:
-            self.fault("prints", repr(symbol), "where cursor or pen is not known")
-            return self.lost()
+            return self.error("prints", repr(symbol), "which is not a cell")
+        if self.cursor is None or self.pen is None or not self.modes_reset:
+            self.error("prints", repr(symbol), "while the cursor or the pen is unknown")
+            return self.forget_cells()
         (column, row), step = self.cursor, self.symbols.step(symbol)
         if self.mending:
             self.mending = False
             if symbol != MENDING:
-                self.fault("mends a character that was cut by", repr(symbol))
+                self.error("uses", repr(symbol), "to mend a character that was cut")
         else:
             self.printed.append((row, column, symbol))
         if self.knows(symbol) and column + step <= self.columns:
@@ -150,40 +156,40 @@ class Adversary:
         elif column + self.symbols.reach(symbol) <= self.columns:
             self.strange(symbol)
         else:
-            self.fault("prints", repr(symbol), "where its reach does not fit")
-            self.lost()
+            self.error("prints", repr(symbol), "where its reach does not fit")
+            self.forget_cells()
 
     def print_text(self, text):
-        trusted = [is_trusted(self.trust, c) for c in text]
-        for symbol in text if all(trusted) else [text]:
+        all_known = [has_known_width(self.known_widths, c) for c in text]
+        for symbol in text if all(all_known) else [text]:
             self.print_symbol(symbol)
 
-    def settings(self, pen, words):
-        numbers = [int(n) for n in words.split(b";") if n]
-        if words.count(b";") + 1 > 16:
-            self.fault("a sequence has more than 16 parameters:", words)
+    def settings(self, pen, parameters):
+        numbers = [int(n) for n in parameters.split(b";") if n]
+        if parameters.count(b";") + 1 > 16:
+            self.error("a sequence has more than 16 parameters:", parameters)
         found = set_by(pen, numbers)
         if found is None:
-            self.fault("a parameter is not in the table:", words)
+            self.error("a parameter is not in the table:", parameters)
         return found
 
     def obey(self, match):
         kind = match.lastgroup
-        if not self.whole and kind != "tame":
-            self.dark()
-        elif kind == "tame":
+        if not self.whole and kind != "reset":
+            self.forget_all()
+        elif kind == "reset":
             if not self.whole:
-                self.dark()
-            self.cursor, self.pen, self.tamed, self.whole = None, None, True, True
-            self.mending = is_trusted(self.trust, MENDING)
-            self.modes.update(autowrap=False, held=False)
+                self.forget_all()
+            self.cursor, self.pen, self.modes_reset, self.whole = None, None, True, True
+            self.mending = has_known_width(self.known_widths, MENDING)
+            self.modes.update(autowrap=False, synchronized=False)
         elif kind == "column":
             column, row = int(match["column"]) - 1, int(match["row"]) - 1
-            fits = self.tamed and 0 <= column < self.columns and 0 <= row < self.height
+            fits = self.modes_reset and 0 <= column < self.columns and 0 <= row < self.height
             self.cursor = (column, row) if fits else None
         elif kind == "across":
             column = int(match["across"]) - 1
-            fits = self.tamed and self.cursor and 0 <= column < self.columns
+            fits = self.modes_reset and self.cursor and 0 <= column < self.columns
             self.cursor = (column, self.cursor[1]) if fits else None
         elif kind == "paint":
             self.pen = self.settings((REST, REST, 0), match["paint"])
@@ -195,7 +201,7 @@ class Adversary:
             self.print_text(match["text"].decode())
 
     def feed(self, data, is_cut):
-        self.printed, self.size_fed, self.mending, at, match = [], len(data), False, 0, None
+        self.printed, self.size_sent, self.mending, at, match = [], len(data), False, 0, None
         while at < len(data):
             match = COMMAND.match(data, at)
             if match is None or match["text"] and not is_text(match["text"]):
@@ -203,18 +209,18 @@ class Adversary:
             self.obey(match)
             at = match.end()
         if is_cut:
-            self.whole = self.whole and at == len(data) and not (match and match["text"]) and self.lots.random() < 0.5
-            self.faults.clear()
+            self.whole = self.whole and at == len(data) and not (match and match["text"]) and self.random.random() < 0.5
+            self.errors.clear()
         elif at < len(data):
-            self.fault("is sent bytes that are no command:", data[at : at + 30])
+            self.error("gets bytes that are not a command:", data[at : at + 30])
 
     # ---- judging
 
-    def standing(self):
-        """What stands before a frame."""
+    def state(self):
+        """Returns the cells, and whether no command is cut short, for the time before a frame."""
         return {"cells": [list(row) for row in self.cells], "whole": self.whole}
 
-    def wanted(self, symbol, pen):
+    def expected(self, symbol, pen):
         return symbol, pen
 
     def shown(self, column, row, step):

@@ -1,4 +1,4 @@
-"""Random frames for terminals, and the bytes that the writer makes of them."""
+"""Random frames for terminals, and the bytes that the writer sends for them."""
 import random
 import subprocess
 import sys
@@ -10,12 +10,12 @@ NARROW = list("ab~Z é─█│Жñλ")
 WIDE = list("世界水가コ、")
 EDGES = [chr(end) for bounds in COMMON for end in bounds]
 BESIDE = [chr(end) for first, last in COMMON for end in (first - 1, last + 1)]
-RISKY = ["❤\ufe0f", "👩\u200d👩\u200d👧", "🇩🇪", "e\u0301", "\U0001fae9", "👍🏽", "☎", "▶", "\u3248", "\u4dc0", "🏽", "🇩", "\u1100\u1161",
+UNCERTAIN = ["❤\ufe0f", "👩\u200d👩\u200d👧", "🇩🇪", "e\u0301", "\U0001fae9", "👍🏽", "☎", "▶", "\u3248", "\u4dc0", "🏽", "🇩", "\u1100\u1161",
          "©", "ﾊﾞ", "क्षि", "\u05d0", "a\u0301\u0327"]
 BAD = ["\x1b[31m", "a\x07", "\u0301", "\u200b", "\x1b]0;t\x07", "\u009b31m", "\x7f", "", "a\u200d", "│\u200d", "世\u200d", "b\u0600", "\u1100",
        "가\u1100", "\x85", "\n", "\t", "\x9d0;t\x9c", "\u0600"]
 PAIRS = [["a\u200d", "│"], ["│\u200d", "│"], ["\u1100", "가"], ["🏽", "👍"], ["🇩", "🇪"], ["a\u200d", "👧"], ["\u0600", "1"]]
-LATE = [["\u3248", "\u3248"], ["\u4dc0", "\u4dc0"], ["a", "\u3248"], ["a", "\u4dc0"], ["a", "世"], ["a", "e\u0301"], ["👍🏽", "│"], ["世", "│"]]
+LAST_COLUMNS = [["\u3248", "\u3248"], ["\u4dc0", "\u4dc0"], ["a", "\u3248"], ["a", "\u4dc0"], ["a", "世"], ["a", "e\u0301"], ["👍🏽", "│"], ["世", "│"]]
 JUNK = [b"x", "世".encode(), b"\x1b[2;3r", b"\x1b[?6h", b"\x1b[4h", b"\x1b[31;7m", b"\r\n", b"\x1b(0", b"\x0e", b"\x1b[?69h\x1b[2;5s", b"\x1b[?25l",
         b"\x1b[3;3H", b"\x1b[?7h", b"\x1b[2J"]
 JUNK_ENDS = [b"", b"", b"\x1b[1;", b"\x1b]0;ti", b"\x1b", "世".encode()[:2], "👍".encode()[:3], b"\x1b[38;2;1"]
@@ -23,20 +23,20 @@ JUNK_ENDS = [b"", b"", b"\x1b[1;", b"\x1b]0;ti", b"\x1b", "世".encode()[:2], "�
 
 class Output(typing.NamedTuple):
     depth: int
-    trust: int
-    hold: int
-    # "keep", "hidden" or a column and a row
+    known_widths: int
+    synchronized: int
+    # "keep", "hidden", or a column and a row.
     cursor: object
 
 
 class Frame(typing.NamedTuple):
     is_full: bool
-    # columns and rows of the terminal; column, row, width and height of the area
+    # The columns and rows of the terminal; the column, row, width and height of the area.
     size: tuple
     area: tuple
     rows: list
     output: Output
-    # the part of its bytes that is sent, if not all are
+    # The share of its bytes that is sent, or None for all.
     cut: typing.Optional[float] = None
 
 
@@ -64,7 +64,7 @@ def pen(source):
 def symbol(source, risk):
     kind = source.random()
     if kind < risk:
-        return source.choice(source.choice([RISKY, RISKY, BAD, BESIDE]))
+        return source.choice(source.choice([UNCERTAIN, UNCERTAIN, BAD, BESIDE]))
     return source.choice(source.choice([NARROW, NARROW, WIDE, EDGES, [" "]]))
 
 
@@ -75,28 +75,28 @@ def place_run(source, row, column, symbols):
 
 
 def drawn(source, width, height, risk):
-    """The rows of a new buffer."""
+    """Returns the rows of a new buffer."""
     rows = [[BLANK if source.random() < 0.2 else (symbol(source, risk), *pen(source)) for _ in range(width)] for _ in range(height)]
     for row in rows if risk else []:
         kind = source.random()
         if kind < 0.2:
             place_run(source, row, 0, source.choice(PAIRS))
         elif kind < 0.4:
-            place_run(source, row, width - 2, source.choice(LATE))
+            place_run(source, row, width - 2, source.choice(LAST_COLUMNS))
         elif kind < 0.6:
             place_run(source, row, source.randrange(width), source.choice(PAIRS))
     return rows
 
 
 def changed(source, rows, risk):
-    """The rows after some changes: of a few cells mostly, of none, or of many."""
+    """Returns the rows after some changes, mostly of a few cells, sometimes of none or of many."""
     rows = [list(row) for row in rows]
     for _ in range(source.choice([0, 1, 1, 2, 4, 6, 30])):
         row = source.choice(rows)
         row[source.randrange(len(row))] = (symbol(source, risk), *pen(source))
     if source.random() < 0.2:
         row = source.choice(rows)
-        place_run(source, row, source.choice([0, len(row) - 2]), source.choice(PAIRS + LATE))
+        place_run(source, row, source.choice([0, len(row) - 2]), source.choice(PAIRS + LAST_COLUMNS))
     return rows
 
 
@@ -106,14 +106,18 @@ def cursor(source, area):
 
 
 def scene(seed):
-    """Junk, and frames: a full draw, changes, one that is cut and a full draw behind it, another size with a full draw, and changes."""
+    """Returns junk and frames.
+
+    The frames are a full draw, changes, a frame that is cut, a full draw, then in another size a full draw
+    and changes.
+    """
     source = random.Random(seed)
-    risk, depth, trust = source.choice([0, 0.1, 0.15, 0.4]), source.choice([0, 1, 2, 3, 3, 3]), source.choice([0, 1, 1, 1, 1])
+    risk, depth, known_widths = source.choice([0, 0.1, 0.15, 0.4]), source.choice([0, 1, 2, 3, 3, 3]), source.choice([0, 1, 1, 1, 1])
     junk = b"".join(source.choice(JUNK) for _ in range(12)) + source.choice(JUNK_ENDS)
     frames = []
 
     def add(is_full, rows, size, area, cut=None):
-        output = Output(depth, trust, source.randrange(2), cursor(source, area))
+        output = Output(depth, known_widths, source.randrange(2), cursor(source, area))
         frames.append(Frame(is_full, size, area, rows, output, cut))
 
     for whole in range(2):
@@ -136,46 +140,46 @@ def scene(seed):
 
 
 class Program(typing.NamedTuple):
-    """The words that run tools/terminal/frames.rt.txt, and where."""
-    words: list
+    """The command that runs tools/terminal/frames.rt.txt, and the folder to run it in."""
+    command: list
     folder: object
 
 
-def color_words(color):
+def color_text(color):
     return " ".join(map(str, color))
 
 
 def frame_lines(frame):
-    """The lines by which tools/terminal/frames.rt.txt makes the buffer and writes it."""
+    """Yields the lines with which tools/terminal/frames.rt.txt makes the buffer of a frame and writes it."""
     x, y, width, height = frame.area
     yield f"frame {x} {y} {width} {height}"
     for row, cells in enumerate(frame.rows):
         for column, (text, front, back, marks) in enumerate(cells):
             codes = " ".join(str(ord(c)) for c in text)
-            yield f"cell {x + column} {y + row} {color_words(front)} {color_words(back)} {marks} {codes}"
+            yield f"cell {x + column} {y + row} {color_text(front)} {color_text(back)} {marks} {codes}"
     at = frame.output.cursor
-    words = at if isinstance(at, str) else f"at {at[0]} {at[1]}"
-    yield f"{'full' if frame.is_full else 'changes'} {frame.output.depth} {frame.output.trust} {frame.output.hold} {words}"
+    cursor_text = at if isinstance(at, str) else f"at {at[0]} {at[1]}"
+    yield f"{'full' if frame.is_full else 'changes'} {frame.output.depth} {frame.output.known_widths} {frame.output.synchronized} {cursor_text}"
 
 
-def asked(program, lines):
-    """What the program writes for each of some lines that it answers."""
-    done = subprocess.run(program.words, cwd=program.folder, input="\n".join(lines).encode() + b"\n", capture_output=True)
+def answers(program, lines):
+    """Returns what the program writes for each line that it answers."""
+    done = subprocess.run(program.command, cwd=program.folder, input="\n".join(lines).encode() + b"\n", capture_output=True)
     if done.returncode:
-        sys.exit(f"terminals: {program.words} ends with status {done.returncode}: {done.stderr.decode()[-2000:]}")
+        sys.exit(f"terminals: {program.command} ends with status {done.returncode}: {done.stderr.decode()[-2000:]}")
     return done.stdout.split(b"\xff")[:-1]
 
 
 def written(program, frames):
-    """The bytes of each frame."""
-    texts = asked(program, [line for frame in frames for line in frame_lines(frame)])
-    assert len(texts) == len(frames), "not one text a frame"
+    """Returns the bytes of each frame."""
+    texts = answers(program, [line for frame in frames for line in frame_lines(frame)])
+    assert len(texts) == len(frames), "the number of texts is not that of frames"
     return texts
 
 
 def symbols_by(program):
-    """Symbols, with the program's widths of all texts that frames hold."""
-    texts = sorted({*NARROW, *WIDE, *EDGES, *BESIDE, *RISKY, *BAD, " ", MENDING, *(text for pair in PAIRS + LATE for text in pair)})
+    """Returns Symbols with the widths that the program gives to all texts of frames."""
+    texts = sorted({*NARROW, *WIDE, *EDGES, *BESIDE, *UNCERTAIN, *BAD, " ", MENDING, *(text for pair in PAIRS + LAST_COLUMNS for text in pair)})
     texts += sorted({c for text in texts for c in text} - set(texts))
-    found = asked(program, [f"width {' '.join(str(ord(c)) for c in text)}" for text in texts])
+    found = answers(program, [f"width {' '.join(str(ord(c)) for c in text)}" for text in texts])
     return Symbols(dict(zip(texts, map(int, found))))

@@ -1,5 +1,9 @@
-"""Real terminals that are fed bytes and asked what they show: pyte, libvterm and tmux. Each is made by a function that answers None where
-its package is missing. A judge tells the symbol of a cell and how it looks, and what it should look like by a pen, in its own terms."""
+"""Real terminals that get bytes and report what they show: pyte, libvterm and tmux.
+
+Each has a function that makes it, or returns None if its package is missing. A judge has two methods for a
+cell: `shown` returns its symbol and its style, and `expected` what they should be for a pen, in the terms of
+this terminal.
+"""
 import ctypes
 import ctypes.util
 import os
@@ -19,7 +23,7 @@ BOLD, DIM, ITALIC, UNDERLINED, SLOW, RAPID, REVERSED, HIDDEN, CROSSED = (1 << bi
 
 
 def masked(marks, shown, slow_for_rapid=False):
-    """The marks that a terminal shows, of which it may take rapid blink for slow blink."""
+    """Returns the modifiers that a terminal shows. It may show rapid blink as slow blink."""
     if slow_for_rapid and marks & (SLOW | RAPID):
         marks = marks & ~RAPID | SLOW
     return marks & shown
@@ -35,7 +39,7 @@ class Pyte:
     def __init__(self, pyte):
         self.pyte = pyte
 
-    def begin(self, size, junk, trust, seed):
+    def begin(self, size, junk, known_widths, seed):
         self.screen = self.pyte.Screen(*size)
         self.stream = self.pyte.ByteStream(self.screen)
         self.stream.feed(junk)
@@ -53,13 +57,13 @@ class Pyte:
         pass
 
     def color(self, color):
-        """The name that pyte has: bright colours have those of the others, and the palette is by red, green and blue."""
+        """Returns the name in pyte. Bright colours have the names of the others, and the palette has red, green and blue."""
         if color[0] == "name":
             return self.NAMES[color[1] - 8 if color[1] > 8 else color[1]]
         return self.pyte.graphics.FG_BG_256[color[1]] if color[0] == "index" else "%02x%02x%02x" % color[1:]
 
-    def wanted(self, symbol, pen):
-        """A bright colour is a bold one here."""
+    def expected(self, symbol, pen):
+        """Returns what to expect. A bright colour is bold in pyte."""
         front, back, marks = pen
         bright = any(kind == "name" and value[0] > 8 for kind, *value in (front, back))
         marks |= BOLD if bright else 0
@@ -73,7 +77,7 @@ class Pyte:
 
 
 def pyte():
-    """Debian's python3-pyte stands where another Python does not look."""
+    """Returns pyte. Debian's python3-pyte is where another Python does not look."""
     sys.path.append("/usr/lib/python3/dist-packages")
     try:
         import pyte as found
@@ -105,7 +109,7 @@ class Vterm:
         for name in ("vterm_new", "vterm_obtain_screen", "vterm_obtain_state"):
             getattr(library, name).restype = ctypes.c_void_p
 
-    def begin(self, size, junk, trust, seed):
+    def begin(self, size, junk, known_widths, seed):
         self.terminal = ctypes.c_void_p(self.library.vterm_new(size[1], size[0]))
         self.library.vterm_set_utf8(self.terminal, 1)
         self.screen = ctypes.c_void_p(self.library.vterm_obtain_screen(self.terminal))
@@ -128,11 +132,11 @@ class Vterm:
         kind, *value = color
         return ("index", value[0] - 1) if kind == "name" and color != REST else color
 
-    def wanted(self, symbol, pen):
+    def expected(self, symbol, pen):
         front, back, marks = pen
         return symbol, self.color(front), self.color(back), masked(marks, BOLD | UNDERLINED | ITALIC | SLOW | REVERSED | CROSSED)
 
-    def told(self, color):
+    def color_shown(self, color):
         if color[0] & 6:
             return REST
         return ("index", color[1]) if color[0] & 1 else ("rgb", *color[1:4])
@@ -143,7 +147,7 @@ class Vterm:
         chars = "".join(chr(c) for c in cell.chars if 0 < c < 0x110000)
         bits = [(BOLD, 1), (UNDERLINED, 6), (ITALIC, 8), (SLOW, 16), (REVERSED, 32), (CROSSED, 64)]
         marks = sum(bit for bit, field in bits if cell.attributes & field)
-        return chars or " ", self.told(cell.front), self.told(cell.back), marks
+        return chars or " ", self.color_shown(cell.front), self.color_shown(cell.back), marks
 
 
 def vterm():
@@ -175,8 +179,8 @@ class Tmux:
         self.pipe = open(self.pipe_name, "wb", buffering=0)
         self.widths = {}
 
-    def ask(self, *words):
-        command = ["tmux", "-u", "-S", f"{self.work.name}/socket", "-f", "/dev/null", *words]
+    def ask(self, *arguments):
+        command = ["tmux", "-u", "-S", f"{self.work.name}/socket", "-f", "/dev/null", *arguments]
         return subprocess.run(command, env=self.environment, capture_output=True, check=True).stdout.decode(errors="replace")
 
     def close(self):
@@ -184,18 +188,18 @@ class Tmux:
         self.pipe.close()
         self.work.cleanup()
 
-    def settled(self, *words):
-        """What tmux answers once it has read all that was written: a title is the last of it."""
+    def settled(self, *arguments):
+        """Returns the answer of tmux after it has read everything that was written, which ends with a new title."""
         self.count += 1
         self.pipe.write(b"\x1b]2;read %d\x07" % self.count)
         for _ in range(2000):
-            title, _, answer = self.ask("display-message", "-p", "#{pane_title}", ";", *words).partition("\n")
+            title, _, answer = self.ask("display-message", "-p", "#{pane_title}", ";", *arguments).partition("\n")
             if title == f"read {self.count}":
                 return answer
             time.sleep(0.002)
         raise TimeoutError("tmux does not read on")
 
-    def begin(self, size, junk, trust, seed):
+    def begin(self, size, junk, known_widths, seed):
         self.pipe.write(b"\x18\x1b\\")
         self.settled("send-keys", "-R")
         self.resize(size)
@@ -213,13 +217,13 @@ class Tmux:
         pass
 
     def try_widths(self, characters):
-        """The columns that tmux gives to characters by themselves, at the screen's left edge."""
+        """Measures the width that tmux gives to single characters, at the left edge of the screen."""
         for character in characters:
             self.pipe.write(b"\x1b[1;1H\x1b[2K" + character.encode())
             self.widths[character] = int(self.settled("display-message", "-p", "#{cursor_x}"))
 
     def read_row(self, line, pen):
-        """The cells of a row, by their columns, where the row before ended with a pen; and the pen behind it."""
+        """Returns the cells of a row by column, and the pen after it. `pen` is the pen after the row before."""
         cells, column, joined = {}, 0, False
         for settings, character in self.TOKEN.findall(line):
             if not character:
@@ -240,7 +244,7 @@ class Tmux:
             pen, numbers = (REST, REST, 0), numbers[1:]
         return set_by(pen, numbers)
 
-    def wanted(self, symbol, pen):
+    def expected(self, symbol, pen):
         return symbol, *pen[:2], masked(pen[2], 511, True)
 
     def shown(self, column, row, step):
@@ -253,7 +257,7 @@ class Tmux:
 
 
 def tmux(symbols):
-    """A server of its own, which has told the columns that it gives to the characters of these symbols."""
+    """Returns a tmux server for this test, with its widths for the characters of the symbols."""
     if not shutil.which("tmux"):
         return None
     judge = Tmux()

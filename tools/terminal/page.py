@@ -1,4 +1,4 @@
-"""What the definitions of crates/tui_tty/specs say of symbols, cells and colours, in Python: Symbols, Pieces, Colours and Pens."""
+"""The definitions in crates/tui_terminal_model/specs about symbols, cells and colours, in Python."""
 
 COMMON = [
     (0x20, 0x7E), (0xA1, 0xA8), (0xAA, 0xAC), (0xAF, 0x2FF), (0x370, 0x377), (0x37A, 0x37F), (0x384, 0x38A), (0x38C, 0x38C),
@@ -11,7 +11,8 @@ JOINS_NEXT = [
     (0x200D, 0x200D), (0x1100, 0x115F), (0xA960, 0xA97C), (0x600, 0x605), (0x6DD, 0x6DD), (0x70F, 0x70F), (0x890, 0x891),
     (0x8E2, 0x8E2), (0xD4E, 0xD4E), (0x110BD, 0x110BD), (0x110CD, 0x110CD), (0x111C2, 0x111C3), (0x1193F, 0x1193F),
     (0x11941, 0x11941), (0x11A3A, 0x11A3A), (0x11A84, 0x11A89), (0x11D46, 0x11D46), (0x11F02, 0x11F02)]
-# The first text behind the taming, where a terminal is trusted with it. It stands where the frame begins, and is no cell of it.
+# The first text after the modes are reset, if its width is known. It is written where the frame begins, and
+# is not one of its cells.
 MENDING = "À"
 REST = ("name", 0)
 BLANK = (" ", REST, REST, 0)
@@ -24,12 +25,12 @@ def is_among(ranges, character):
     return any(first <= ord(character) <= last for first, last in ranges)
 
 
-def is_trusted(trust, symbol):
-    return len(symbol) == 1 and is_among(COMMON if trust else ASCII, symbol)
+def has_known_width(known_widths, symbol):
+    return len(symbol) == 1 and is_among(COMMON if known_widths else ASCII, symbol)
 
 
 class Symbols:
-    """Which symbols are sent, by the library's widths: the number of columns of each text that it is asked for."""
+    """Which symbols are sent. `widths` are the widths of the library, in columns, for each text that is needed."""
 
     def __init__(self, widths):
         self.widths = widths
@@ -40,16 +41,16 @@ class Symbols:
     def reach(self, symbol):
         return sum(1 if ord(c) < 0x80 or self.widths[c] == 0 else 2 for c in symbol)
 
-    def is_sendable(self, trust, room, symbol):
+    def is_sendable(self, known_widths, room, symbol):
         if any(ord(c) < 0x20 or 0x7F <= ord(c) <= 0x9F for c in symbol) or self.step(symbol) > room:
             return False
-        if is_trusted(trust, symbol):
+        if has_known_width(known_widths, symbol):
             return True
         joins_nothing = symbol and self.widths[symbol[0]] > 0 and symbol[0] not in SKIN_TONES and not is_among(JOINS_NEXT, symbol[-1])
         return bool(joins_nothing) and self.reach(symbol) <= room
 
-    def pieces(self, trust, cells):
-        """The cells of a row that show: the column of each, counted from 0, and the cell."""
+    def pieces(self, known_widths, cells):
+        """Returns the visible cells of a row, each with its column, counted from 0."""
         shown, left, blank = [], 0, None
         for column, cell in enumerate(cells):
             room = len(cells) - column
@@ -58,7 +59,7 @@ class Symbols:
                 if blank:
                     shown.append((column, blank))
                 continue
-            sent = self.is_sendable(trust, room, cell[0])
+            sent = self.is_sendable(known_widths, room, cell[0])
             blank = None if sent else (" ", *cell[1:])
             left = min(self.step(cell[0]), room) - 1
             shown.append((column, blank or cell))
@@ -81,7 +82,7 @@ def light_of_level(number):
 
 
 def light_at(index):
-    """Red, green and blue of a colour of the palette from 16 on."""
+    """Returns red, green and blue of a colour of the palette from 16 on."""
     if index >= 232:
         return (8 + 10 * (index - 232),) * 3
     cube = index - 16
@@ -111,5 +112,5 @@ def color_at(depth, color):
 
 
 def pen_of(depth, cell):
-    """The colours and the marks by which a cell is drawn; a mark is its bit."""
+    """Returns the colours and the modifiers with which a cell is drawn. Each modifier is a bit."""
     return color_at(depth, cell[1]), color_at(depth, cell[2]), cell[3]

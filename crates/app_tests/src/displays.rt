@@ -1,12 +1,12 @@
-//! Displays of lines on a terminal in memory: what is put, read by read, and how they end.
+//! Displays of lines on a terminal in memory: what is written, read by read, and how they end.
 
-use crate::tape::{ENTER, FULL, LEAVE, OUTPUT, Part, add, tape_of, terminal};
+use crate::trace::{ENTER, FULL, LEAVE, OUTPUT, TraceEntry, is_tape, terminal};
 use std::alloc::Global;
 use std::{mem, str};
 use tui_cells::{Buffer, Mem, NoMemory};
 use tui_display::{DisplayEnd, Painter, show_lines};
 
-/// A line calls for its characters in one row.
+/// A line asks for its characters in one row.
 #[derive(Clone, Copy)]
 struct Letters;
 
@@ -23,63 +23,56 @@ impl Painter for Letters {
     }
 }
 
-/// A row of 80 blanks.
+/// A row of 80 spaces.
 const BLANKS: &str =
     "\x1b[1;1H\x1b[0m                                                                                \x1b[?25l";
 
-/// Two lines in one read, the second as what has changed; an empty one; and one in two reads, without a newline, of another size.
-const WHOLE: [Part<'static>; 17] = [
-    Part::Put(ENTER),
-    Part::Put(FULL),
-    Part::Put(BLANKS),
-    Part::Gave("ab\nac\n"),
-    Part::Put(FULL),
-    Part::Put(BLANKS),
-    Part::Put(FULL),
-    Part::Put("\x1b[1;1H\x1b[0mab\x1b[?25l"),
-    Part::Put("\x1b[1;2H\x1b[0mc\x1b[?25l"),
-    Part::Gave("\na"),
-    Part::Gave("bc"),
-    Part::Gave(""),
-    Part::Put(FULL),
-    Part::Put("\x1b[1;1H\x1b[0m  \x1b[?25l"),
-    Part::Put(FULL),
-    Part::Put("\x1b[1;1H\x1b[0mabc\x1b[?25l"),
-    Part::Put(LEAVE),
+/// Two lines in one read, of which the second sends only what has changed; an empty line; and a line in two reads,
+/// without a newline, of another size.
+const WHOLE: [TraceEntry<'static>; 17] = [
+    TraceEntry::Written(ENTER),
+    TraceEntry::Written(FULL),
+    TraceEntry::Written(BLANKS),
+    TraceEntry::Read("ab\nac\n"),
+    TraceEntry::Written(FULL),
+    TraceEntry::Written(BLANKS),
+    TraceEntry::Written(FULL),
+    TraceEntry::Written("\x1b[1;1H\x1b[0mab\x1b[?25l"),
+    TraceEntry::Written("\x1b[1;2H\x1b[0mc\x1b[?25l"),
+    TraceEntry::Read("\na"),
+    TraceEntry::Read("bc"),
+    TraceEntry::Read(""),
+    TraceEntry::Written(FULL),
+    TraceEntry::Written("\x1b[1;1H\x1b[0m  \x1b[?25l"),
+    TraceEntry::Written(FULL),
+    TraceEntry::Written("\x1b[1;1H\x1b[0mabc\x1b[?25l"),
+    TraceEntry::Written(LEAVE),
 ];
 
-// How a display of these reads ends whose call of a number fails, and whether its tape is these parts and a text.
-fn shows(
-    alloc: Global,
-    failing: u64,
-    end: DisplayEnd,
-    parts: &[Part<'_>],
-    last: &str,
-) -> Mem<bool> {
+/// How a display of these reads ends whose call of a number fails, and whether its tape is the first of these parts and a text.
+fn ends(alloc: Global, failing: u64, end: DisplayEnd, count: usize, last: &str) -> Mem<bool> {
     let mut terminal = terminal(alloc, &["ab\nac\n", "\na", "bc"], failing)?;
     let is_end = show_lines(alloc, &Letters, OUTPUT, &mut terminal) == end;
-    let mut tape = tape_of(alloc, parts)?;
-    add(&mut tape, last, 0)?;
-    Ok(is_end && terminal.tape() == tape.as_slice())
+    Ok(is_end && is_tape(alloc, terminal.trace(), (&WHOLE, count), last)?)
 }
 
-#[test]
-fn lines_of_three_reads(rt: HostRuntime) -> Mem<()> {
-    let alloc = rt.alloc();
-    assert!(&rt; shows(alloc, 0, DisplayEnd::Ended, &WHOLE, "")?);
-    Ok(())
-}
+/// Calls of that display that fail, none at 0; how it ends; how many of its parts are on the tape; and what follows them: a read that fails leaves the terminal, a
+/// write that fails ends it with nothing after it.
+const FAILING: [(u64, DisplayEnd, usize, &str); 8] = [
+    (0, DisplayEnd::Ended, 17, ""),
+    (1, DisplayEnd::WriteFault, 0, ""),
+    (2, DisplayEnd::WriteFault, 1, ""),
+    (3, DisplayEnd::ReadFault, 3, LEAVE),
+    (5, DisplayEnd::WriteFault, 6, ""),
+    (6, DisplayEnd::WriteFault, 8, ""),
+    (8, DisplayEnd::ReadFault, 10, LEAVE),
+    (12, DisplayEnd::WriteFault, 16, ""),
+];
 
-/// Calls of that display that fail: a put ends it with nothing behind it, a read leaves the terminal.
 #[test]
-fn calls_that_fail(rt: HostRuntime) -> Mem<()> {
-    let alloc = rt.alloc();
-    assert!(&rt; shows(alloc, 1, DisplayEnd::WriteFault, &[], "")?);
-    assert!(&rt; shows(alloc, 2, DisplayEnd::WriteFault, &WHOLE[..1], "")?);
-    assert!(&rt; shows(alloc, 3, DisplayEnd::ReadFault, &WHOLE[..3], LEAVE)?);
-    assert!(&rt; shows(alloc, 5, DisplayEnd::WriteFault, &WHOLE[..6], "")?);
-    assert!(&rt; shows(alloc, 6, DisplayEnd::WriteFault, &WHOLE[..8], "")?);
-    assert!(&rt; shows(alloc, 8, DisplayEnd::ReadFault, &WHOLE[..10], LEAVE)?);
-    assert!(&rt; shows(alloc, 12, DisplayEnd::WriteFault, &WHOLE[..16], "")?);
+fn calls_fail(rt: HostRuntime) -> Mem<()> {
+    for &(failing, end, count, last) in &FAILING {
+        assert!(&rt; ends(rt.alloc(), failing, end, count, last)?);
+    }
     Ok(())
 }

@@ -5,7 +5,7 @@ use tui_app::{App, Flow};
 use tui_cells::{Buffer, Mem, NoMemory, Position};
 use tui_keys::Event;
 
-/// Draws a letter in a column of the first row, and has the cursor there.
+/// Draws a letter in a column of the first row, and shows the cursor there.
 #[derive(Drop)]
 pub(crate) struct Dot {
     pub(crate) column: u16,
@@ -14,7 +14,7 @@ pub(crate) struct Dot {
 impl App for Dot {
     ghost behaviour = { record { steps = λ old event new flow. Unit {0}; draws = λ old screen place new. Unit {0} } };
 
-    /// Right moves the letter, l sends all, m wants memory, q quits.
+    /// Right moves the letter, l sends the whole screen again, m runs out of memory, and q quits.
     fn step(&mut self, alloc: Global, event: Event) -> Mem<Flow> {
         match event {
             Event::Right => {

@@ -1,4 +1,5 @@
-//! The tests of tui_app and tui_display, apart from these, so that they are proved but once.
+//! The tests of interactive programs: of sessions and displays on a terminal in memory, of text inputs, of the browser of folders and of the dashboard.
+//! They are apart from the crates that they test, so that each of those is proved but once.
 #![tactic(auto)]
 
 #[cfg(test)]
@@ -6,8 +7,24 @@ mod displays;
 #[cfg(test)]
 mod dot;
 #[cfg(test)]
-mod screens;
+mod files;
+#[cfg(test)]
+mod folders;
+#[cfg(test)]
+mod inputs;
+#[cfg(test)]
+mod last;
+#[cfg(test)]
+mod machine;
+#[cfg(test)]
+mod parsed;
+#[cfg(test)]
+mod progress;
 #[cfg(test)]
 mod sessions;
 #[cfg(test)]
-mod tape;
+mod trace;
+#[cfg(test)]
+mod typing;
+#[cfg(test)]
+mod watch;

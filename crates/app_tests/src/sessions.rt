@@ -1,84 +1,96 @@
-//! Sessions on a terminal in memory: what is put, read by read, and how they end.
+//! Sessions on a terminal in memory: what is written, read by read, and how they end.
 
 use crate::dot::Dot;
-use crate::tape::{ENTER, FULL, LEAVE, OUTPUT, Part, add, tape_of, terminal};
+use crate::trace::{ENTER, FULL, LEAVE, OUTPUT, TraceEntry, is_tape, terminal};
 use std::alloc::Global;
-use tui_app::{AppEnd, MemTerminal, run};
+use tui_app::{AppEnd, run};
 use tui_cells::Mem;
 
-/// A session of three reads: the letter moves, all is sent again, and q.
-const WHOLE: [Part<'static>; 10] = [
-    Part::Put(ENTER),
-    Part::Put(FULL),
-    Part::Put("\x1b[1;1H\x1b[0mx   \x1b[1;1H\x1b[?25h"),
-    Part::Gave("\x1b[C"),
-    Part::Put("\x1b[1;1H\x1b[0m x\x1b[1;2H\x1b[?25h"),
-    Part::Gave("l"),
-    Part::Put(FULL),
-    Part::Put("\x1b[1;1H\x1b[0m x  \x1b[1;2H\x1b[?25h"),
-    Part::Gave("q"),
-    Part::Put(LEAVE),
+/// What is written of the first screen.
+const FIRST: &str = "\x1b[1;1H\x1b[0mx   \x1b[1;1H\x1b[?25h";
+
+const READS: [&str; 3] = ["\x1b[C", "l", "q"];
+
+/// A session over these reads: the letter moves, all is sent again, and q.
+const WHOLE: [TraceEntry<'static>; 10] = [
+    TraceEntry::Written(ENTER),
+    TraceEntry::Written(FULL),
+    TraceEntry::Written(FIRST),
+    TraceEntry::Read("\x1b[C"),
+    TraceEntry::Written("\x1b[1;1H\x1b[0m x\x1b[1;2H\x1b[?25h"),
+    TraceEntry::Read("l"),
+    TraceEntry::Written(FULL),
+    TraceEntry::Written("\x1b[1;1H\x1b[0m x  \x1b[1;2H\x1b[?25h"),
+    TraceEntry::Read("q"),
+    TraceEntry::Written(LEAVE),
 ];
 
-// How a session over these reads ends, and its tape.
-fn run_dot(alloc: Global, terminal: &mut MemTerminal) -> AppEnd {
-    run(alloc, &mut Dot { column: 0 }, OUTPUT, 4, 1, terminal)
+/// A session without input.
+const ENDED: [TraceEntry<'static>; 5] = [
+    TraceEntry::Written(ENTER),
+    TraceEntry::Written(FULL),
+    TraceEntry::Written(FIRST),
+    TraceEntry::Read(""),
+    TraceEntry::Written(LEAVE),
+];
+
+/// A session whose only step is out of memory.
+const OUT_OF_MEMORY: [TraceEntry<'static>; 5] = [
+    TraceEntry::Written(ENTER),
+    TraceEntry::Written(FULL),
+    TraceEntry::Written(FIRST),
+    TraceEntry::Read("m"),
+    TraceEntry::Written(LEAVE),
+];
+
+/// How a session over these reads ends whose call of a number fails, and whether its tape is the first of these parts and a text.
+fn ends(
+    alloc: Global,
+    (reads, failing): (&[&str], u64),
+    end: AppEnd,
+    parts: (&[TraceEntry<'_>], usize),
+    last: &str,
+) -> Mem<bool> {
+    let mut terminal = terminal(alloc, reads, failing)?;
+    let is_end = run(alloc, &mut Dot { column: 0 }, OUTPUT, 4, 1, &mut terminal) == end;
+    Ok(is_end && is_tape(alloc, terminal.trace(), parts, last)?)
 }
 
-#[test]
-fn three_reads(rt: HostRuntime) -> Mem<()> {
-    let alloc = rt.alloc();
-    let mut terminal = terminal(alloc, &["\x1b[C", "l", "q"], 0)?;
-    assert!(&rt; run_dot(alloc, &mut terminal) == AppEnd::Quit);
-    let whole = tape_of(alloc, &WHOLE)?;
-    assert!(&rt; terminal.tape() == whole.as_slice());
-    Ok(())
-}
+/// The calls of that session that fail, none at 0; how it ends; how many of its parts are on the tape; and what follows them: a read that fails leaves the
+/// terminal, a write that fails ends it with nothing after it.
+const FAILING: [(u64, AppEnd, usize, &str); 9] = [
+    (0, AppEnd::Quit, 10, ""),
+    (1, AppEnd::WriteFault, 0, ""),
+    (2, AppEnd::WriteFault, 1, ""),
+    (3, AppEnd::ReadFault, 3, LEAVE),
+    (4, AppEnd::WriteFault, 4, ""),
+    (5, AppEnd::ReadFault, 5, LEAVE),
+    (6, AppEnd::WriteFault, 6, ""),
+    (7, AppEnd::ReadFault, 8, LEAVE),
+    (8, AppEnd::WriteFault, 9, ""),
+];
 
-/// Where each of the eight calls of that session ends it if it fails: what stands on the tape then, and whether it is left.
 #[test]
 fn each_call_fails(rt: HostRuntime) -> Mem<()> {
-    let alloc = rt.alloc();
-    assert!(&rt; fails_at(alloc, 1, AppEnd::WriteFault, &[])?);
-    assert!(&rt; fails_at(alloc, 2, AppEnd::WriteFault, &WHOLE[..1])?);
-    assert!(&rt; fails_at(alloc, 3, AppEnd::ReadFault, &WHOLE[..3])?);
-    assert!(&rt; fails_at(alloc, 4, AppEnd::WriteFault, &WHOLE[..4])?);
-    assert!(&rt; fails_at(alloc, 5, AppEnd::ReadFault, &WHOLE[..5])?);
-    assert!(&rt; fails_at(alloc, 6, AppEnd::WriteFault, &WHOLE[..6])?);
-    assert!(&rt; fails_at(alloc, 7, AppEnd::ReadFault, &WHOLE[..8])?);
-    assert!(&rt; fails_at(alloc, 8, AppEnd::WriteFault, &WHOLE[..9])?);
-    Ok(())
-}
-
-fn fails_at(alloc: Global, call: u64, end: AppEnd, parts: &[Part<'_>]) -> Mem<bool> {
-    let mut terminal = terminal(alloc, &["\x1b[C", "l", "q"], call)?;
-    let is_end = run_dot(alloc, &mut terminal) == end;
-    let mut tape = tape_of(alloc, parts)?;
-    if end == AppEnd::ReadFault {
-        add(&mut tape, LEAVE, 0)?;
+    for &(failing, end, count, last) in &FAILING {
+        assert!(&rt; ends(rt.alloc(), (&READS, failing), end, (&WHOLE, count), last)?);
     }
-    Ok(is_end && terminal.tape() == tape.as_slice())
-}
-
-/// The end of input is a read without bytes; a step that wants memory ends the session; both leave the terminal.
-#[test]
-fn other_endings(rt: HostRuntime) -> Mem<()> {
-    let alloc = rt.alloc();
-    let mut ended = terminal(alloc, &[], 0)?;
-    assert!(&rt; run_dot(alloc, &mut ended) == AppEnd::Ended);
-    assert!(&rt; ends_left(alloc, ended.tape(), "")?);
-
-    let mut wants = terminal(alloc, &["m"], 0)?;
-    assert!(&rt; run_dot(alloc, &mut wants) == AppEnd::NoMemory);
-    assert!(&rt; ends_left(alloc, wants.tape(), "m")?);
     Ok(())
 }
 
-// Whether only this was given behind the first screen, and the terminal is left.
-fn ends_left(alloc: Global, tape: &[u16], given: &str) -> Mem<bool> {
-    let mut expected = tape_of(alloc, &WHOLE[..3])?;
-    expected.push(256)?;
-    add(&mut expected, given, 257)?;
-    add(&mut expected, LEAVE, 0)?;
-    Ok(tape == expected.as_slice())
+/// The end of input is a read without bytes; a step that is out of memory ends the session; both leave the terminal.
+#[test]
+fn other_outcomes(rt: HostRuntime) -> Mem<()> {
+    let alloc = rt.alloc();
+    assert!(&rt; ends(alloc, (&[], 0), AppEnd::Ended, (&ENDED, 5), "")?);
+    assert!(&rt;
+        ends(
+            alloc,
+            (&["m"], 0),
+            AppEnd::NoMemory,
+            (&OUT_OF_MEMORY, 5),
+            ""
+        )?
+    );
+    Ok(())
 }

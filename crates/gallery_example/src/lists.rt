@@ -10,18 +10,34 @@ use tui::widgets::{
     ScrollbarOrientation, ScrollbarState, StatefulWidget, Table, TableState, Tabs, Widget,
 };
 
-pub fn draw_list(alloc: Global, buffer: &mut Buffer) -> anyhow::Result<()> {
+fn station<'a>(alloc: Global, name: &'a str) -> Mem<ListItem<'a>> {
+    Ok(ListItem::new(Text::raw(alloc, name)?))
+}
+
+fn stations<'a>(alloc: Global) -> Mem<Vec<ListItem<'a>>> {
     let mut items = Vec::new(alloc);
     for name in ["Anholt", "Bergen", "Cuxhaven\nnorth mole", "Dover"] {
-        items.push(ListItem::new(Text::raw(alloc, name)?))?;
+        items.push(station(alloc, name)?)?;
     }
-    items.push(ListItem::new(Text::raw(alloc, "Esbjerg")?).style(Style::new().fg(Color::Green)))?;
-    items.push(ListItem::new(Text::raw(alloc, "Fehmarn")?))?;
+    items.push(station(alloc, "Esbjerg")?.style(Style::new().fg(Color::Green)))?;
+    items.push(station(alloc, "Fehmarn")?)?;
+    Ok(items)
+}
+
+fn titled_list<'a>(alloc: Global, title: &'a str, items: Vec<ListItem<'a>>) -> Mem<List<'a>> {
     let mut block = Block::bordered(alloc);
-    block.title(Line::raw(alloc, "Stations")?)?;
-    let list = List::new(alloc, items)?
-        .block(block)
-        .highlight_symbol(Line::raw(alloc, "> ")?)
+    block.title(Line::raw(alloc, title)?)?;
+    let symbol = Line::raw(alloc, "> ")?;
+    Ok(
+        List::new(alloc, items)?
+            .block(block)
+            .highlight_symbol(symbol),
+    )
+}
+
+pub fn draw_list(alloc: Global, buffer: &mut Buffer) -> anyhow::Result<()> {
+    let items = stations(alloc)?;
+    let list = titled_list(alloc, "Stations", items)?
         .highlight_style(Style::new().add_modifier(Modifier::REVERSED))
         .scroll_padding(1);
     let mut state = ListState::default().with_selected(Some(4));
@@ -37,22 +53,38 @@ fn ship<'a>(alloc: Global, texts: [&'a str; 3]) -> Mem<Row<'a>> {
     Ok(Row::new(cells))
 }
 
-pub fn draw_table(alloc: Global, buffer: &mut Buffer) -> anyhow::Result<()> {
-    let rows = vec![in alloc;
-        ship(alloc, ["Anna", "4", "1,200"])?,
-        ship(alloc, ["Bertha", "11", "980"])?,
-        ship(alloc, ["Clara", "2", "15,640"])?,
-        ship(alloc, ["Dora", "7", "3,050"])?,
-    ]?;
+fn ships<'a>(alloc: Global) -> Mem<Vec<Row<'a>>> {
+    let mut rows = Vec::new(alloc);
+    for texts in [
+        ["Anna", "4", "1,200"],
+        ["Bertha", "11", "980"],
+        ["Clara", "2", "15,640"],
+        ["Dora", "7", "3,050"],
+    ] {
+        rows.push(ship(alloc, texts)?)?;
+    }
+    Ok(rows)
+}
+
+fn table_of<'a>(alloc: Global, rows: Vec<Row<'a>>) -> anyhow::Result<Table<'a>> {
     let widths = vec![in alloc;
         Constraint::Fill(1),
         Constraint::Length(6),
         Constraint::Length(8),
     ]?;
+    Ok(Table::new(alloc, rows, widths)?)
+}
+
+fn with_ends<'a>(alloc: Global, table: Table<'a>) -> Mem<Table<'a>> {
     let bold = Style::new().add_modifier(Modifier::BOLD);
-    let table = Table::new(alloc, rows, widths)?
-        .header(ship(alloc, ["Ship", "Berth", "Tons"])?.style(bold))
-        .footer(ship(alloc, ["4 ships", "", "20,870"])?.style(Style::new().fg(Color::Yellow)))
+    let header = ship(alloc, ["Ship", "Berth", "Tons"])?.style(bold);
+    let yellow = Style::new().fg(Color::Yellow);
+    let footer = ship(alloc, ["4 ships", "", "20,870"])?.style(yellow);
+    Ok(table.header(header).footer(footer))
+}
+
+pub fn draw_table(alloc: Global, buffer: &mut Buffer) -> anyhow::Result<()> {
+    let table = with_ends(alloc, table_of(alloc, ships(alloc)?)?)?
         .highlight_symbol(Text::raw(alloc, ">")?)
         .row_highlight_style(Style::new().add_modifier(Modifier::REVERSED));
     let mut state = TableState::new().with_selected(Some(2));

@@ -9,7 +9,7 @@ mod tasks;
 mod texts;
 
 use std::alloc::Global;
-use tui::buffer::{Buffer, Mem, visible_cells};
+use tui::buffer::{Buffer, Mem, row_text};
 use tui::layout::Rect;
 
 /// Each widget's name, and the columns and rows of its screen.
@@ -46,9 +46,7 @@ fn main(rt: HostRuntime) -> anyhow::Result<()> {
 fn rows_of(alloc: Global, buffer: &Buffer) -> Mem<String> {
     let mut text = String::new(alloc);
     for y in 0..buffer.height() {
-        for (_, cell) in visible_cells(buffer.row_at(y)) {
-            text.push_str(cell.symbol())?;
-        }
+        text.push_str(row_text(alloc, buffer, y)?.as_str())?;
         text.push('\n')?;
     }
     Ok(text)

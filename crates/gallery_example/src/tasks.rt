@@ -2,7 +2,7 @@
 #![tactic(auto)]
 
 use std::alloc::Global;
-use tui::buffer::{Buffer, Mem, visible_cells};
+use tui::buffer::{Buffer, Mem, row_text};
 use tui::layout::{Alignment, Constraint, Direction, Flex, Fraction, Rect, Segment, split};
 use tui::pager::{Entry, Key, Pager, PagerError};
 use tui::panes::{Pane, Panes, Part};
@@ -11,7 +11,7 @@ use tui::scene::Item;
 use tui::style::{Color, Modifier, Style};
 use tui::symbols::MergeStrategy;
 use tui::terminal::{
-    Cursor, Depth, Output, Sink, Trust, WriteFault, settle, write_changes, write_full,
+    Cursor, Depth, KnownWidths, Output, Sink, WriteFault, settle, write_changes, write_full,
     write_styled_rows,
 };
 use tui::text::{Line, Text};
@@ -27,10 +27,7 @@ pub fn main(rt: HostRuntime) -> anyhow::Result<()> {
     let mut buffer = Buffer::empty(alloc, area)?;
     draw_dialog(alloc, area, &mut buffer)?;
     for row in 0..buffer.height() {
-        for (_, cell) in visible_cells(buffer.row_at(row)) {
-            print!(rt; "{}", cell.symbol())?;
-        }
-        println!(rt; "")?;
+        println!(rt; "{}", row_text(alloc, &buffer, row)?.as_str())?;
     }
     Ok(())
 }
@@ -231,16 +228,16 @@ fn draw_with_bar(
     bar.render(alloc, area, buffer, &mut seen)
 }
 
-fn put_colours<K: Sink>(buffer: &Buffer, sink: &mut K) -> Result<(), WriteFault> {
+fn write_colours<K: Sink>(buffer: &Buffer, sink: &mut K) -> Result<(), WriteFault> {
     write_styled_rows(buffer, Depth::True, sink)
 }
 
-fn put_frame<K: Sink>(shown: &Buffer, next: &Buffer, sink: &mut K) -> Result<(), WriteFault> {
+fn write_frame<K: Sink>(shown: &Buffer, next: &Buffer, sink: &mut K) -> Result<(), WriteFault> {
     let output = Output {
         depth: Depth::Palette,
-        trust: Trust::Common,
+        widths: KnownWidths::Common,
         cursor: Cursor::Hidden,
-        hold: true,
+        synchronized: true,
     };
     if shown.area() == next.area() {
         write_changes(shown, next, output, sink)
@@ -251,12 +248,12 @@ fn put_frame<K: Sink>(shown: &Buffer, next: &Buffer, sink: &mut K) -> Result<(),
 
 const INLINE: Output = Output {
     depth: Depth::Palette,
-    trust: Trust::Common,
+    widths: KnownWidths::Common,
     cursor: Cursor::Hidden,
-    hold: false,
+    synchronized: false,
 };
 
-/// Shows the first frame of a display, or the next one of the same area.
+/// Shows a frame. Sends only the changes if the frame that is shown has the same area.
 fn show<K: Sink>(shown: Option<&Buffer>, next: &Buffer, sink: &mut K) -> Result<(), WriteFault> {
     match shown {
         Some(shown) if shown.area() == next.area() => write_changes(shown, next, INLINE, sink),
@@ -264,7 +261,7 @@ fn show<K: Sink>(shown: Option<&Buffer>, next: &Buffer, sink: &mut K) -> Result<
     }
 }
 
-/// Shows two frames, and leaves the second one standing.
+/// Shows two frames, and leaves the second one on the screen.
 fn show_two<K: Sink>(first: &Buffer, next: &Buffer, sink: &mut K) -> Result<(), WriteFault> {
     show(None, first, sink)?;
     show(Some(first), next, sink)?;
@@ -331,9 +328,7 @@ fn print_pages(alloc: Global, report: &Report<'_>, area: Rect) -> anyhow::Result
         page.reset(area);
         report.draw_page(alloc, at, &mut page)?;
         for row in 0..page.height() {
-            for (_, cell) in visible_cells(page.row_at(row)) {
-                out.push_str(cell.symbol())?;
-            }
+            out.push_str(row_text(alloc, &page, row)?.as_str())?;
             out.push('\n')?;
         }
         out.push('\x0c')?;

@@ -1,4 +1,4 @@
-//! A list that keeps its place while a person moves through it: arrows or j and k, and q quits.
+//! A list whose selection the arrow keys or j and k move; q quits.
 #![tactic(auto)]
 
 ghost use Rattle.std.specs.Prelude.{◌≡◌, ◌↔◌, ⊤};
@@ -8,10 +8,10 @@ ghost use Rattle.tui_keys.specs.declared.event.Event.TheVariants.{Char};
 use std::alloc::Global;
 use std::io;
 use std::process::ExitCode;
-use tui::app::{App, AppEnd, Flow, Port, run};
+use tui::app::{App, AppEnd, Flow, IoTerminal, run};
 use tui::buffer::{Buffer, Mem};
 use tui::layout::Position;
-use tui::terminal::{Cursor, Depth, Event, Output, StdSink, StdSource, Trust};
+use tui::terminal::{Cursor, Depth, Event, KnownWidths, Output, StdSink, StdSource};
 use tui::text::{Line, Text};
 use tui::widgets::{List, ListItem, ListState, StatefulWidget};
 
@@ -52,12 +52,12 @@ impl App for Shopping {
 }
 
 fn main(rt: HostRuntime) -> ExitCode {
-    let mut terminal = Port::new(StdSource::new(rt.reader()), StdSink::new(io::writer(&rt)));
+    let mut terminal = IoTerminal::new(StdSource::new(rt.reader()), StdSink::new(io::writer(&rt)));
     let output = Output {
         depth: Depth::Palette,
-        trust: Trust::Common,
+        widths: KnownWidths::Common,
         cursor: Cursor::Hidden,
-        hold: true,
+        synchronized: true,
     };
     let mut app = Shopping {
         state: ListState::default().with_selected(Some(0)),

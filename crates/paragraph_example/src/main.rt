@@ -1,7 +1,7 @@
 //! Wraps a text to 16 columns, centred, and prints the rows.
 #![tactic(auto)]
 
-use tui::buffer::{Buffer, visible_cells};
+use tui::buffer::{Buffer, row_text};
 use tui::layout::Rect;
 use tui::text::Text;
 use tui::widgets::{Paragraph, Widget, Wrap};
@@ -21,10 +21,7 @@ fn main(rt: HostRuntime) -> anyhow::Result<()> {
     paragraph.render(alloc, area, &mut buffer)?;
 
     for row in 0..buffer.height() {
-        for (_, cell) in visible_cells(buffer.row_at(row)) {
-            print!(rt; "{}", cell.symbol())?;
-        }
-        println!(rt; "")?;
+        println!(rt; "{}", row_text(alloc, &buffer, row)?.as_str())?;
     }
     Ok(())
 }

@@ -1,4 +1,4 @@
-//! Lines across.
+//! Horizontal lines.
 #![tactic(auto)]
 
 ghost use Rattle.ruler.specs.Ruler.{ruler_drawing};
@@ -8,9 +8,9 @@ use tui_cells::{Buffer, Mem, Rect, Style, Widget};
 #[cfg(test)]
 use tui_cells::{Modifier, Position};
 #[cfg(test)]
-use tui_text::visible_cells;
+use tui_text::row_text;
 
-/// One symbol in each cell of the first row of its area.
+/// Draws a symbol in each cell of the first row of its area.
 #[derive(Clone, Copy)]
 pub struct Ruler<'a> {
     pub symbol: &'a str,
@@ -35,9 +35,7 @@ fn a_ruler_is_the_first_row(rt: HostRuntime) -> Result<(), std::test::Fail> {
     Ruler { symbol: "─", style }.render(alloc, area, &mut buffer)?;
     let mut rows = String::new(alloc);
     for row in 0..buffer.height() {
-        for (_, cell) in visible_cells(buffer.row_at(row)) {
-            rows.push_str(cell.symbol())?;
-        }
+        rows.push_str(row_text(alloc, &buffer, row)?.as_str())?;
         rows.push('\n')?;
     }
     assert_eq!(rt; rows.as_str(), "────\n    \n");

@@ -1,17 +1,27 @@
-//! The rows of a file, each with the output that is wanted.
+//! The rows of a file, each with its expected output.
 
 use anyhow::{Result, bail};
 use std::alloc::Global;
 
 /// A row, and what its run is to write.
-#[derive(Drop)]
 pub(crate) struct Case<'t> {
     /// The number of the row's line, from 1.
     pub(crate) line: usize,
-    /// The row, a line in JSON.
+    /// The row: a line of JSON.
     pub(crate) row: &'t str,
     /// The lines below it, up to the next row, each with a newline.
-    pub(crate) wanted: String,
+    pub(crate) expected: String,
+}
+
+// Written out, so that a function which lets such a value go proves nothing of what it holds.
+impl<'t> Drop for Case<'t> {
+    fn drop(self) {
+        let Case {
+            line,
+            row,
+            expected,
+        } = self;
+    }
 }
 
 /// The rows of a text. A line that begins with `{` is a row.
@@ -22,7 +32,7 @@ pub(crate) fn cases(alloc: Global, text: &str) -> Result<Vec<Case<'_>>> {
             found.push(Case {
                 line: place.saturating_add(1),
                 row: line,
-                wanted: String::new(alloc),
+                expected: String::new(alloc),
             })?;
         } else {
             add_line(&mut found, line)?;
@@ -31,12 +41,12 @@ pub(crate) fn cases(alloc: Global, text: &str) -> Result<Vec<Case<'_>>> {
     Ok(found)
 }
 
-/// Adds a line to what is wanted of the last row.
+/// Adds a line to the expected output of the last row.
 fn add_line(found: &mut Vec<Case<'_>>, line: &str) -> Result<()> {
     match found.last_mut() {
         Some(case) => {
-            case.wanted.push_str(line)?;
-            case.wanted.push('\n')?;
+            case.expected.push_str(line)?;
+            case.expected.push('\n')?;
             Ok(())
         }
         None => bail!("a line before the first row"),

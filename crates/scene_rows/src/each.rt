@@ -1,4 +1,4 @@
-//! Rows that are run again and again.
+//! Rows that are run repeatedly.
 
 use crate::row::{Each, Given, Row};
 use crate::run::run;
@@ -6,39 +6,54 @@ use anyhow::Result;
 use std::alloc::{AllocFailed, Global};
 use std::io::Write;
 
-/// What is written of a run that has put some of the output, and not all of it.
+/// The output of a run that has written a first part of the output.
 const PART: &[u8] = b"a first part of the output\n";
 
 /// Neighbouring runs that ended alike.
-#[derive(Drop)]
-struct Stretch {
+struct RunGroup {
     runs: u64,
     status: u8,
     written: Vec<u8>,
 }
 
+// Written out, so that a function which lets such a value go proves nothing of what it holds.
+impl Drop for RunGroup {
+    fn drop(self) {
+        let RunGroup {
+            runs,
+            status,
+            written,
+        } = self;
+    }
+}
+
 /// Runs a row again and again, and writes for each stretch of runs that ended alike how many they are, their status, and what each
 /// of them has written.
-pub(crate) fn run_each<W: Write>(alloc: Global, row: &Row, each: Each, out: &mut W) -> Result<()> {
+pub(crate) fn run_each<W: Write>(
+    alloc: Global,
+    row: &Row<'_>,
+    each: Each,
+    out: &mut W,
+) -> Result<()> {
     let (_status, sink) = run(alloc, row.program, &row.words, row.given(alloc)?)?;
     let (first, last) = numbers(alloc, row, each, sink.bytes())?;
-    let mut stretch: Option<Stretch> = None;
+    let mut group: Option<RunGroup> = None;
     for number in first..last {
         let next = nth_run(alloc, row, each, number, sink.bytes())?;
         let ends = is_last(each, &next);
-        stretch = Some(joined(stretch, next, out)?);
+        group = Some(joined(group, next, out)?);
         if ends {
             break;
         }
     }
-    if let Some(stretch) = stretch {
-        tell(&stretch, out)?;
+    if let Some(group) = group {
+        write_out(&group, out)?;
     }
     Ok(())
 }
 
 /// The number of the first run, and the one past the last.
-fn numbers(alloc: Global, row: &Row, each: Each, whole: &[u8]) -> Result<(usize, usize)> {
+fn numbers(alloc: Global, row: &Row<'_>, each: Each, whole: &[u8]) -> Result<(usize, usize)> {
     Ok(match each {
         Each::Cut => (0, row.given(alloc)?.input.len()),
         Each::Put => (1, usize::MAX),
@@ -46,8 +61,8 @@ fn numbers(alloc: Global, row: &Row, each: Each, whole: &[u8]) -> Result<(usize,
     })
 }
 
-/// Whether no later run differs: once no put fails, the number is past the last put.
-fn is_last(each: Each, ran: &Stretch) -> bool {
+/// Returns whether all later runs are the same: if no write fails, the number is greater than that of the last write.
+fn is_last(each: Each, ran: &RunGroup) -> bool {
     match each {
         Each::Put => ran.status != 7,
         Each::Cut | Each::Room => false,
@@ -55,20 +70,26 @@ fn is_last(each: Each, ran: &Stretch) -> bool {
 }
 
 /// One of the runs, as a stretch of itself.
-fn nth_run(alloc: Global, row: &Row, each: Each, number: usize, whole: &[u8]) -> Result<Stretch> {
+fn nth_run(
+    alloc: Global,
+    row: &Row<'_>,
+    each: Each,
+    number: usize,
+    whole: &[u8],
+) -> Result<RunGroup> {
     let mut given = row.given(alloc)?;
     change(&mut given, each, number)?;
     let (status, sink) = run(alloc, row.program, &row.words, given)?;
     let written = sink.bytes();
     let is_part = status == 7 && written.len() < whole.len() && whole.starts_with(written);
-    Ok(Stretch {
+    Ok(RunGroup {
         runs: 1,
         status,
         written: Vec::from_slice(alloc, if is_part { PART } else { written })?,
     })
 }
 
-/// What is given to the run of a number.
+/// Changes what is given to the run of a number.
 fn change(given: &mut Given, each: Each, number: usize) -> Result<(), AllocFailed<u64>> {
     match each {
         Each::Cut => given.input.truncate(number),
@@ -78,25 +99,25 @@ fn change(given: &mut Given, each: Each, number: usize) -> Result<(), AllocFaile
     Ok(())
 }
 
-/// The stretch with one more run, or that run alone, where it ended otherwise and the stretch is told.
-fn joined<W: Write>(stretch: Option<Stretch>, next: Stretch, out: &mut W) -> Result<Stretch> {
-    match stretch {
+/// Adds a run to a group. If its result is another one, writes the group, and returns the run as a new group.
+fn joined<W: Write>(group: Option<RunGroup>, next: RunGroup, out: &mut W) -> Result<RunGroup> {
+    match group {
         None => Ok(next),
-        Some(mut stretch) => {
-            if stretch.status == next.status && stretch.written == next.written {
-                stretch.runs = stretch.runs.saturating_add(1);
-                return Ok(stretch);
+        Some(mut group) => {
+            if group.status == next.status && group.written == next.written {
+                group.runs = group.runs.saturating_add(1);
+                return Ok(group);
             }
-            tell(&stretch, out)?;
+            write_out(&group, out)?;
             Ok(next)
         }
     }
 }
 
-fn tell<W: Write>(stretch: &Stretch, out: &mut W) -> Result<()> {
-    let runs = stretch.runs;
-    let status = stretch.status;
+fn write_out<W: Write>(group: &RunGroup, out: &mut W) -> Result<()> {
+    let runs = group.runs;
+    let status = group.status;
     writeln!(out, "runs {runs} status {status}")?;
-    out.write_all(stretch.written.as_slice())?;
+    out.write_all(group.written.as_slice())?;
     Ok(())
 }

@@ -1,6 +1,7 @@
-//! Runs the programs over rows of data. Each word names a file of rows: a row is a line in JSON, and below it stands what the run
-//! is to write, up to the next row. Each row that writes anything else is written with what it wrote, and at last how many rows
-//! there are, and how many of them are wrong. A line that is no row ends the program with status 1, and so does a wrong row.
+//! Runs the programs over rows of data. Each argument names a file of rows. A row is a line of JSON, followed by the
+//! lines that its run should write. If a run writes anything else, the row is reported with what it wrote. At the end
+//! the program writes how many rows there are, and how many of them are wrong. It exits with status 1 if a row is
+//! wrong, or if a line is not a valid row.
 #![tactic(auto)]
 
 mod cases;
@@ -8,6 +9,7 @@ mod displays;
 mod each;
 mod forms;
 mod frames;
+mod members;
 mod program;
 mod report;
 mod row;
@@ -15,13 +17,19 @@ mod run;
 mod sessions;
 mod tally;
 
-use crate::cases::cases;
+use crate::cases::{Case, cases};
+use crate::displays::show_display;
 use crate::each::run_each;
+use crate::forms::show_form;
+use crate::frames::show_frames;
+use crate::members::{check_keys, member, text};
 use crate::report::report;
-use crate::row::Row;
+use crate::row::{Each, KEYS, Row};
 use crate::run::run;
+use crate::sessions::show_session;
 use crate::tally::Tally;
 use anyhow::{Context, Result};
+use serde_json::Value;
 use std::alloc::Global;
 use std::io::{BufWriter, Write};
 use std::process::ExitCode;
@@ -30,7 +38,7 @@ use std::{env, fs, io};
 fn main(rt: HostRuntime) -> Result<ExitCode> {
     let alloc = rt.alloc();
     let mut out = BufWriter::new(alloc, io::writer(&rt))?;
-    let mut tally = Tally::default();
+    let mut tally = Tally::new();
     for file in env::args(&rt)?.skip(1) {
         let text = fs::read_to_string(&rt, file.as_str())?;
         check_file(alloc, text.as_str(), &mut tally, &mut out).context(format_args!(
@@ -38,51 +46,74 @@ fn main(rt: HostRuntime) -> Result<ExitCode> {
             file.as_str()
         ))?;
     }
-    tally.tell(&mut out)?;
+    tally.write_out(&mut out)?;
     out.flush()?;
     Ok(tally.exit_code())
 }
 
-/// Runs the rows of a file, and writes those whose output is not the one below them.
+/// Runs the rows of a file, and writes those whose output is not the expected one.
 fn check_file<W: Write>(alloc: Global, text: &str, tally: &mut Tally, out: &mut W) -> Result<()> {
-    for case in cases(alloc, text)? {
-        let row: Row = serde_json::from_str(alloc, case.row).context(format_args!(
-            "line {}",
-            case.line
-        ))?;
-        let mut found = Vec::new(alloc);
-        run_row(alloc, &row, &mut found)?;
-        let is_right = found.as_slice() == case.wanted.as_bytes();
-        tally.count(is_right);
-        if !is_right {
-            writeln!(out, "== line {}: {}", case.line, row.name)?;
-            out.write_all(found.as_slice())?;
-        }
+    let cases = cases(alloc, text)?;
+    for case in &cases {
+        tally.count(is_right(alloc, case, out)?);
     }
     Ok(())
 }
 
+/// Whether the run of a case writes what is wanted. What it writes else is written.
+fn is_right<W: Write>(alloc: Global, case: &Case<'_>, out: &mut W) -> Result<bool> {
+    let row = row_of(alloc, case)?;
+    let mut found = Vec::new(alloc);
+    run_row(alloc, &row, &mut found)?;
+    if found.as_slice() == case.expected.as_bytes() {
+        return Ok(true);
+    }
+    tell_wrong(
+        case,
+        text(&row, "name").unwrap_or(""),
+        found.as_slice(),
+        out,
+    )?;
+    Ok(false)
+}
+
+fn row_of(alloc: Global, case: &Case<'_>) -> Result<Value> {
+    Value::from_str(alloc, case.row).context(format_args!("line {}", case.line))
+}
+
+fn tell_wrong<W: Write>(case: &Case<'_>, name: &str, found: &[u8], out: &mut W) -> Result<()> {
+    writeln!(out, "== line {}: {name}", case.line)?;
+    out.write_all(found)?;
+    Ok(())
+}
+
 /// Writes what a row's run ends with and has written.
-fn run_row<W: Write>(alloc: Global, row: &Row, out: &mut W) -> Result<()> {
-    if let Some(frames) = &row.frames {
-        return frames.show(alloc, out);
+fn run_row<W: Write>(alloc: Global, row: &Value, out: &mut W) -> Result<()> {
+    check_keys(row, &KEYS)?;
+    if let Some(frames) = member(row, "frames") {
+        return show_frames(alloc, frames, out);
     }
-    if let Some(session) = &row.session {
-        return session.show(alloc, out);
+    if let Some(session) = member(row, "session") {
+        return show_session(alloc, session, out);
     }
-    if let Some(display) = &row.display {
-        return display.show(alloc, out);
+    if let Some(display) = member(row, "display") {
+        return show_display(alloc, display, out);
     }
-    if let Some(asking) = &row.asking {
-        return asking.show(alloc, out);
+    if let Some(asking) = member(row, "asking") {
+        return show_form(alloc, asking, out);
     }
-    match row.each {
-        Some(each) => run_each(alloc, row, each, out),
-        None => run_once(alloc, row, out),
+    run_program(alloc, row, out)
+}
+
+fn run_program<W: Write>(alloc: Global, value: &Value, out: &mut W) -> Result<()> {
+    let row = Row::of(alloc, value)?;
+    match member(value, "each") {
+        Some(each) => run_each(alloc, &row, Each::of(each)?, out),
+        None => run_once(alloc, &row, out),
     }
 }
 
-fn run_once<W: Write>(alloc: Global, row: &Row, out: &mut W) -> Result<()> {
+fn run_once<W: Write>(alloc: Global, row: &Row<'_>, out: &mut W) -> Result<()> {
     let (status, sink) = run(alloc, row.program, &row.words, row.given(alloc)?)?;
     report(out, status, sink.bytes())?;
     Ok(())

@@ -1,10 +1,11 @@
 //! The programs.
 
-use serde::Deserialize;
+use crate::members::member;
+use anyhow::{Result, bail};
+use serde_json::Value;
 
 /// The program that a row runs.
-#[derive(Clone, Copy, Deserialize)]
-#[serde(rename_all = "lowercase")]
+#[derive(Clone, Copy)]
 pub(crate) enum Program {
     /// `tui_show`.
     Show,
@@ -17,8 +18,17 @@ pub(crate) enum Program {
 }
 
 impl Program {
-    /// The one of a row that names none.
-    pub(crate) fn of_scenes() -> Program {
-        Program::Show
+    /// The program of a row; `tui_show` if it names none.
+    pub(crate) fn of(row: &Value) -> Result<Program> {
+        let Some(name) = member(row, "program") else {
+            return Ok(Program::Show);
+        };
+        match name.as_str() {
+            Some("show") => Ok(Program::Show),
+            Some("pages") => Ok(Program::Pages),
+            Some("pager") => Ok(Program::Pager),
+            Some("panes") => Ok(Program::Panes),
+            _ => bail!("no such program"),
+        }
     }
 }

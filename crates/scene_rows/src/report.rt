@@ -1,10 +1,10 @@
-//! What the program writes of a row.
+//! What is written about a row.
 
 use std::io;
 use std::io::Write;
 
-/// Writes the status, and then what the run has written. `cut` behind the status says that this does not end with a newline; one
-/// follows it then.
+/// Writes the status, and then what the run has written. If that does not end with a newline, adds one, and `, cut`
+/// after the status.
 pub(crate) fn report<W: Write>(out: &mut W, status: u8, written: &[u8]) -> io::Result<()> {
     let end = if is_cut(written) { ", cut" } else { "" };
     writeln!(out, "status {status}{end}")?;

@@ -1,62 +1,66 @@
-//! A row of the data.
+//! A row of the data that runs a program.
+//!
+//! - `name`: what the row shows
+//! - `program`: the program that runs, `show` if it is left out; `words`: its arguments
+//! - `input`: the input as text; `input_hex`: as hexadecimal digits, two a byte; `input_parts`: as texts one after another, each with the number of times that
+//!   it is repeated
+//! - `reads`: the numbers of the reads that fail, from 1; `puts`: those of the writes
+//! - `room`: how many bytes the sink has room for
+//! - `each`: what changes from run to run, if the row is run again and again
 
-use crate::displays::Display;
-use crate::forms::Asking;
-use crate::frames::Frames;
+use crate::members::{member, numbers, texts};
 use crate::program::Program;
-use crate::sessions::Session;
 use anyhow::{Result, bail};
-use serde::Deserialize;
-use std::alloc::{AllocError, Global};
+use serde_json::Value;
+use std::alloc::Global;
 
-/// A run of a program, and what is to fail in it.
-#[derive(Drop, Deserialize)]
-#[serde(deny_unknown_fields)]
-pub(crate) struct Row {
-    /// What the row shows.
-    pub(crate) name: String,
-    /// The program that runs.
-    #[serde(default = "Program::of_scenes")]
+/// The keys of a row.
+pub(crate) const KEYS: [&str; 14] = [
+    "name",
+    "program",
+    "words",
+    "input",
+    "input_hex",
+    "input_parts",
+    "reads",
+    "puts",
+    "room",
+    "each",
+    "frames",
+    "session",
+    "display",
+    "asking",
+];
+
+/// A program, and its arguments.
+#[derive(Drop)]
+pub(crate) struct Row<'v> {
+    pub(crate) value: &'v Value,
     pub(crate) program: Program,
-    /// The words after the program's name.
     pub(crate) words: Vec<String>,
-    /// The input as text.
-    input: Option<String>,
-    /// The input as hexadecimal digits, two a byte.
-    input_hex: Option<String>,
-    /// The input as texts one after another, each with the number of times that it stands.
-    input_parts: Option<Vec<(String, u64)>>,
-    /// The numbers of the reads that fail, from 1.
-    #[serde(default)]
-    reads: Vec<u64>,
-    /// The numbers of the puts that fail, from 1.
-    #[serde(default)]
-    puts: Vec<u64>,
-    /// How many bytes the sink has room for.
-    #[serde(default = "ample_room")]
-    room: usize,
-    /// What changes from run to run, where the row is run again and again.
-    pub(crate) each: Option<Each>,
-    /// Scenes that a terminal is to show, where no program runs.
-    pub(crate) frames: Option<Frames>,
-    /// A pager that a terminal's reads move, where no program runs.
-    pub(crate) session: Option<Session>,
-    /// A terminal that gives lines of scenes, where no program runs.
-    pub(crate) display: Option<Display>,
-    /// A form that a terminal's reads fill in, where no program runs.
-    pub(crate) asking: Option<Asking>,
 }
 
 /// What changes from run to run.
-#[derive(Clone, Copy, Deserialize)]
-#[serde(rename_all = "lowercase")]
+#[derive(Clone, Copy)]
 pub(crate) enum Each {
-    /// The input is cut: to no byte, to the first one, and so on to all but the last.
+    /// The input is cut after no byte, after the first one, and so on up to all but the last.
     Cut,
-    /// A put fails: the first one alone, the second one alone, and so on until none does.
+    /// A write fails: the first one alone, the second one alone, and so on until none does.
     Put,
-    /// The sink has room for no byte, for one, and so on to all but the last of the output.
+    /// The sink has room for no byte, for one, and so on up to all but the last of the output.
     Room,
+}
+
+impl Each {
+    /// What changes by this name.
+    pub(crate) fn of(name: &Value) -> Result<Each> {
+        match name.as_str() {
+            Some("cut") => Ok(Each::Cut),
+            Some("put") => Ok(Each::Put),
+            Some("room") => Ok(Each::Room),
+            _ => bail!("nothing that changes"),
+        }
+    }
 }
 
 /// What a run reads, and what fails in it.
@@ -68,39 +72,101 @@ pub(crate) struct Given {
     pub(crate) room: usize,
 }
 
-fn ample_room() -> usize {
-    65_536
-}
-
-impl Row {
-    /// What the row's run reads, and what fails in it.
-    pub(crate) fn given(&self, alloc: Global) -> Result<Given> {
-        Ok(Given {
-            input: self.input(alloc)?,
-            reads: self.reads.clone()?,
-            puts: self.puts.clone()?,
-            room: self.room,
+impl<'v> Row<'v> {
+    /// The program of a row, and its arguments.
+    pub(crate) fn of(alloc: Global, value: &'v Value) -> Result<Row<'v>> {
+        Ok(Row {
+            value,
+            program: Program::of(value)?,
+            words: words_of(alloc, value)?,
         })
     }
 
-    /// The bytes of the input, which stands in one form at most; none without it.
-    fn input(&self, alloc: Global) -> Result<Vec<u8>> {
-        match (&self.input, &self.input_hex, &self.input_parts) {
-            (None, None, None) => Ok(Vec::new(alloc)),
-            (Some(text), None, None) => Ok(Vec::from_slice(alloc, text.as_bytes())?),
-            (None, Some(digits), None) => Ok(hex::decode(alloc, digits.as_str())?),
-            (None, None, Some(parts)) => Ok(repeated(alloc, parts)?),
-            _ => bail!("more than one input"),
-        }
+    /// What the row's run reads, and what fails in it.
+    pub(crate) fn given(&self, alloc: Global) -> Result<Given> {
+        Ok(Given {
+            input: input_of(alloc, self.value)?,
+            reads: numbers(alloc, self.value, "reads")?,
+            puts: numbers(alloc, self.value, "puts")?,
+            room: room_of(self.value)?,
+        })
     }
 }
 
-fn repeated(alloc: Global, parts: &[(String, u64)]) -> Result<Vec<u8>, AllocError> {
+fn words_of(alloc: Global, row: &Value) -> Result<Vec<String>> {
+    let mut words = Vec::new(alloc);
+    for text in texts(alloc, row, "words")? {
+        words.push(String::from_str(alloc, text)?)?;
+    }
+    Ok(words)
+}
+
+/// How many bytes the sink has room for; many if the row does not say it.
+fn room_of(row: &Value) -> Result<usize> {
+    match member(row, "room") {
+        None => Ok(65_536),
+        Some(room) => match room.as_u64() {
+            Some(room) => Ok(room as usize),
+            None => bail!("no number of bytes"),
+        },
+    }
+}
+
+/// The bytes of the input, which is given in one form at most; none without it.
+fn input_of(alloc: Global, row: &Value) -> Result<Vec<u8>> {
+    match (
+        member(row, "input"),
+        member(row, "input_hex"),
+        member(row, "input_parts"),
+    ) {
+        (None, None, None) => Ok(Vec::new(alloc)),
+        (Some(text), None, None) => bytes_of(alloc, text),
+        (None, Some(digits), None) => decoded(alloc, digits),
+        (None, None, Some(parts)) => repeated(alloc, parts),
+        _ => bail!("more than one input"),
+    }
+}
+
+fn bytes_of(alloc: Global, text: &Value) -> Result<Vec<u8>> {
+    match text.as_str() {
+        Some(text) => Ok(Vec::from_slice(alloc, text.as_bytes())?),
+        None => bail!("an input that is no text"),
+    }
+}
+
+fn decoded(alloc: Global, digits: &Value) -> Result<Vec<u8>> {
+    match digits.as_str() {
+        Some(digits) => Ok(hex::decode(alloc, digits)?),
+        None => bail!("digits that are no text"),
+    }
+}
+
+fn repeated(alloc: Global, parts: &Value) -> Result<Vec<u8>> {
     let mut bytes = Vec::new(alloc);
-    for (text, times) in parts {
-        for _time in 0..*times {
-            bytes.extend_from_slice(text.as_bytes())?;
-        }
+    let Some(parts) = parts.as_array() else {
+        bail!("parts that are no array");
+    };
+    for part in parts {
+        add_part(&mut bytes, part)?;
     }
     Ok(bytes)
+}
+
+/// Adds a text as many times as its number says.
+fn add_part(bytes: &mut Vec<u8>, part: &Value) -> Result<()> {
+    let (Some(text), Some(times)) = (text_in(part), times_in(part)) else {
+        bail!("a part that is no text and number");
+    };
+    for _time in 0..times {
+        bytes.extend_from_slice(text.as_bytes())?;
+    }
+    Ok(())
+}
+
+fn text_in(part: &Value) -> Option<&str> {
+    part.get(0usize)?.as_str()
+}
+
+fn times_in(part: &Value) -> Option<u64> {
+    part.get(1usize)?.as_u64()
 }

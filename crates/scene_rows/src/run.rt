@@ -8,13 +8,13 @@ use crate::program::Program;
 use crate::row::Given;
 use anyhow::Result;
 use std::alloc::Global;
-use tui_outside::{MemSink, MemSource, Sink, Source};
+use tui_io::{MemSink, MemSource, Sink, Source};
 use tui_pager_run::run_pager;
 use tui_pages_run::run_pages;
 use tui_panes_run::run_panes;
 use tui_show_run::show;
 
-/// Runs a program over words and what is given, and answers its status and the sink.
+/// Runs a program with arguments and what is given. Returns its status and the sink.
 pub(crate) fn run(
     alloc: Global,
     program: Program,
@@ -29,7 +29,7 @@ pub(crate) fn run(
     Ok((status, sink))
 }
 
-/// The status with which a program ends.
+/// Runs a program, and returns its exit status.
 fn end<S: Source, K: Sink>(
     alloc: Global,
     program: Program,
@@ -37,7 +37,7 @@ fn end<S: Source, K: Sink>(
     source: &mut S,
     sink: &mut K,
 ) -> u8
-    ensures { HasStatus program words.now (transcript_of (S.told source.old) (S.told source.new) (K.told sink.old) (K.told sink.new)) result }
+    ensures { HasStatus program words.now (transcript_of (S.observed source.old) (S.observed source.new) (K.observed sink.old) (K.observed sink.new)) result }
 {
     match program {
         Program::Show => show(alloc, words, source, sink).status(),

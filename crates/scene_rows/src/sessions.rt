@@ -1,62 +1,73 @@
-//! Rows of sessions: what a pager draws over the reads of a terminal.
+//! Rows of sessions: what a pager draws for the reads of a terminal.
 
+use crate::members::{check_keys, list, size, texts};
 use anyhow::{Result, bail};
-use serde::Deserialize;
-use std::alloc::{AllocError, Global};
+use serde_json::Value;
+use std::alloc::Global;
 use std::io::Write;
-use tui_app::run_over;
+use tui_app::{App, run_over};
 use tui_browse_lib::PagerApp;
 use tui_cells::Buffer;
-use tui_outside::MemSink;
+use tui_io::MemSink;
 use tui_pager_lib::Entry;
 use tui_rows::write_rows;
 
-/// The bytes that the rows of a screen may take.
+/// The most bytes of the rows of a screen.
 const ROOM: usize = 65_536;
 
-/// A pager on a terminal of `width` columns and `height` rows.
-#[derive(Drop, Deserialize)]
-#[serde(deny_unknown_fields)]
-pub(crate) struct Session {
-    width: u16,
-    height: u16,
-    /// The title and the body of each entry.
-    entries: Vec<(String, String)>,
-    /// What each read gives.
-    reads: Vec<String>,
+/// Shows a pager on a terminal of `width` columns and `height` rows, with the title and the body of each entry in `entries`. Writes the rows of the first
+/// screen, and of the one after each of `reads`; then the state at the end.
+pub(crate) fn show_session<W: Write>(alloc: Global, session: &Value, out: &mut W) -> Result<()> {
+    check_keys(session, &["width", "height", "entries", "reads"])?;
+    let (width, height) = size(session)?;
+    let entries = entries_of(alloc, session)?;
+    let Ok(mut app) = PagerApp::new(alloc, width, height, entries) else {
+        bail!("no memory for the pager");
+    };
+    tell_screens(alloc, &mut app, session, out)?;
+    write_state(&app, out)
 }
 
-impl Session {
-    /// Writes the rows of the first screen, and of the one behind each read; then the state at the end.
-    pub(crate) fn show<W: Write>(&self, alloc: Global, out: &mut W) -> Result<()> {
-        let entries = self.entries(alloc)?;
-        let reads = bytes_of(alloc, &self.reads)?;
-        let Ok(mut app) = PagerApp::new(alloc, self.width, self.height, entries) else {
-            bail!("no memory for the pager");
-        };
-        let Ok(screens) = run_over(alloc, &mut app, self.width, self.height, &reads) else {
-            bail!("no memory for the screens");
-        };
-        for screen in &screens {
-            tell(alloc, screen, out)?;
-        }
-        tell_state(&app, out)
+/// Writes the rows of the first screen of an app, and of the one after each read up to the one that ends it.
+pub(crate) fn tell_screens<A: App, W: Write>(
+    alloc: Global,
+    app: &mut A,
+    value: &Value,
+    out: &mut W,
+) -> Result<()> {
+    let (width, height) = size(value)?;
+    let reads = reads_of(alloc, value)?;
+    let Ok(screens) = run_over(alloc, app, width, height, &reads) else {
+        bail!("no memory for the screens");
+    };
+    for screen in &screens {
+        write_out(alloc, screen, out)?;
     }
+    Ok(())
+}
 
-    fn entries(&self, alloc: Global) -> Result<Vec<Entry<'_>>, AllocError> {
-        let mut entries = Vec::with_capacity(alloc, self.entries.len())?;
-        for (title, body) in &self.entries {
-            entries.push(Entry {
-                title: title.as_str(),
-                body: body.as_str(),
-            })?;
+fn entries_of(alloc: Global, session: &Value) -> Result<Vec<Entry<'_>>> {
+    let mut entries = Vec::new(alloc);
+    let Some(values) = list(session, "entries") else {
+        bail!("no entries");
+    };
+    for value in values {
+        match entry_of(value) {
+            Some(entry) => entries.push(entry)?,
+            None => bail!("no entry"),
         }
-        Ok(entries)
     }
+    Ok(entries)
+}
+
+fn entry_of(value: &Value) -> Option<Entry<'_>> {
+    let title = value.get(0usize)?.as_str()?;
+    let body = value.get(1usize)?.as_str()?;
+    Some(Entry { title, body })
 }
 
 /// Writes the selected entry, the first entry in the list, and the first line of the body, each counted from 0.
-fn tell_state<W: Write>(app: &PagerApp<'_>, out: &mut W) -> Result<()> {
+fn write_state<W: Write>(app: &PagerApp<'_>, out: &mut W) -> Result<()> {
     let state = app.state();
     match state.selected {
         Some(selected) => write!(out, "state {selected}")?,
@@ -66,17 +77,17 @@ fn tell_state<W: Write>(app: &PagerApp<'_>, out: &mut W) -> Result<()> {
     Ok(())
 }
 
-/// The bytes of each of these reads.
-pub(crate) fn bytes_of(alloc: Global, texts: &[String]) -> Result<Vec<&[u8]>, AllocError> {
-    let mut reads = Vec::with_capacity(alloc, texts.len())?;
-    for text in texts {
+/// The bytes of each read.
+fn reads_of(alloc: Global, value: &Value) -> Result<Vec<&[u8]>> {
+    let mut reads = Vec::new(alloc);
+    for text in texts(alloc, value, "reads")? {
         reads.push(text.as_bytes())?;
     }
     Ok(reads)
 }
 
 /// Writes the rows of a screen, below a line of their own.
-pub(crate) fn tell<W: Write>(alloc: Global, screen: &Buffer, out: &mut W) -> Result<()> {
+fn write_out<W: Write>(alloc: Global, screen: &Buffer, out: &mut W) -> Result<()> {
     let mut sink = MemSink::new(alloc, ROOM, Vec::new(alloc))?;
     if write_rows("screen\n", screen, &mut sink).is_err() {
         bail!("no room for a screen");

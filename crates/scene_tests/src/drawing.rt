@@ -4,7 +4,7 @@ use std::alloc::Global;
 use test_help::shows;
 use tui_cells::{Buffer, Mem, Rect, Widget};
 
-/// Whether a widget draws these rows in an area of this many columns and rows.
+/// Returns whether a widget draws these rows in an area of this many columns and rows.
 pub fn draws<W: Widget>(
     alloc: Global,
     widget: &W,

@@ -1,5 +1,5 @@
-//! The tests of the crates from tui_frames to tui_port that need calls, apart from the crates, so that each is proved but once. Whole runs stand in
-//! scene_rows.
+//! The tests of the library's crates from tui_frames on that need calls, apart from these crates, so that each is proved but once: the calls that no
+//! program makes, and texts of errors. What the programs show is in the rows of scene_rows.
 #![tactic(auto)]
 
 #[cfg(test)]
@@ -11,26 +11,16 @@ mod calendar;
 #[cfg(test)]
 mod drawing;
 #[cfg(test)]
-mod frames;
-#[cfg(test)]
-mod gauges;
-#[cfg(test)]
-mod inputs;
+mod item;
 #[cfg(test)]
 mod lines;
 #[cfg(test)]
 mod lists;
 #[cfg(test)]
-mod outside;
+mod pager;
 #[cfg(test)]
 mod paragraph;
 #[cfg(test)]
-mod scene;
-#[cfg(test)]
-mod scrollbars;
-#[cfg(test)]
 mod table;
-#[cfg(test)]
-mod tabs;
 #[cfg(test)]
 mod texts;

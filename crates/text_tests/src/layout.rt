@@ -1,14 +1,9 @@
-//! Windows and columns worked by hand.
+//! Windows and columns worked out by hand.
 
 use std::alloc::Global;
-use std::test::Fail;
-use test_help::{are_named, is_no_name};
 use tui_cells::Mem;
 use tui_layout::Constraint::{Fill, Length, Max, Min, Percentage, Ratio};
-use tui_layout::{
-    Constraint, Direction, Flex, Fraction, HighlightSpacing, Segment, Sums, Window, split,
-    window_of,
-};
+use tui_layout::{Constraint, Flex, Segment, Sums, Window, split, window_of};
 
 fn sums_of(alloc: Global, heights: &[u64]) -> Mem<Sums> {
     let mut sums = Sums::with_capacity(alloc, heights.len())?;
@@ -18,7 +13,7 @@ fn sums_of(alloc: Global, heights: &[u64]) -> Mem<Sums> {
     Ok(sums)
 }
 
-/// Whether a list of items of these heights shows the items from the first to the one before the end.
+/// Returns whether a list of items of these heights shows the items from `first` up to `end`, which is not shown.
 fn is_window(
     alloc: Global,
     heights: &[u64],
@@ -58,46 +53,17 @@ const WINDOWS: [(&[u64], (u64, usize, Option<usize>, usize), (usize, usize)); 20
     (&[1, 1], (0, 0, Some(1), 0), (1, 1)),
     (&[0, 0, 0], (0, 2, Some(0), 0), (0, 3)),
     (&[], (5, 7, Some(2), 1), (0, 0)),
-    // Sums that 64 bits do not hold.
+    // Sums that overflow 64 bits.
     (&[u64::MAX, u64::MAX, 1], (u64::MAX, 0, Some(1), 0), (1, 2)),
     (&[1, u64::MAX, u64::MAX], (u64::MAX, 2, None, 0), (2, 3)),
     (&[u64::MAX, 1, 2], (u64::MAX, 0, Some(2), MOST), (1, 3)),
 ];
 
 #[test]
-fn windows_move_least(rt: HostRuntime) -> Result<(), Fail> {
+fn windows_move_least(rt: HostRuntime) -> Mem<()> {
     for &(heights, list, window) in &WINDOWS {
-        assert!(rt; is_window(rt.alloc(), heights, list, window)?);
+        assert!(&rt; is_window(rt.alloc(), heights, list, window)?);
     }
-    Ok(())
-}
-
-fn push_ones(sums: &mut Sums, count: u32) -> Mem<()> {
-    for _i in 0..count {
-        sums.push(1)?;
-    }
-    Ok(())
-}
-
-#[test]
-fn windows_of_many_items(rt: HostRuntime) -> Result<(), Fail> {
-    let mut sums = Sums::new(rt.alloc());
-    push_ones(&mut sums, 1000)?;
-    assert!(rt;
-        window_of(rt.alloc(), &sums, 10, 0, Some(999), 0)
-            == Window {
-                first: 990,
-                end: 1000
-            }
-    );
-    push_ones(&mut sums, 64536)?;
-    assert!(rt;
-        window_of(rt.alloc(), &sums, 1000, 70000, Some(40000), 5)
-            == Window {
-                first: 39995,
-                end: 40995
-            }
-    );
     Ok(())
 }
 
@@ -107,19 +73,19 @@ fn is_split(
     (length, spacing): (u16, u16),
     constraints: &[Constraint],
     flex: Flex,
-    wanted: &[(u16, u16)],
+    expected: &[(u16, u16)],
 ) -> Mem<bool> {
     let columns = split(alloc, length, spacing, constraints, flex)?;
-    Ok(are_columns(&columns, wanted))
+    Ok(are_columns(&columns, expected))
 }
 
-fn are_columns(columns: &[Segment], wanted: &[(u16, u16)]) -> bool {
-    for (column, wanted) in columns.iter().zip(wanted) {
-        if (column.start, column.width) != *wanted {
+fn are_columns(columns: &[Segment], expected: &[(u16, u16)]) -> bool {
+    for (column, expected) in columns.iter().zip(expected) {
+        if (column.start, column.width) != *expected {
             return false;
         }
     }
-    columns.len() == wanted.len()
+    columns.len() == expected.len()
 }
 
 /// Constraints, the length and the spacing, and the columns.
@@ -156,9 +122,9 @@ const COLUMNS: [(&[Constraint], (u16, u16), &[(u16, u16)]); 11] = [
 ];
 
 #[test]
-fn columns_share_their_length(rt: HostRuntime) -> Result<(), Fail> {
-    for &(constraints, length, wanted) in &COLUMNS {
-        assert!(rt; is_split(rt.alloc(), length, constraints, Flex::End, wanted)?);
+fn columns_share_their_length(rt: HostRuntime) -> Mem<()> {
+    for &(constraints, length, expected) in &COLUMNS {
+        assert!(&rt; is_split(rt.alloc(), length, constraints, Flex::End, expected)?);
     }
     Ok(())
 }
@@ -167,13 +133,6 @@ const THREE: [Constraint; 3] = [
     Constraint::Length(2),
     Constraint::Max(3),
     Constraint::Length(1),
-];
-
-/// The columns in lengths of up to 7, whatever the flex.
-const NARROW: [(u16, [(u16, u16); 3]); 3] = [
-    (0, [(0, 0), (0, 0), (0, 0)]),
-    (1, [(0, 0), (1, 0), (1, 0)]),
-    (7, [(0, 2), (3, 3), (7, 0)]),
 ];
 
 /// The columns in a length of 40 and in the longest one.
@@ -203,88 +162,11 @@ const WIDE: [(Flex, u16, [(u16, u16); 3]); 14] = [
 ];
 
 // Three columns of 2, 3 and 1 with a spacing of 1. At 40 the space is 38 and the rest 32, at 65535 they are 65533 and
-// 65527; at lengths of up to 7 there is no rest.
+// 65527.
 #[test]
-fn flexes_move_columns(rt: HostRuntime) -> Result<(), Fail> {
-    for (flex, length, wanted) in &WIDE {
-        assert!(rt; is_split(rt.alloc(), (*length, 1), &THREE, *flex, wanted)?);
+fn flexes_move_columns(rt: HostRuntime) -> Mem<()> {
+    for (flex, length, expected) in &WIDE {
+        assert!(&rt; is_split(rt.alloc(), (*length, 1), &THREE, *flex, expected)?);
     }
     Ok(())
-}
-
-#[test]
-fn columns_without_a_rest_are_not_moved(rt: HostRuntime) -> Result<(), Fail> {
-    for (flex, _name) in &FLEXES {
-        for (length, wanted) in &NARROW {
-            assert!(rt; is_split(rt.alloc(), (*length, 1), &THREE, *flex, wanted)?);
-        }
-    }
-    Ok(())
-}
-
-#[test]
-fn one_column_is_at_the_start(rt: HostRuntime) -> Result<(), Fail> {
-    let one = [Constraint::Length(3)];
-    assert!(rt; is_split(rt.alloc(), (10, 1), &one, Flex::SpaceBetween, &[(0, 3)])?);
-    Ok(())
-}
-
-const FLEXES: [(Flex, &str); 7] = [
-    (Flex::Legacy, "Legacy"),
-    (Flex::Start, "Start"),
-    (Flex::End, "End"),
-    (Flex::Center, "Center"),
-    (Flex::SpaceBetween, "SpaceBetween"),
-    (Flex::SpaceEvenly, "SpaceEvenly"),
-    (Flex::SpaceAround, "SpaceAround"),
-];
-
-#[test]
-fn flexes_have_names(rt: HostRuntime) -> Mem<()> {
-    assert!(&rt; are_named(rt.alloc(), &FLEXES)?);
-    assert!(&rt; is_no_name::<Flex>("start") && Flex::default() == Flex::Start);
-    Ok(())
-}
-
-#[test]
-fn directions_have_names(rt: HostRuntime) -> Mem<()> {
-    let names = [
-        (Direction::Horizontal, "Horizontal"),
-        (Direction::Vertical, "Vertical"),
-    ];
-    assert!(&rt; are_named(rt.alloc(), &names)?);
-    assert!(&rt; is_no_name::<Direction>("Vertical "));
-    Ok(())
-}
-
-const SPACINGS: [(HighlightSpacing, &str); 3] = [
-    (HighlightSpacing::Always, "Always"),
-    (HighlightSpacing::WhenSelected, "WhenSelected"),
-    (HighlightSpacing::Never, "Never"),
-];
-
-#[test]
-fn spacings_have_names(rt: HostRuntime) -> Mem<()> {
-    assert!(&rt; are_named(rt.alloc(), &SPACINGS)?);
-    assert!(&rt; is_no_name::<HighlightSpacing>(""));
-    Ok(())
-}
-
-#[test]
-fn spacings_add_a_column(rt: HostRuntime) {
-    for (spacing, without, with) in [
-        (HighlightSpacing::Always, true, true),
-        (HighlightSpacing::default(), false, true),
-        (HighlightSpacing::Never, false, false),
-    ] {
-        assert!(&rt; (spacing.should_add(false), spacing.should_add(true)) == (without, with));
-    }
-}
-
-#[test]
-fn fractions_are_compared(rt: HostRuntime) {
-    assert!(&rt;
-        Fraction::new(1, 2) == Fraction { num: 1, den: 2 }
-            && Fraction::new(2, 4) != Fraction::new(1, 2)
-    );
 }

@@ -1,12 +1,10 @@
-//! Values from the standards, and each public call once.
+//! Graphemes and columns by values from the standards, and texts by the calls that no program makes.
 
-use std::alloc::Global;
-use test_help::{are_named, is_no_name};
-use tui_cells::{Color, Mem, Style};
-use tui_text::{Alignment, Line, Span, StyledGrapheme, Text, cell_width, printable_byte};
+use tui_cells::{Mem, Style};
+use tui_text::{Line, Span, Text, cell_width};
 
-/// Texts and their graphemes, with a bar between two: samples of UAX #29, table 1a and its test
-/// file, where clusters with a control character are left out.
+/// Texts and their graphemes, separated by bars: samples from UAX #29, table 1a and its test file. Clusters with a
+/// control character are left out.
 const CLUSTERS: [(&str, &str); 15] = [
     ("ab", "a|b"),
     ("g\u{308}", "g\u{308}"),
@@ -37,8 +35,8 @@ const CLUSTERS: [(&str, &str); 15] = [
     ("a\u{a0}b", "a|\u{a0}|b"),
 ];
 
-fn are_graphemes(line: &Line, wanted: &str) -> bool {
-    let mut symbols = wanted.split('|');
+fn are_graphemes(line: &Line, expected: &str) -> bool {
+    let mut symbols = expected.split('|');
     for grapheme in line.styled_graphemes(Style::new()) {
         if symbols.next() != Some(grapheme.symbol) {
             return false;
@@ -49,14 +47,14 @@ fn are_graphemes(line: &Line, wanted: &str) -> bool {
 
 #[test]
 fn graphemes_are_extended_clusters(rt: HostRuntime) -> Mem<()> {
-    for (text, clusters) in &CLUSTERS {
+    for &(text, clusters) in &CLUSTERS {
         let line = Line::raw(rt.alloc(), text)?;
         assert!(&rt; are_graphemes(&line, clusters));
     }
     Ok(())
 }
 
-/// Texts, their columns, and those where ambiguous characters are wide: categories of UAX #11.
+/// Texts, their columns, and their columns if ambiguous characters are wide: categories of UAX #11.
 const WIDTHS: [(&str, u16, usize); 10] = [
     ("", 0, 0),
     ("a", 1, 1),
@@ -70,162 +68,24 @@ const WIDTHS: [(&str, u16, usize); 10] = [
     ("\u{1f1e9}\u{1f1ea}", 2, 2),
 ];
 
+fn are_columns(text: &str, width: u16, width_cjk: usize) -> bool {
+    let span = Span::raw(text);
+    cell_width(text) == width && span.width() == usize::from(width) && span.width_cjk() == width_cjk
+}
+
 #[test]
 fn widths_are_columns(rt: HostRuntime) {
     for &(text, width, width_cjk) in &WIDTHS {
-        assert!(&rt; cell_width(text) == width);
-        assert!(&rt; Span::raw(text).width() == usize::from(width));
-        assert!(&rt; Span::raw(text).width_cjk() == width_cjk);
-    }
-    assert!(&rt; Span::raw("a\tb\u{4e00}\r\n").width() == 4);
-    assert!(&rt; printable_byte("~") == Some(b'~') && printable_byte("\u{a1}").is_none());
-}
-
-/// Graphemes, and whether they are white space.
-const BLANKS: [(&str, bool); 7] = [
-    ("", true),
-    (" ", true),
-    ("\u{3000}", true),
-    ("\u{200b}", true),
-    ("\u{a0}", false),
-    ("a", false),
-    (" \u{301}", false),
-];
-
-#[test]
-fn blanks_are_white_space(rt: HostRuntime) {
-    for &(symbol, is_blank) in &BLANKS {
-        let grapheme = StyledGrapheme {
-            symbol,
-            style: Style::new(),
-        };
-        assert!(&rt; grapheme.is_whitespace() == is_blank);
+        assert!(&rt; are_columns(text, width, width_cjk));
     }
 }
 
-/// Texts and the contents of their lines, with a bar between two.
-const LINES: [(&str, &str); 9] = [
-    ("", ""),
-    ("a", "a"),
-    ("a\n", "a"),
-    ("\n", ""),
-    ("\n\n", "|"),
-    ("a\r\n\nb", "a||b"),
-    ("a\r\r\nb", "a\r|b"),
-    ("a\r", "a\r"),
-    ("a\rb\n\r", "a\rb|\r"),
-];
-
-/// Whether these are the contents of the spans of all lines, one after another.
-fn are_spans(text: &Text, wanted: &str) -> bool {
-    let mut contents = wanted.split('|');
-    for line in text.lines() {
-        for span in line.spans() {
-            if contents.next() != Some(span.content) {
-                return false;
-            }
-        }
-    }
-    contents.next().is_none()
-}
-
 #[test]
-fn texts_end_lines_at_newlines(rt: HostRuntime) -> Mem<()> {
-    for (content, lines) in &LINES {
-        let text = Text::raw(rt.alloc(), content)?;
-        assert!(&rt; are_spans(&text, lines));
-    }
-    Ok(())
-}
-
-#[test]
-fn lines_are_built(rt: HostRuntime) -> Mem<()> {
-    let blue = Style::new().bg(Color::Blue);
-    let mut line = Line::new(rt.alloc())
-        .style(blue)
-        .alignment(Alignment::Right);
-    line.push_span(Span::raw("e"))?;
-    line.push_span(Span::raw("\u{301}\u{a1}"))?;
-    assert!(&rt; is_built(&line)?);
-    Ok(())
-}
-
-fn is_built(line: &Line) -> Mem<bool> {
-    Ok(
-        line.width() == 2
-            && line.width_cjk() == 3
-            && line.line_style().bg == Some(Color::Blue)
-            && line.line_alignment() == Some(Alignment::Right)
-            && line.clone()? == *line,
-    )
-}
-
-#[test]
-fn graphemes_have_the_style_of_their_span_over_that_of_the_line(rt: HostRuntime) -> Mem<()> {
-    let red = Style::new().fg(Color::Red);
-    let mut line = Line::new(rt.alloc()).style(Style::new().bg(Color::Blue));
-    line.push_span(Span::styled("e", red))?;
-    let first = StyledGrapheme {
-        symbol: "e",
-        style: red.bg(Color::Blue),
-    };
-    let mut graphemes = line.styled_graphemes(Style::new());
-    assert!(&rt; graphemes.next() == Some(first));
-    Ok(())
-}
-
-#[test]
-fn a_styled_line_is_not_the_raw_one(rt: HostRuntime) -> Mem<()> {
-    let styled = Line::styled(rt.alloc(), "a", Style::new().fg(Color::Red))?;
-    assert!(&rt; styled.line_alignment().is_none());
-    assert!(&rt; !is_raw(rt.alloc(), &styled, "a")?);
-    Ok(())
-}
-
-fn is_raw(alloc: Global, line: &Line, content: &str) -> Mem<bool> {
-    Ok(*line == Line::raw(alloc, content)?)
-}
-
-#[test]
-fn texts_are_built(rt: HostRuntime) -> Mem<()> {
-    let red = Style::new().fg(Color::Red);
-    let mut text = Text::new(rt.alloc())
-        .style(red)
-        .alignment(Alignment::Center);
-    assert!(&rt; (text.width(), text.height()) == (0, 0));
-    push_two(rt.alloc(), &mut text)?;
-    assert!(&rt; has_two_lines(&text)?);
-    Ok(())
-}
-
-fn push_two(alloc: Global, text: &mut Text<'_>) -> Mem<()> {
-    push_raw(alloc, text, "a")?;
-    push_raw(alloc, text, "\u{4e00}")
-}
-
-fn push_raw<'a>(alloc: Global, text: &mut Text<'a>, content: &'a str) -> Mem<()> {
-    text.push_line(Line::raw(alloc, content)?)
-}
-
-fn has_two_lines(text: &Text) -> Mem<bool> {
-    Ok(
-        text.height() == 2
-            && text.width() == 2
-            && text.text_style().fg == Some(Color::Red)
-            && text.text_alignment() == Some(Alignment::Center)
-            && text.clone()? == *text,
-    )
-}
-
-const ALIGNMENTS: [(Alignment, &str); 3] = [
-    (Alignment::Left, "Left"),
-    (Alignment::Center, "Center"),
-    (Alignment::Right, "Right"),
-];
-
-#[test]
-fn alignments_have_names(rt: HostRuntime) -> Mem<()> {
-    assert!(&rt; are_named(rt.alloc(), &ALIGNMENTS)?);
-    assert!(&rt; is_no_name::<Alignment>("left") && Alignment::default() == Alignment::Left);
+fn texts_are_copied(rt: HostRuntime) -> Mem<()> {
+    let mut line = Line::new(rt.alloc());
+    line.push_span(Span::raw("a"))?;
+    let mut text = Text::new(rt.alloc());
+    text.push_line(line)?;
+    drop(text.clone()?);
     Ok(())
 }

@@ -1,4 +1,4 @@
--- Laws: events of a terminal, and what is known behind bytes of it, that `==` calls equal are the same.
+-- Laws: terminal events, decoder states and decoder steps that `==` calls equal are the same.
 use Rattle.std.specs.Prelude.{◌≡◌, Bool, true, Option, Some, None, refl}
 use Rattle.std.specs.contracts.prelude.OptionPartialEq as options
 use Rattle.std.proofs.Common.{rules}
@@ -7,16 +7,16 @@ use Rattle.tui_keys.specs.contracts.event.Event as event_type
 use Rattle.tui_keys.specs.contracts.event.EventPartialEq as event
 use Rattle.tui_keys.specs.contracts.event.ModifiersPartialEq as modifiers
 use Rattle.tui_keys.specs.contracts.event.MotionPartialEq as motion
-use Rattle.tui_keys.specs.contracts.keys.KeysPartialEq as keys
+use Rattle.tui_keys.specs.contracts.keys.KeyDecoderPartialEq as keys
 use Rattle.tui_keys.specs.contracts.keys.PendingPartialEq as pending
-use Rattle.tui_keys.specs.contracts.keys.StepPartialEq as step
+use Rattle.tui_keys.specs.contracts.keys.DecodedPartialEq as step
 use Rattle.tui_keys.specs.declared.event.Event.{Event}
 use Rattle.tui_keys.specs.declared.event.Event.TheVariants.{With}
 use Rattle.tui_keys.specs.declared.event.Modifiers.{Modifiers}
 use Rattle.tui_keys.specs.declared.event.Motion.{Motion}
-use Rattle.tui_keys.specs.declared.keys.Keys.{Keys}
+use Rattle.tui_keys.specs.declared.keys.KeyDecoder.{KeyDecoder}
 use Rattle.tui_keys.specs.declared.keys.Pending.{Pending}
-use Rattle.tui_keys.specs.declared.keys.Step.{Step}
+use Rattle.tui_keys.specs.declared.keys.Decoded.{Decoded}
 
 same_modifiers : (a b : Modifiers) → modifiers.TheImpl.ghosts.eq a b ≡ true → a ≡ b
 same_modifiers a b e = Prim.search rules
@@ -34,8 +34,8 @@ same_event a b e = Prim.search rules
 same_pending : (a b : Pending) → pending.TheImpl.ghosts.eq a b ≡ true → a ≡ b
 same_pending a b e = Prim.search rules
 
--- so is what is known
-pub same_keys : (a b : Keys) → keys.TheImpl.ghosts.eq a b ≡ true → a ≡ b
+-- so are decoder states
+pub same_keys : (a b : KeyDecoder) → keys.TheImpl.ghosts.eq a b ≡ true → a ≡ b
 same_keys a b e =
     let both = and_parts _ (pending.TheImpl.ghosts.eq a.pending b.pending) e in
     Prim.search (rules, both.0, same_pending a.pending b.pending both.1)
@@ -49,8 +49,8 @@ same_events None (Some y) e = Prim.search (rules, e)
 same_events (Some x) None e = Prim.search (rules, e)
 same_events (Some x) (Some y) e = Prim.search (rules, same_event x y e)
 
--- and what a byte makes
-pub same_step : (a b : Step) → step.TheImpl.ghosts.eq a b ≡ true → a ≡ b
+-- and the results of decoding a byte
+pub same_step : (a b : Decoded) → step.TheImpl.ghosts.eq a b ≡ true → a ≡ b
 same_step a b e =
     let first = and_parts (keys.TheImpl.ghosts.eq a.keys b.keys) _ e in
     let second = and_parts (eq_events a.first b.first) _ first.1 in

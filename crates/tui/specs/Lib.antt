@@ -11,7 +11,7 @@ pub use Rattle.tui_frames.specs as frames
 pub use Rattle.tui_keys.specs as keys
 pub use Rattle.tui_layout.specs as layout
 pub use Rattle.tui_lists.specs as lists
-pub use Rattle.tui_outside.specs as outside
+pub use Rattle.tui_io.specs as outside
 pub use Rattle.tui_pager_lib.specs as pager
 pub use Rattle.tui_pages_lib.specs as pages
 pub use Rattle.tui_panes_lib.specs as panes
@@ -21,4 +21,4 @@ pub use Rattle.tui_scene.specs as scene
 pub use Rattle.tui_table.specs as table
 pub use Rattle.tui_terminal.specs as terminal
 pub use Rattle.tui_text.specs as text
-pub use Rattle.tui_tty.specs as tty
+pub use Rattle.tui_terminal_model.specs as tty

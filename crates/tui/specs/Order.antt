@@ -11,6 +11,6 @@ by_sides a b =
     ordering_then (nat_cmp a.left b.left)
     (ordering_then (nat_cmp a.right b.right) (ordering_then (nat_cmp a.top b.top) (nat_cmp a.bottom b.bottom)))
 
--- two paddings compare as their sides do, one after another
+-- two paddings compare as their sides do, in this order
 abbrev pub PaddingIsOrdered : Type 0
 PaddingIsOrdered = (a b : Padding) → padding.TheImpl.ghosts.cmp a b ≡ by_sides a b

@@ -1,7 +1,7 @@
--- Texts that `==` calls equal.
+-- Strings that `==` calls equal.
 use Rattle.std.specs.Cmp.Lexicographic.{pointwise}
 use Rattle.std.specs.Prelude.{ℕ, List, Bool, nat_eq}
 
--- texts are equal where their bytes are
+-- two strings are equal if their bytes are
 abbrev pub same_text : List ℕ → List ℕ → Bool
 same_text = pointwise nat_eq

@@ -1,6 +1,7 @@
-//! A program that lives on a terminal: an app takes what the terminal sends and draws itself, and `run` shows what it draws.
+//! Interactive programs. An app handles what the terminal sends and draws itself; `run` shows on the terminal what it
+//! draws.
 
 pub use tui_app::{
-    App, AppEnd, Flow, MOST_READS, MemTerminal, Port, READ_ROOM, Terminal, run, run_over,
-    say_too_small,
+    App, AppEnd, Flow, IoTerminal, MAX_READS, MemTerminal, READ_CAPACITY, Terminal, draw_too_small,
+    run, run_over,
 };

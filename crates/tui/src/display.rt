@@ -1,3 +1,3 @@
-//! Displays: each line that is read makes the next screen.
+//! Displays: each input line determines the next screen.
 
 pub use tui_display::{DisplayEnd, Painter, show_lines};

@@ -1,3 +1,3 @@
-//! A text of one line that is typed, and its state.
+//! A single-line text input and its state.
 
 pub use tui_input::{Input, InputState};

@@ -1,4 +1,4 @@
-//! The library under one name: what programs call of the crates below, in modules named as those of ratatui.
+//! The library under one name: the public items of the crates below, in modules named like those of ratatui.
 #![tactic(auto)]
 
 pub mod app;

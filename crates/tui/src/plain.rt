@@ -1,4 +1,4 @@
-//! Plain values, which `==` tells apart.
+//! Values that `==` compares exactly.
 
 ghost use Rattle.std.proofs.Common.{rules};
 ghost use Rattle.std.specs.Prelude.{◌≡◌, ◌&&◌, true};
@@ -24,7 +24,9 @@ use crate::report::{Column, Piece, ReportError};
 use crate::scene::DrawError;
 use crate::style::{Color, Modifier, ParseError, Style};
 use crate::symbols::MergeStrategy;
-use crate::terminal::{Cursor, Depth, Event, Keys, Modifiers, Motion, Output, Step, Trust};
+use crate::terminal::{
+    Cursor, Decoded, Depth, Event, KeyDecoder, KnownWidths, Modifiers, Motion, Output,
+};
 use crate::text::{Lines, Span, StyledGrapheme};
 use crate::widgets::{
     BorderType, Borders, Clear, Dimmed, Fill, GaugeError, HighlightSpacing, ListDirection,
@@ -35,20 +37,21 @@ use crate::widgets::{
 use tui_cells::{bar, border, line, scrollbar};
 use tui_para::{Counter, LineEnd, Mark};
 
-/// A value without texts and lists, which is copied. `==` answers true for equal values alone, and a clone is the value.
+/// A `Copy` type without strings and lists. `==` returns true only for equal values, and a clone is equal to its
+/// original.
 pub trait Plain: Copy + Eq {
     ghost same: { (a b : Self) → Self.eq a b ≡ true → a ≡ b };
 
     ghost cloned: { (a b : Self) → Self.is_clone a b → b ≡ a };
 }
 
-/// A value that lends texts, or that `==` does not compare, which is copied. A clone is the value.
+/// A `Copy` type that borrows strings, or that `==` doesn't compare. A clone is equal to its original.
 pub trait Copied: Copy {
     ghost cloned: { (a b : Self) → Self.is_clone a b → b ≡ a };
 }
 
-/// Entries of a pager are equal exactly where their titles and their bodies are the same texts, and columns of a report exactly where their
-/// names are the same text and their sizes are equal.
+/// Two entries of a pager are equal exactly if their titles and their bodies are equal strings. Two columns of a report
+/// are equal exactly if their names are equal strings and their sizes are equal.
 pub fn text_laws<'a>()
     ensures entry { (a b : Entry) → ⟦<Entry<'a> as PartialEq>⟧.eq a b ≡ (same_text a.title.now b.title.now && same_text a.body.now b.body.now) }
     ensures column { (a b : Column) → ⟦<Column<'a> as PartialEq>⟧.eq a b
@@ -252,7 +255,7 @@ impl Plain for Output {
     ghost cloned = { Prim.search rules };
 }
 
-impl Plain for Trust {
+impl Plain for KnownWidths {
     ghost same = { Prim.search rules };
 
     ghost cloned = { Prim.search rules };
@@ -264,7 +267,7 @@ impl Plain for Event {
     ghost cloned = { Prim.search rules };
 }
 
-impl Plain for Keys {
+impl Plain for KeyDecoder {
     ghost same = { same_keys };
 
     ghost cloned = { Prim.search rules };
@@ -282,7 +285,7 @@ impl Plain for Motion {
     ghost cloned = { Prim.search rules };
 }
 
-impl Plain for Step {
+impl Plain for Decoded {
     ghost same = { same_step };
 
     ghost cloned = { Prim.search rules };

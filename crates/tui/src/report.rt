@@ -1,3 +1,3 @@
-//! Reports: records of texts in columns, cut into pages.
+//! Reports: records of strings in columns, cut into pages.
 
 pub use tui_pages_lib::{Column, Pages, Piece, Record, Report, ReportError};

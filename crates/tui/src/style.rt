@@ -1,3 +1,3 @@
-//! Styles and what they are made of.
+//! Styles, colours and modifiers.
 
 pub use tui_cells::{Color, Modifier, ParseError, Style, Styled};

@@ -1,4 +1,4 @@
-//! The widgets, their states and their traits, and the dates of a Monthly.
+//! The widgets, their states and their traits, and the dates of a `Monthly`.
 
 pub use jiff::civil::Date;
 pub use tui_bars::{

@@ -1,3 +1,3 @@
 pub mod Taking
 pub mod Stopping
-pub mod Living
+pub mod Looping

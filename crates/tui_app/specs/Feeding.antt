@@ -1,23 +1,23 @@
 -- The events of a read, byte by byte.
 use Rattle.std.specs.Prelude.{◌≡◌, List, None}
 use Rattle.tui_app.specs.Behaviour.{Behaviour}
-use Rattle.tui_app.specs.Lives.{Takes, last_size}
+use Rattle.tui_app.specs.EventLoop.{Takes, last_size}
 use Rattle.tui_app.specs.declared.app.Flow.TheVariants.{Go}
-use Rattle.tui_app.specs.declared.feed.Fed.{Fed}
+use Rattle.tui_app.specs.declared.feed.Reaction.{Reaction}
 use Rattle.tui_app.specs.declared.feed.AfterRead.{AfterRead}
 use Rattle.tui_keys.specs.declared.event.Event.{Event}
-use Rattle.tui_keys.specs.declared.keys.Keys.{Keys}
+use Rattle.tui_keys.specs.declared.keys.KeyDecoder.{KeyDecoder}
 
--- events are taken, unless an earlier one quit
-pub record IsTold {A : Type 0} (b : Behaviour A) (old : A) (fed : Fed) (es : List Event) (new : A) (next : Fed) : Type 0 where
-  pub takes : Takes b old fed.flow es new next.flow
-  pub size : next.size ≡ last_size fed.size es
+-- events are handled, unless an earlier one quit
+pub record HandlesEvents {A : Type 0} (b : Behaviour A) (old : A) (reaction : Reaction) (es : List Event) (new : A) (next : Reaction) : Type 0 where
+  pub takes : Takes b old reaction.flow es new next.flow
+  pub size : next.size ≡ last_size reaction.size es
 
 -- before any event
-abbrev pub unfed : Fed
-unfed = record { flow = Go; size = None }
+abbrev pub no_reaction : Reaction
+no_reaction = record { flow = Go; size = None }
 
--- events are taken, and this is pending then
-pub record IsFed {A : Type 0} (b : Behaviour A) (old : A) (fed : Fed) (es : List Event) (keys : Keys) (new : A) (reading : AfterRead) : Type 0 where
-  pub told : IsTold b old fed es new reading.fed
+-- events are handled, and this is pending afterwards
+pub record HandlesBytes {A : Type 0} (b : Behaviour A) (old : A) (reaction : Reaction) (es : List Event) (keys : KeyDecoder) (new : A) (reading : AfterRead) : Type 0 where
+  pub handled : HandlesEvents b old reaction es new reading.reaction
   pub keys_are : reading.keys ≡ keys

@@ -1,6 +1,6 @@
 pub mod Behaviour
-pub mod Tape
-pub mod Lives
+pub mod Trace
+pub mod EventLoop
 pub mod Session
 pub mod Run
 pub mod Feeding

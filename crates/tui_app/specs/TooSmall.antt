@@ -6,8 +6,8 @@ use Rattle.tui_cells.specs.Layers.{Painted}
 use Rattle.tui_cells.specs.Style.{no_style}
 use Rattle.tui_text.specs.Setting.{set_layers, styled_text}
 
--- a blank screen on which, from its first cell on, stands that it is too small
-pub record SaysTooSmall (screen : Screen) : Type 0 where
+-- a blank screen with the text `too small`, from its first cell on
+pub record DrawsTooSmall (screen : Screen) : Type 0 where
   pub before : Screen
   pub filled : IsFilled before.area blank before
   pub painted : Painted (set_layers before.area (record { x = before.area.x; y = before.area.y }) (styled_text (codes "too small") no_style) 9) before screen

@@ -1,4 +1,4 @@
-//! Apps.
+//! The `App` trait.
 
 ghost use Rattle.std.specs.Prelude.{◌≡◌, IfOk, OnOk};
 ghost use Rattle.tui_app.specs.Behaviour.{Behaviour};
@@ -12,25 +12,27 @@ use tui_keys::Event;
 /// How an app goes on after an event.
 #[derive(Clone, Copy, Debug, PartialEq, Eq)]
 pub enum Flow {
-    /// On, and what has changed on the screen is sent.
+    /// Go on, and send what has changed on the screen.
     Go,
-    /// On, and all of the screen is sent anew.
+    /// Go on, and send the whole screen.
     Redraw,
-    /// Not at all.
+    /// End the session.
     Quit,
 }
 
-/// What events move, and what draws itself.
+/// An interactive program: it handles events and draws itself.
 pub trait App: Sized {
-    // What an event makes of it, and what it draws.
+    // What an event does to the app, and what the app draws.
     ghost behaviour: { Behaviour Self };
 
-    /// Takes an event. `NoMemory` ends the session, and nothing is said of the app then.
+    /// Handles an event. `NoMemory` ends the session; the state of the app is unspecified then.
     fn step(&mut self, alloc: Global, event: Event) -> Mem<Flow>
         ensures { IfOk result (λ flow. behaviour.steps self.old event self.new flow) };
 
-    /// Draws into a blank buffer, whose area it keeps, and answers where the cursor is shown. With None, or outside the area, it is hidden.
-    /// `NoMemory` as for `step`.
+    /// Draws into a blank buffer, whose area must not change. Returns the position at which the cursor is
+    /// shown; with `None`, or outside the area, the cursor is hidden.
+    ///
+    /// `NoMemory` is as for `step`.
     fn draw(&mut self, alloc: Global, buf: &mut Buffer) -> Mem<Option<Position>>
         requires { IsFilled buf.old.area blank buf.old }
         ensures draws { IfOk result (λ place. behaviour.draws self.old buf.new place self.new) }

@@ -1,16 +1,16 @@
-//! The events of a read.
+//! Handling the events of a read.
 
 ghost use Rattle.std.specs.Prelude.{◌≡◌, IfOk, Some};
-ghost use Rattle.tui_app.specs.Feeding.{IsFed, IsTold, unfed};
-ghost use Rattle.tui_app.specs.Lives.{Takes, heard, joined, keys_heard, sized};
-ghost use Rattle.tui_keys.specs.Events.{events_of, keys_after, made, some_of};
+ghost use Rattle.tui_app.specs.Feeding.{HandlesBytes, HandlesEvents, no_reaction};
+ghost use Rattle.tui_app.specs.EventLoop.{Takes, events_of_read, joined, keys_after_read, sized};
+ghost use Rattle.tui_keys.specs.Events.{events_of, keys_after, events_in, some_of};
 ghost use Rattle.tui_keys.specs.Steps.{paused};
 
 use crate::app::{App, Flow};
-use crate::terminal::READ_ROOM;
+use crate::terminal::READ_CAPACITY;
 use std::alloc::Global;
 use tui_cells::Mem;
-use tui_keys::{Event, Keys, Step};
+use tui_keys::{Decoded, Event, KeyDecoder};
 
 /// Columns and rows.
 #[derive(Clone, Copy, Debug, PartialEq, Eq)]
@@ -21,24 +21,29 @@ pub struct Size {
 
 /// How the app goes on, and the last size among the events.
 #[derive(Clone, Copy, Debug, PartialEq, Eq)]
-pub(crate) struct Fed {
+pub(crate) struct Reaction {
     pub(crate) flow: Flow,
     pub(crate) size: Option<Size>,
 }
 
-/// What a read leaves.
+/// The state after a read.
 #[derive(Clone, Copy, Debug, PartialEq, Eq)]
 pub(crate) struct AfterRead {
-    pub(crate) keys: Keys,
-    pub(crate) fed: Fed,
+    pub(crate) keys: KeyDecoder,
+    pub(crate) reaction: Reaction,
 }
 
-/// Hands the events of a read to the app. The end of one that was not full is a pause.
-pub(crate) fn feed<A: App>(alloc: Global, app: &mut A, keys: Keys, bytes: &[u8]) -> Mem<AfterRead>
-    ensures { IfOk result (IsFed A.behaviour app.old unfed (heard keys bytes.now) (keys_heard keys bytes.now) app.new) }
+/// Hands the events of a read to the app. The end of a short read is a pause for the decoder.
+pub(crate) fn feed<A: App>(
+    alloc: Global,
+    app: &mut A,
+    keys: KeyDecoder,
+    bytes: &[u8],
+) -> Mem<AfterRead>
+    ensures { IfOk result (HandlesBytes A.behaviour app.old no_reaction (events_of_read keys bytes.now) (keys_after_read keys bytes.now) app.new) }
 {
     let reading = feed_bytes(alloc, app, keys, bytes)?;
-    if bytes.len() < READ_ROOM {
+    if bytes.len() < READ_CAPACITY {
         pause(alloc, app, reading)
     } else {
         Ok(reading)
@@ -46,57 +51,75 @@ pub(crate) fn feed<A: App>(alloc: Global, app: &mut A, keys: Keys, bytes: &[u8])
 }
 
 // Hands the events of bytes to the app.
-fn feed_bytes<A: App>(alloc: Global, app: &mut A, keys: Keys, bytes: &[u8]) -> Mem<AfterRead>
-    ensures { IfOk result (IsFed A.behaviour app.old unfed (events_of keys bytes.now) (keys_after keys bytes.now) app.new) }
+fn feed_bytes<A: App>(alloc: Global, app: &mut A, keys: KeyDecoder, bytes: &[u8]) -> Mem<AfterRead>
+    ensures { IfOk result (HandlesBytes A.behaviour app.old no_reaction (events_of keys bytes.now) (keys_after keys bytes.now) app.new) }
 {
     let mut pending = keys;
-    let mut fed = Fed {
+    let mut reaction = Reaction {
         flow: Flow::Go,
         size: None,
     };
     'bytes: for i in 0..bytes.len() {
         let step = pending.step(bytes[i]);
-        fed = tell_step(alloc, app, step, fed)?;
+        reaction = handle_decoded(alloc, app, step, reaction)?;
         pending = step.keys;
     }
-    Ok(AfterRead { keys: pending, fed })
+    Ok(AfterRead {
+        keys: pending,
+        reaction,
+    })
 }
 
-// Hands the events of a pause to the app.
+// Hands the events of the pause to the app.
 fn pause<A: App>(alloc: Global, app: &mut A, reading: AfterRead) -> Mem<AfterRead>
-    ensures { IfOk result (IsFed A.behaviour app.old reading.fed (made (paused reading.keys)) (paused reading.keys).keys app.new) }
+    ensures { IfOk result (HandlesBytes A.behaviour app.old reading.reaction (events_in (paused reading.keys)) (paused reading.keys).keys app.new) }
 {
     let step = reading.keys.pause();
-    let fed = tell_step(alloc, app, step, reading.fed)?;
+    let reaction = handle_decoded(alloc, app, step, reading.reaction)?;
     Ok(AfterRead {
         keys: step.keys,
-        fed,
+        reaction,
     })
 }
 
 // Hands both events of a step to the app, unless it has quit.
-fn tell_step<A: App>(alloc: Global, app: &mut A, step: Step, fed: Fed) -> Mem<Fed>
-    ensures { IfOk result (IsTold A.behaviour app.old fed (made step) app.new) }
+fn handle_decoded<A: App>(
+    alloc: Global,
+    app: &mut A,
+    step: Decoded,
+    reaction: Reaction,
+) -> Mem<Reaction>
+    ensures { IfOk result (HandlesEvents A.behaviour app.old reaction (events_in step) app.new) }
 {
-    let next = tell(alloc, app, step.first, fed)?;
-    tell(alloc, app, step.second, next)
+    let next = handle(alloc, app, step.first, reaction)?;
+    handle(alloc, app, step.second, next)
 }
 
-fn tell<A: App>(alloc: Global, app: &mut A, event: Option<Event>, fed: Fed) -> Mem<Fed>
-    ensures { IfOk result (IsTold A.behaviour app.old fed (some_of event) app.new) }
+fn handle<A: App>(
+    alloc: Global,
+    app: &mut A,
+    event: Option<Event>,
+    reaction: Reaction,
+) -> Mem<Reaction>
+    ensures { IfOk result (HandlesEvents A.behaviour app.old reaction (some_of event) app.new) }
 {
     match event {
-        None => Ok(fed),
-        Some(event) => tell_event(alloc, app, event, fed),
+        None => Ok(reaction),
+        Some(event) => handle_event(alloc, app, event, reaction),
     }
 }
 
-fn tell_event<A: App>(alloc: Global, app: &mut A, event: Event, fed: Fed) -> Mem<Fed>
-    ensures { IfOk result (IsTold A.behaviour app.old fed (some_of (Some event)) app.new) }
+fn handle_event<A: App>(
+    alloc: Global,
+    app: &mut A,
+    event: Event,
+    reaction: Reaction,
+) -> Mem<Reaction>
+    ensures { IfOk result (HandlesEvents A.behaviour app.old reaction (some_of (Some event)) app.new) }
 {
-    let size = sized(fed.size, event);
-    let flow = take_event(alloc, app, event, fed.flow)?;
-    Ok(Fed { flow, size })
+    let size = sized(reaction.size, event);
+    let flow = take_event(alloc, app, event, reaction.flow)?;
+    Ok(Reaction { flow, size })
 }
 
 fn take_event<A: App>(alloc: Global, app: &mut A, event: Event, flow: Flow) -> Mem<Flow>

@@ -1,24 +1,25 @@
-//! Programs that people move by what a terminal sends: an app takes events and draws itself, `run` shows what it draws.
+//! Interactive terminal programs. An `App` handles events and draws itself; `run` runs its event loop.
 #![tactic(auto)]
 
 mod app;
-mod ending;
+mod buffers;
 mod feed;
+mod io_terminal;
+mod iteration;
 mod memory_terminal;
+mod outcome;
 mod over;
-mod port;
 mod runs;
+mod setup;
 mod shown;
-mod surface;
 mod terminal;
 mod too_small;
-mod turn;
 
 pub use app::{App, Flow};
-pub use ending::{AppEnd, MOST_READS};
+pub use io_terminal::IoTerminal;
 pub use memory_terminal::MemTerminal;
+pub use outcome::{AppEnd, MAX_READS};
 pub use over::run_over;
-pub use port::Port;
 pub use runs::run;
-pub use terminal::{READ_ROOM, Terminal};
-pub use too_small::say_too_small;
+pub use terminal::{READ_CAPACITY, Terminal};
+pub use too_small::draw_too_small;

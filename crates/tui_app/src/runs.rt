@@ -1,4 +1,4 @@
-//! Whole runs.
+//! The event loop.
 
 ghost use Rattle.std.specs.Prelude.{◌≡◌, IfOk};
 ghost use Rattle.tui_app.specs.Parts.{Closed, IsBegun, Opened};
@@ -6,24 +6,30 @@ ghost use Rattle.tui_app.specs.Run.{IsAppRun};
 ghost use Rattle.tui_cells.specs.Rect.{area_of};
 
 use crate::app::App;
-use crate::ending::{AppEnd, MOST_READS};
+use crate::buffers::LoopBuffers;
 use crate::feed::Size;
+use crate::iteration::iteration;
+use crate::outcome::{AppEnd, MAX_READS};
+use crate::setup::LoopSetup;
 use crate::shown::{blank, draw, send};
-use crate::surface::Surface;
 use crate::terminal::Terminal;
-use crate::turn::turn;
 use std::alloc::Global;
 use tui_cells::Mem;
-use tui_keys::Keys;
-use tui_outside::{Sink, WriteFault};
+use tui_io::{Sink, WriteFault};
+use tui_keys::KeyDecoder;
 use tui_terminal::{enter, leave};
-use tui_tty::Output;
+use tui_terminal_model::Output;
 
-/// Runs an app on a terminal of `width` columns and `height` rows: enters, shows what the app draws, then for each read hands it the events and
-/// shows what it draws then, and leaves. A size that is told is that of the screen from then on. Of `output` all holds but the cursor, which is
-/// where the app wants it. At most `MOST_READS` reads are made, which are 2^32, and behind the last of them it ends by `ManyReads`.
-/// Each ending but `WriteFault` leaves the terminal, unless there was no memory for the first screen: then nothing is put.
-/// Behind a `WriteFault` nothing more is put. The app is then as its last step or draw left it; behind a `NoMemory` nothing is said of it.
+/// Runs an app on a terminal of `width` columns and `height` rows. Enters the alternate screen and shows what
+/// the app draws. Then for each read hands it the events, and shows what it draws then. At the end leaves the
+/// alternate screen.
+///
+/// A size that the terminal reports is the size of the screen from then on. The cursor of `output` is
+/// ignored: it is where the app wants it. After `MAX_READS` (2^32) reads the session ends with `ManyReads`.
+///
+/// At the end the alternate screen is left, with two exceptions: after a `WriteFault` nothing more is
+/// written, and nothing is written at all if memory runs out before the first screen. The app is as its last
+/// step or draw left it; after `NoMemory` its state is unspecified.
 pub fn run<A: App, T: Terminal>(
     alloc: Global,
     app: &mut A,
@@ -32,46 +38,51 @@ pub fn run<A: App, T: Terminal>(
     height: u16,
     terminal: &mut T,
 ) -> AppEnd
-    ensures { IsAppRun A.behaviour output app.old (area_of 0 0 width height) (T.told terminal.old) (T.told terminal.new) app.new result }
+    ensures { IsAppRun A.behaviour output app.old (area_of 0 0 width height) (T.observed terminal.old) (T.observed terminal.new) app.new result }
 {
-    let Ok(mut surface) = begin(alloc, app, Size { width, height }) else {
+    let Ok(mut buffers) = begin(alloc, app, Size { width, height }) else {
         return AppEnd::NoMemory;
     };
-    let Ok(()) = show_first(output, &surface, terminal) else {
+    let Ok(()) = show_first(output, &buffers, terminal) else {
         return AppEnd::WriteFault;
     };
-    'turns: for _i in 0..MOST_READS {
-        if let Some(end) = turn(alloc, app, output, &mut surface, terminal) {
+    let setup = LoopSetup { alloc, output };
+    'iterations: for _i in 0..MAX_READS {
+        if let Some(end) = iteration(setup, app, &mut buffers, terminal) {
             return close(end, terminal);
         }
     }
     close(AppEnd::ManyReads, terminal)
 }
 
-pub(crate) fn begin<A: App>(alloc: Global, app: &mut A, size: Size) -> Mem<Surface>
+pub(crate) fn begin<A: App>(alloc: Global, app: &mut A, size: Size) -> Mem<LoopBuffers>
     ensures { IfOk result (IsBegun A.behaviour app.old (area_of 0 0 size.width size.height) app.new) }
 {
     let mut shown = blank(alloc, size)?;
     let spare = blank(alloc, size)?;
     let place = draw(alloc, app, &mut shown)?;
-    Ok(Surface {
-        keys: Keys::new(),
+    Ok(LoopBuffers {
+        keys: KeyDecoder::new(),
         shown,
         place,
         spare,
     })
 }
 
-fn show_first<K: Sink>(output: Output, surface: &Surface, sink: &mut K) -> Result<(), WriteFault>
-    requires { surface.now.shown.area ≡ surface.now.spare.area }
-    ensures { Opened output surface.now (K.told sink.old) (K.told sink.new) result }
+fn show_first<K: Sink>(
+    output: Output,
+    buffers: &LoopBuffers,
+    sink: &mut K,
+) -> Result<(), WriteFault>
+    requires { buffers.now.shown.area ≡ buffers.now.spare.area }
+    ensures { Opened output buffers.now (K.observed sink.old) (K.observed sink.new) result }
 {
     enter(sink)?;
-    send(output, surface, true, sink)
+    send(output, buffers, true, sink)
 }
 
 fn close<K: Sink>(end: AppEnd, sink: &mut K) -> AppEnd
-    ensures { Closed end (K.told sink.old) (K.told sink.new) result }
+    ensures { Closed end (K.observed sink.old) (K.observed sink.new) result }
 {
     match end {
         AppEnd::WriteFault => AppEnd::WriteFault,

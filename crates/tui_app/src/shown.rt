@@ -1,22 +1,23 @@
-//! Drawing, and sending what was drawn.
+//! Drawing a screen, and sending it.
 
 ghost use Rattle.std.specs.Prelude.{◌≡◌, IfOk, None, OnOk};
-ghost use Rattle.tui_app.specs.Parts.{IsSurfaceDrawn, IsSurfaceShown, Sent};
-ghost use Rattle.tui_app.specs.Session.{cursor_for, is_anew, output_at};
+ghost use Rattle.tui_app.specs.Parts.{IsNextDrawn, IsNextShown, Sent};
+ghost use Rattle.tui_app.specs.Session.{cursor_for, is_in_full, output_at};
 ghost use Rattle.tui_cells.specs.Rect.{area_of};
-ghost use Rattle.tui_tty.specs.Shows.{IsPlace};
+ghost use Rattle.tui_terminal_model.specs.Shows.{IsCursorInside};
 
 use crate::app::{App, Flow};
-use crate::feed::{Fed, Size};
-use crate::surface::Surface;
+use crate::buffers::LoopBuffers;
+use crate::feed::{Reaction, Size};
+use crate::setup::LoopSetup;
 use std::alloc::Global;
 use std::mem;
 use tui_cells::{Buffer, Mem, Position, Rect};
-use tui_outside::{Sink, WriteFault};
+use tui_io::{Sink, WriteFault};
 use tui_terminal::{write_changes, write_full};
-use tui_tty::{Cursor, Output};
+use tui_terminal_model::{Cursor, Output};
 
-/// Makes the buffer blank, and draws into it.
+/// Clears the buffer, and draws into it.
 pub(crate) fn draw<A: App>(alloc: Global, app: &mut A, buf: &mut Buffer) -> Mem<Option<Position>>
     ensures draws { IfOk result (λ place. A.behaviour.draws app.old buf.new place app.new) }
     ensures area { OnOk result (buf.new.area ≡ buf.old.area) }
@@ -25,7 +26,7 @@ pub(crate) fn draw<A: App>(alloc: Global, app: &mut A, buf: &mut Buffer) -> Mem<
     app.draw(alloc, buf)
 }
 
-/// A buffer of a size.
+/// Creates a blank buffer of a size.
 pub(crate) fn blank(alloc: Global, size: Size) -> Mem<Buffer>
     ensures { IfOk result (λ b. b.area ≡ area_of 0 0 size.width size.height) }
 {
@@ -40,26 +41,25 @@ pub(crate) fn blank(alloc: Global, size: Size) -> Mem<Buffer>
     )
 }
 
-/// Draws, and sends what is to be sent: what has changed, or where a size was told or the app asked for it, all.
+/// Draws, and sends the screen: the changes, or all of it if a size was reported or the app asked for it.
 pub(crate) fn show<A: App, K: Sink>(
-    alloc: Global,
+    setup: LoopSetup,
     app: &mut A,
-    output: Output,
-    surface: &mut Surface,
-    fed: Fed,
+    buffers: &mut LoopBuffers,
+    reaction: Reaction,
     sink: &mut K,
 ) -> Mem<Result<(), WriteFault>>
-    requires { surface.old.shown.area ≡ surface.old.spare.area }
-    ensures { IsSurfaceShown A.behaviour output fed app.old surface.old app.new surface.new (K.told sink.old) (K.told sink.new) result }
+    requires { buffers.old.shown.area ≡ buffers.old.spare.area }
+    ensures { IsNextShown A.behaviour setup.output reaction app.old buffers.old app.new buffers.new (K.observed sink.old) (K.observed sink.new) result }
 {
-    draw_next(alloc, app, surface, fed.size)?;
-    Ok(send(output, surface, is_anew(fed), sink))
+    draw_next(setup.alloc, app, buffers, reaction.size)?;
+    Ok(send(setup.output, buffers, is_in_full(reaction), sink))
 }
 
-fn is_anew(fed: Fed) -> bool
-    ensures { result ≡ is_anew fed.flow fed.size }
+fn is_in_full(reaction: Reaction) -> bool
+    ensures { result ≡ is_in_full reaction.flow reaction.size }
 {
-    match (fed.flow, fed.size) {
+    match (reaction.flow, reaction.size) {
         (Flow::Go, None) => false,
         _ => true,
     }
@@ -68,73 +68,74 @@ fn is_anew(fed: Fed) -> bool
 fn draw_next<A: App>(
     alloc: Global,
     app: &mut A,
-    surface: &mut Surface,
+    buffers: &mut LoopBuffers,
     size: Option<Size>,
 ) -> Mem<()>
-    requires { surface.old.shown.area ≡ surface.old.spare.area }
-    ensures { OnOk result (IsSurfaceDrawn A.behaviour size app.old surface.old app.new surface.new) }
+    requires { buffers.old.shown.area ≡ buffers.old.spare.area }
+    ensures { OnOk result (IsNextDrawn A.behaviour size app.old buffers.old app.new buffers.new) }
 {
     match size {
-        None => draw_again(alloc, app, surface),
-        Some(size) => draw_at(alloc, app, surface, size),
+        None => draw_again(alloc, app, buffers),
+        Some(size) => draw_at(alloc, app, buffers, size),
     }
 }
 
-// Draws into the spare buffer, and the two change places.
-fn draw_again<A: App>(alloc: Global, app: &mut A, surface: &mut Surface) -> Mem<()>
-    requires { surface.old.shown.area ≡ surface.old.spare.area }
-    ensures { OnOk result (IsSurfaceDrawn A.behaviour None app.old surface.old app.new surface.new) }
+// Draws into the spare buffer, and swaps the two.
+fn draw_again<A: App>(alloc: Global, app: &mut A, buffers: &mut LoopBuffers) -> Mem<()>
+    requires { buffers.old.shown.area ≡ buffers.old.spare.area }
+    ensures { OnOk result (IsNextDrawn A.behaviour None app.old buffers.old app.new buffers.new) }
 {
-    surface.place = draw(alloc, app, &mut surface.spare)?;
-    mem::swap(&mut surface.shown, &mut surface.spare);
+    buffers.place = draw(alloc, app, &mut buffers.spare)?;
+    mem::swap(&mut buffers.shown, &mut buffers.spare);
     Ok(())
 }
 
 // Draws into a new buffer.
-fn draw_at<A: App>(alloc: Global, app: &mut A, surface: &mut Surface, size: Size) -> Mem<()>
-    ensures { OnOk result (IsSurfaceDrawn A.behaviour (Some size) app.old surface.old app.new surface.new) }
+fn draw_at<A: App>(alloc: Global, app: &mut A, buffers: &mut LoopBuffers, size: Size) -> Mem<()>
+    ensures { OnOk result (IsNextDrawn A.behaviour (Some size) app.old buffers.old app.new buffers.new) }
 {
     let mut shown = blank(alloc, size)?;
     let spare = blank(alloc, size)?;
-    surface.place = draw(alloc, app, &mut shown)?;
-    drop(mem::replace(&mut surface.shown, shown));
-    drop(mem::replace(&mut surface.spare, spare));
+    buffers.place = draw(alloc, app, &mut shown)?;
+    drop(mem::replace(&mut buffers.shown, shown));
+    drop(mem::replace(&mut buffers.spare, spare));
     Ok(())
 }
 
-/// Sends all of the buffer that is to be shown, or what makes a terminal that shows the spare one show it.
+/// Sends the whole buffer, or what changes a terminal that shows the spare buffer into one that
+/// shows the other.
 pub(crate) fn send<K: Sink>(
     output: Output,
-    surface: &Surface,
-    anew: bool,
+    buffers: &LoopBuffers,
+    in_full: bool,
     sink: &mut K,
 ) -> Result<(), WriteFault>
-    requires { surface.now.shown.area ≡ surface.now.spare.area }
-    ensures { Sent output anew surface.now (K.told sink.old) (K.told sink.new) result }
+    requires { buffers.now.shown.area ≡ buffers.now.spare.area }
+    ensures { Sent output in_full buffers.now (K.observed sink.old) (K.observed sink.new) result }
 {
-    let output = output_at(output, surface.place, &surface.shown);
-    if anew {
-        write_full(&surface.shown, output, sink)
+    let output = output_at(output, buffers.place, &buffers.shown);
+    if in_full {
+        write_full(&buffers.shown, output, sink)
     } else {
-        write_changes(&surface.spare, &surface.shown, output, sink)
+        write_changes(&buffers.spare, &buffers.shown, output, sink)
     }
 }
 
 fn output_at(output: Output, place: Option<Position>, buf: &Buffer) -> Output
     ensures is { result ≡ output_at output place buf.now.area }
-    ensures inside { IsPlace result.cursor buf.now }
+    ensures inside { IsCursorInside result.cursor buf.now }
 {
     Output {
         depth: output.depth,
-        trust: output.trust,
+        widths: output.widths,
         cursor: cursor_for(place, buf),
-        hold: output.hold,
+        synchronized: output.synchronized,
     }
 }
 
 fn cursor_for(place: Option<Position>, buf: &Buffer) -> Cursor
     ensures is { result ≡ cursor_for place buf.now.area }
-    ensures inside { IsPlace result buf.now }
+    ensures inside { IsCursorInside result buf.now }
 {
     match place {
         None => Cursor::Hidden,
@@ -144,7 +145,7 @@ fn cursor_for(place: Option<Position>, buf: &Buffer) -> Cursor
 
 fn cursor_at(p: Position, buf: &Buffer) -> Cursor
     ensures is { result ≡ cursor_for (Some p) buf.now.area }
-    ensures inside { IsPlace result buf.now }
+    ensures inside { IsCursorInside result buf.now }
 {
     if buf.area().contains(p) {
         Cursor::At(p)

@@ -1,20 +1,22 @@
-//! Terminals.
+//! The `Terminal` trait.
 
 ghost use Rattle.std.specs.Prelude.{MatchResult, take};
 ghost use Rattle.std.specs.Io.{ReadsAtMost};
-ghost use Rattle.tui_app.specs.Tape.{Missed, Took, gave};
+ghost use Rattle.tui_app.specs.Trace.{ReadFailed, Traced, read_entry};
 
-use tui_outside::{Failed, Sink};
+use tui_io::{Failed, Sink};
 
-/// How many bytes a read gives at most. One that gives fewer has given all that had come.
-pub const READ_ROOM: usize = 1024;
+/// The largest number of bytes that a read gives. A shorter read has given all that was available.
+pub const READ_CAPACITY: usize = 1024;
 
-/// What bytes are put to, and what gives bytes. What it tells is its tape: the bytes that were put, and between them a mark for each read that
-/// did not fail, with the bytes that it gave; and how often a put or a read has failed.
+/// A sink that also gives input. Its trace can be observed: the written bytes, and between them an entry
+/// for each read that did not fail, with the bytes that it gave. The number of failed writes and reads can
+/// be observed too.
 pub trait Terminal: Sink {
-    /// Waits for input. Gives some bytes, from the front of `into` on, and answers how many. None is the end. `Failed` leaves the tape as it was.
-    fn wait(&mut self, into: &mut [u8; READ_ROOM]) -> Result<usize, Failed>
+    /// Waits for input. Copies some bytes to the start of `into`, and returns their number; 0 is the end of
+    /// the input. `Failed` leaves the trace as it was.
+    fn wait(&mut self, into: &mut [u8; READ_CAPACITY]) -> Result<usize, Failed>
         ensures bound { ReadsAtMost result into.new }
-        ensures tape { MatchResult result (λ n. Took (Self.told self.old) (Self.told self.new) (gave (take n into.new)))
-            (λ _. Missed (Self.told self.old) (Self.told self.new)) };
+        ensures trace { MatchResult result (λ n. Traced (Self.observed self.old) (Self.observed self.new) (read_entry (take n into.new)))
+            (λ _. ReadFailed (Self.observed self.old) (Self.observed self.new)) };
 }

@@ -1,19 +1,20 @@
 //! What an app shows on a screen that has no room for it.
 
 ghost use Rattle.std.specs.Prelude.{◌≡◌, IsOk, OnOk};
-ghost use Rattle.tui_app.specs.TooSmall.{SaysTooSmall};
+ghost use Rattle.tui_app.specs.TooSmall.{DrawsTooSmall};
 ghost use Rattle.tui_cells.specs.Buffer.{IsFilled};
 ghost use Rattle.tui_cells.specs.Cell.{blank};
 
 use tui_cells::{Buffer, Mem, Position, Style};
 use tui_text::set_stringn_in;
 
-/// Writes `too small` into a blank buffer, from its first cell on and as much of it as its first row has columns for. It takes no memory.
-pub fn say_too_small(buf: &mut Buffer) -> Mem<()>
+/// Writes `too small` into a blank buffer, from its first cell on, as far as it fits in the first row.
+/// Never allocates.
+pub fn draw_too_small(buf: &mut Buffer) -> Mem<()>
     requires { IsFilled buf.old.area blank buf.old }
-    ensures says { OnOk result (SaysTooSmall buf.new) }
+    ensures says { OnOk result (DrawsTooSmall buf.new) }
     ensures area { OnOk result (buf.new.area ≡ buf.old.area) }
-    ensures light { IsOk result }
+    ensures allocation_free { IsOk result }
 {
     let area = buf.area();
     let at = Position {

@@ -1,22 +1,25 @@
-//! Laws of sessions, each a function that does nothing.
+//! Laws of sessions. Each is a function with an empty body.
 
-ghost use Rattle.tui_app_laws.specs.Overs.{OverEndsThere, OverIsLived};
+ghost use Rattle.tui_app_laws.specs.Overs.{OverEndsThere, OverMatchesEventLoop};
 ghost use Rattle.tui_app_laws.specs.Showing.{WaitingShows};
 
 use tui_app::App;
-use tui_tty::Output;
+use tui_terminal_model::Output;
 
-/// Whenever a session waits for input, any terminal that has read what was put shows the screen that the app draws after the events of all that was
-/// read, whatever it showed before, and has the cursor where the app wants it. What was put is commands, also where one text follows another: no
-/// text of a cell begins one, and if their numbers fit in 64 bits no other commands have these bytes, but for where one of two neighbouring symbols
-/// ends. What leaves it then gives the main screen back.
+/// Whenever a session waits for input, any terminal that has read what was written shows the screen that the
+/// app draws after the events so far. It does so whatever it showed before, and its cursor is where the app
+/// wants it. Leaving then gives the main screen back.
+///
+/// The bytes written are commands throughout, and no text of a cell begins one. If their numbers fit in 64
+/// bits, no other commands have these bytes, except for where one of two adjacent symbols ends.
 pub fn waiting_law<A: App>(output: Output)
     ensures { WaitingShows A.behaviour output }
 {}
 
-/// The screens that `run_over` draws are those of a session: an app comes to stand somewhere after some reads exactly where it has screens over
-/// them, one more than there are reads, of which the last is the one that it waits with.
+/// The screens that `run_over` draws are those of a session. The event loop reaches a state after some reads
+/// exactly if there are screens of these reads that end in it. There is one more screen than there are reads,
+/// and the last is the screen that the session waits with.
 pub fn over_law<A: App>()
-    ensures lives { OverIsLived A.behaviour }
+    ensures event_loop { OverMatchesEventLoop A.behaviour }
     ensures ends { OverEndsThere A.behaviour }
 {}

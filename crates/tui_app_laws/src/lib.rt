@@ -1,4 +1,4 @@
-//! What a terminal shows while an app lives on it.
+//! What a terminal shows while an app runs on it.
 #![tactic(auto)]
 
 mod laws;

@@ -1,6 +1,6 @@
-pub mod LightNumbers
+pub mod AllocationFreeNumbers
 pub mod GaugeStrokes
-pub mod StandingBars
+pub mod BarLevels
 pub mod SparklineBars
 pub mod Ticks
 pub mod Walks

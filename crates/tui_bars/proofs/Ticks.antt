@@ -23,7 +23,7 @@ reached greatest a whole some le = grind (arith, nat_tests)
 pub tick_laws : TickLaws
 unfolding ticks
 tick_laws = record {
-  order = λ greatest value more length le. ordered greatest _ _ (8 * length) (mul-le-mul_right (8 * length) le);
+  monotone = λ greatest value more length le. ordered greatest _ _ (8 * length) (mul-le-mul_right (8 * length) le);
   full = λ greatest value length some le.
       let whole : 8 * length * greatest ≤ value * (8 * length) = grind (arith, mul-le-mul_right {m = greatest} {n = value} (8 * length) le) in
       reached greatest _ (8 * length) some ((le-div_iff_mul-le {k = greatest} {x = 8 * length} {y = value * (8 * length)} some).1 whole);

@@ -1,4 +1,4 @@
--- The walks of a bar chart.
+-- The passes over a bar chart.
 use Rattle.std.proofs.Common.{
   ◌≡◌,
   ℕ,
@@ -42,7 +42,7 @@ use Rattle.std.proofs.lemmas.List.Folds.{list_any_at}
 use Rattle.std.proofs.lemmas.List.{drop_all, get_or-map, get_or-take, length-map, length-take-le}
 use Rattle.tui_cells.specs.declared.rect.Rect.{Rect}
 use Rattle.tui_cells.specs.declared.style.Style.{Style}
-use Rattle.tui_cells.specs.Cell.{dress}
+use Rattle.tui_cells.specs.Cell.{set_style}
 use Rattle.tui_cells.specs.Rect.{covers, intersection_of}
 use Rattle.tui_layout.specs.declared.direction.Direction.{Direction}
 use Rattle.tui_layout.specs.declared.direction.Direction.TheVariants.{Vertical}
@@ -56,19 +56,19 @@ use Rattle.tui_cells.specs.Style.{patched}
 use Rattle.tui_cells.proofs.Painting.{Painted-none, Painted-then}
 use Rattle.tui_frames.specs.Space.{past}
 use Rattle.tui_bars.proofs.GaugeStrokes.{ok_then}
-use Rattle.tui_bars.specs.Areas.{put_layers}
+use Rattle.tui_bars.specs.Areas.{fill_layers}
 use Rattle.tui_bars.specs.BarChart.{BarChartData, BarData, GroupData, value_text}
-use Rattle.tui_bars.specs.ChartStrokes.{bar_layers, directed_layers, group_layers, upright_plan, walk_layers}
-use Rattle.tui_bars.specs.Lying.{beyond_layers, filled_of, group_row_layers, left_layers, lying_layers, middle_of, row_value_layers, strip_layers, within_layers}
+use Rattle.tui_bars.specs.ChartStrokes.{bar_layers, directed_layers, group_layers, vertical_plan, walk_layers}
+use Rattle.tui_bars.specs.HorizontalBars.{beyond_layers, filled_of, group_row_layers, left_layers, horizontal_bar_layers, middle_of, row_value_layers, strip_layers, within_layers}
 use Rattle.tui_bars.specs.Shown.{PlacedBar, Shown, bars_of, place_after, placed_bars, shown_groups, shown_in, space_after, step_of}
-use Rattle.tui_bars.specs.Upright.{group_label_layers, has_room, value_place, value_text_layers}
+use Rattle.tui_bars.specs.VerticalBars.{group_label_layers, has_room, value_place, value_text_layers}
 use Rattle.tui_cells.specs.declared.position.Position.{Position}
 use Rattle.tui_text.specs.Setting.{set_layers, styled_text}
 use Rattle.tui_text.specs.Span.{raw_span}
 use Rattle.tui_text.specs.Width.{span_width}
 use Rattle.tui_bars.specs.declared.plan.Pass.{Pass}
 use Rattle.tui_bars.specs.declared.plan.Pass.TheVariants.{Columns, Texts, Rows}
-use Rattle.tui_bars.specs.declared.plan.Plan.{Plan}
+use Rattle.tui_bars.specs.declared.plan.ChartPlan.{ChartPlan}
 
 -- one more bar
 pub bar_more : {A : Type 0} (f : A → BarData) (xs : List A) (c : BarChartData) (paint : PlacedBar → List Layer) (at next j n : ℕ) (x : A) (a b d : Screen) → j < n →
@@ -92,14 +92,14 @@ bar_done f xs c paint at j n a le within =
     let e : drop j (take n (map f xs)) ≡ [] = drop_all j (take n (map f xs)) (rw (length-take-le n (map f xs) within) le) in rw e (Painted-none a)
 
 -- a group's label and then its bars
-pub group_texts : {T E : Type 0} (result : Result T E) (c : BarChartData) (plan : Plan) (pass : Pass) (s : Shown) (a b d : Screen) → pass ≡ Texts →
+pub group_texts : {T E : Type 0} (result : Result T E) (c : BarChartData) (plan : ChartPlan) (pass : Pass) (s : Shown) (a b d : Screen) → pass ≡ Texts →
     Painted (group_label_layers c plan s) a b → OnOk result (Painted (flat_map (bar_layers c plan pass) (bars_of c s)) b d) →
     OnOk result (Painted (group_layers c plan pass s) a d)
 unfolding group_layers
 group_texts result c plan pass s a b d e p q = rw e (ok_then result _ _ p (rw e at q))
 
 -- a group's bars and then its label
-pub group_rows : {T E : Type 0} (result : Result T E) (c : BarChartData) (plan : Plan) (pass : Pass) (s : Shown) (a b d : Screen) → pass ≡ Rows →
+pub group_rows : {T E : Type 0} (result : Result T E) (c : BarChartData) (plan : ChartPlan) (pass : Pass) (s : Shown) (a b d : Screen) → pass ≡ Rows →
     Painted (flat_map (bar_layers c plan pass) (bars_of c s)) a b → OnOk result (Painted (group_row_layers c plan s) b d) →
     OnOk result (Painted (group_layers c plan pass s) a d)
 unfolding group_layers
@@ -129,26 +129,26 @@ unfolding shown_groups
 group_done f xs c paint at space i a le =
     let e : drop i (map f xs) ≡ [] = drop_all i (map f xs) (rw (length-map xs f) le) in rw e (Painted-none a)
 
--- a bar that lies, with its label and value
-pub row_painted : {T E : Type 0} (result : Result T E) (c : BarChartData) (plan : Plan) (at : ℕ) (bar : BarData) (filled middle : ℕ) (style value_style : Style) (text : List ℕ)
+-- a horizontal bar with its label and value
+pub row_painted : {T E : Type 0} (result : Result T E) (c : BarChartData) (plan : ChartPlan) (at : ℕ) (bar : BarData) (filled middle : ℕ) (style value_style : Style) (text : List ℕ)
     (a b d e g : Screen) → filled ≡ filled_of plan bar → middle ≡ middle_of c at → style ≡ patched c.bar_style bar.style → value_style ≡ patched c.value_style bar.value_style →
     text ≡ value_text bar → Painted (strip_layers c plan at filled style) a b → Painted (left_layers plan middle bar) b d →
     Painted (within_layers plan middle filled text value_style) d e → OnOk result (Painted (beyond_layers plan middle filled text style) e g) →
-    OnOk result (Painted (lying_layers c plan at bar) a g)
-unfolding lying_layers row_value_layers
+    OnOk result (Painted (horizontal_bar_layers c plan at bar) a g)
+unfolding horizontal_bar_layers row_value_layers
 row_painted result c plan at bar filled middle style value_style text a b d e g fs ms ss vs ts p q r last =
     rw (← fs, ← ms, ← ss, ← vs, ← ts) (ok_then result _ _ (Painted-then p q) (ok_then result _ _ r last))
 
-pub strip_painted : {T E : Type 0} (result : Result T E) (c : BarChartData) (plan : Plan) (at filled : ℕ) (style : Style) (x w : ℕ) (a b d : Screen) →
+pub strip_painted : {T E : Type 0} (result : Result T E) (c : BarChartData) (plan : ChartPlan) (at filled : ℕ) (style : Style) (x w : ℕ) (a b d : Screen) →
     x ≡ past plan.start filled → w ≡ plan.length - filled →
-    Painted (put_layers plan.area (record { x = plan.start; y = at; width = filled; height = c.width }) c.symbols.full style) a b →
-    OnOk result (Painted (put_layers plan.area (record { x = x; y = at; width = w; height = c.width }) c.symbols.empty style) b d) →
+    Painted (fill_layers plan.area (record { x = plan.start; y = at; width = filled; height = c.width }) c.symbols.full style) a b →
+    OnOk result (Painted (fill_layers plan.area (record { x = x; y = at; width = w; height = c.width }) c.symbols.empty style) b d) →
     OnOk result (Painted (strip_layers c plan at filled style) a d)
 unfolding strip_layers
 strip_painted result c plan at filled style x w a b d xs ws p q = rw (← xs, ← ws) (ok_then result _ _ p q)
 
--- a value's text that has room
-pub value_text_painted : (c : BarChartData) (plan : Plan) (at filled : ℕ) (text : List ℕ) (style : Style) (place : Position) (a b : Screen) (fits : Bool) →
+-- a value's text that fits
+pub value_text_painted : (c : BarChartData) (plan : ChartPlan) (at filled : ℕ) (text : List ℕ) (style : Style) (place : Position) (a b : Screen) (fits : Bool) →
     fits ≡ has_room c.width (span_width false (raw_span text)) filled → not fits ≡ false → place ≡ value_place c plan at text →
     Painted (set_layers plan.area place (styled_text text style) 65535) a b → Painted (value_text_layers c plan at filled text style) a b
 unfolding value_text_layers
@@ -163,22 +163,22 @@ value_text_painted c plan at filled text style place a b fits es not_not ps p =
 
 -- a label in its part of the clip
 pub titled_painted : {T E : Type 0} (result : Result T E) (c : BarChartData) (clip part : Rect) (label : LineData) (inside : Rect) (alignment : Alignment) (a b d : Screen) →
-    inside ≡ intersection_of clip part → alignment ≡ alignment_of label → Painted (stroke (covers inside) (dress c.label_style)) a b →
+    inside ≡ intersection_of clip part → alignment ≡ alignment_of label → Painted (stroke (covers inside) (set_style c.label_style)) a b →
     OnOk result (Painted (row_layers inside alignment label) b d) → OnOk result (Painted (titled_layers c clip part label) a d)
 unfolding titled_layers
 titled_painted result c clip part label inside alignment a b d is as_ p q =
     let moved = subst (λ (r : Rect). OnOk result (Painted (row_layers r alignment label) b d)) is q in
-    ok_then result _ _ (subst (λ (r : Rect). Painted (stroke (covers r) (dress c.label_style)) a b) is p)
+    ok_then result _ _ (subst (λ (r : Rect). Painted (stroke (covers r) (set_style c.label_style)) a b) is p)
     (subst (λ (x : Alignment). OnOk result (Painted (row_layers (intersection_of clip part) x label) b d)) as_ moved)
 
--- both walks of a vertical chart
-pub upright_painted : {T E : Type 0} (result : Result T E) (c : BarChartData) (area : Rect) (plan : Plan) (direction : Direction) (a b d : Screen) →
-    direction ≡ Vertical → plan ≡ upright_plan c area → Painted (walk_layers c plan Columns area.x area.width) a b →
+-- both passes over a vertical chart
+pub vertical_painted : {T E : Type 0} (result : Result T E) (c : BarChartData) (area : Rect) (plan : ChartPlan) (direction : Direction) (a b d : Screen) →
+    direction ≡ Vertical → plan ≡ vertical_plan c area → Painted (walk_layers c plan Columns area.x area.width) a b →
     OnOk result (Painted (walk_layers c plan Texts area.x area.width) b d) → OnOk result (Painted (directed_layers c area direction) a d)
-upright_painted result c area plan direction a b d ds ps p q =
+vertical_painted result c area plan direction a b d ds ps p q =
     subst (λ (v : Direction). OnOk result (Painted (directed_layers c area v) a d)) (sym ds)
-    (ok_then result _ _ (subst (λ (x : Plan). Painted (walk_layers c x Columns area.x area.width) a b) ps p)
-    (subst (λ (x : Plan). OnOk result (Painted (walk_layers c x Texts area.x area.width) b d)) ps q))
+    (ok_then result _ _ (subst (λ (x : ChartPlan). Painted (walk_layers c x Columns area.x area.width) a b) ps p)
+    (subst (λ (x : ChartPlan). OnOk result (Painted (walk_layers c x Texts area.x area.width) b d)) ps q))
 
 -- an element that passes a test
 pub any_found : {A B : Type 0} (p : B → Bool) (f : A → B) (xs ys : List A) (i : ℕ) (x : A) → ys ≡ xs → i < length ys → x ≡ get_or ys i x → p (f x) ≡ true → true ≡ list_any p (map f xs)
@@ -192,7 +192,7 @@ pub some_mapped : {A B : Type 0} (f : A → B) (o : Option A) → is_some (optio
 some_mapped f None = refl
 some_mapped f (Some x) = refl
 
--- what passes a test is seen as what passes it
+-- filtering and then mapping is the same as mapping and then filtering
 pub filter_seen : {A B : Type 0} (f : A → B) (p : B → Bool) (xs : List A) → map f (filter (λ x. p (f x)) xs) ≡ filter p (map f xs)
 filter_seen f p [] = refl
 filter_seen f p (x ∷ xs) = kept (p (f x)) (filter_seen f p xs)

@@ -28,7 +28,7 @@ pub record BarData : Type 0 where
 abbrev pub bar_data : Bar → BarData
 bar_data b = record { value = b.value; label = option_map line_data b.label; style = b.style; value_style = b.value_style; text = option_copied b.text_value }
 
--- a value with nothing set
+-- a bar of this value with nothing else set
 abbrev pub bar_of : ℕ → BarData
 bar_of value = record { value = value; label = None; style = no_style; value_style = no_style; text = None }
 
@@ -73,7 +73,7 @@ bar_chart_data c = record {
   direction = c.direction;
 }
 
--- groups without bars are left out
+-- whether a group has bars; groups without bars are left out
 abbrev pub has_bars : GroupData → Bool
 has_bars g = nat_lt 0 (length g.bars)
 
@@ -81,7 +81,7 @@ has_bars g = nat_lt 0 (length g.bars)
 abbrev pub with_bars : List GroupData → List GroupData
 with_bars groups = filter has_bars groups
 
--- a chart of groups with nothing set: bars of one column, one column apart
+-- a chart of groups with nothing else set: bars are one column wide and one column apart
 abbrev pub chart_of : Direction → List GroupData → BarChartData
 chart_of direction groups = record {
   block = None;
@@ -98,27 +98,27 @@ chart_of direction groups = record {
   direction = direction;
 }
 
--- one group of bars, if there are any
+-- one group of these bars, if there are any
 abbrev pub one_group : List BarData → List GroupData
 one_group bars = with_bars (record { label = None; bars = bars } ∷ [])
 
--- the value that fills a bar: `max`, else the greatest of the values, and at least 1
+-- the greatest value of a group, 0 without bars
 abbrev pub greatest_in : GroupData → ℕ
 greatest_in g = fold max 0 (map (λ b. b.value) g.bars)
 
--- that of the whole chart
+-- the value that fills a bar: `max` if it is set, otherwise the greatest value of the chart; at least 1
 abbrev pub greatest_of : BarChartData → ℕ
 greatest_of c = max (unwrap_or c.max (fold max 0 (map greatest_in c.groups))) 1
 
--- the columns of the widest label of a bar, cut at 65535
+-- the width of a bar's label in columns, at most 65535
 abbrev pub label_width : BarData → ℕ
 label_width b = option_map_or (λ l. min (line_width false l) farthest_edge) b.label 0
 
--- that of a group
+-- the width of the widest bar label of a group
 abbrev pub label_width_in : GroupData → ℕ
 label_width_in g = fold max 0 (map label_width g.bars)
 
--- that of the whole chart
+-- the width of the widest bar label of the chart
 abbrev pub label_width_of : BarChartData → ℕ
 label_width_of c = fold max 0 (map label_width_in c.groups)
 
@@ -126,14 +126,14 @@ label_width_of c = fold max 0 (map label_width_in c.groups)
 abbrev pub has_label : BarData → Bool
 has_label b = is_some b.label
 
--- whether a bar of a group has a label
+-- whether any bar of a group has a label
 abbrev pub has_bar_label : GroupData → Bool
 has_bar_label g = list_any has_label g.bars
 
--- whether the group itself has one
+-- whether the group itself has a label
 abbrev pub has_group_label : GroupData → Bool
 has_group_label g = is_some g.label
 
--- the text of a bar's value: its own, else the decimal
+-- the text of a bar's value: its own text if it has one, otherwise the decimal number
 abbrev pub value_text : BarData → List ℕ
 value_text b = unwrap_or b.text (decimal b.value)

@@ -1,23 +1,23 @@
--- Bars that stand: what of their length a value fills, and the symbols of their cells.
+-- Vertical bars: how much of their length a value fills, and the symbols of their cells.
 use Rattle.std.specs.Prelude.{◌≡◌, ◌<◌, ◌≤◌, ℕ, zero, suc, ◌-◌, ◌*◌, ◌/◌, ◌==◌, min, List, [], ◌++◌, if◌then◌else◌}
 use Rattle.tui_cells.specs.declared.rect.Rect.{Rect}
 use Rattle.tui_cells.specs.declared.style.Style.{Style}
-use Rattle.tui_cells.specs.Cell.{IsLight}
+use Rattle.tui_cells.specs.Cell.{IsAllocationFree}
 use Rattle.tui_cells.specs.Layers.{Layer}
 use Rattle.tui_cells.specs.Symbols.{BarData as BarSymbols}
 use Rattle.tui_frames.specs.Space.{past}
-use Rattle.tui_bars.specs.Areas.{put_layers}
+use Rattle.tui_bars.specs.Areas.{fill_layers}
 
--- the eighths of a length that a value fills, where the greatest value fills all
+-- how many eighths of a length a value fills, if the greatest value fills all of it
 unfoldable pub ticks : ℕ → ℕ → ℕ → ℕ
 ticks greatest value length = if greatest == 0 then 0 else min (8 * length) (value * (8 * length) / greatest)
 
--- ticks never fall as the value grows, and are full where it reaches the greatest value and that is above 0
+-- ticks never fall as the value grows; they fill the length if the value reaches the greatest one and that is above 0
 pub record TickLaws : Type 0 where
-  pub order : (greatest value more length : ℕ) → value ≤ more → ticks greatest value length ≤ ticks greatest more length
+  pub monotone : (greatest value more length : ℕ) → value ≤ more → ticks greatest value length ≤ ticks greatest more length
   pub full : (greatest value length : ℕ) → 0 < greatest → greatest ≤ value → ticks greatest value length ≡ 8 * length
 
--- the symbol of a cell of which this many eighths are left to fill; from 8 on it is full
+-- the symbol of a cell of which k eighths are still to be filled; from 8 on the cell is full
 unfoldable pub level : BarSymbols → ℕ → List ℕ
 level s k =
     if k == 0 then s.empty else
@@ -29,27 +29,27 @@ level s k =
     if k == 6 then s.three_quarters else
     if k == 7 then s.seven_eighths else s.full
 
--- a row of an area
+-- row n of an area
 abbrev pub row_at : Rect → ℕ → Rect
 row_at area n = record area { y = past area.y n; height = 1 }
 
--- the first n rows of an area, from the last of them upwards: each has the level of the ticks that are left, 8 less a row
+-- the first n rows of an area, from the last of them upwards; each takes up to 8 of the ticks that are left
 unfoldable pub levels_layers : BarSymbols → Rect → Rect → Style → ℕ → ℕ → List Layer
 levels_layers s clip area style left zero = []
-levels_layers s clip area style left (suc n) = put_layers clip (row_at area n) (level s left) style ++ levels_layers s clip area style (left - 8) n
+levels_layers s clip area style left (suc n) = fill_layers clip (row_at area n) (level s left) style ++ levels_layers s clip area style (left - 8) n
 
--- an area as a bar that stands
-abbrev pub standing_layers : BarSymbols → Rect → Rect → Style → ℕ → List Layer
-standing_layers s clip area style filled = levels_layers s clip area style filled area.height
+-- a vertical bar over an area
+abbrev pub vertical_bar_layers : BarSymbols → Rect → Rect → Style → ℕ → List Layer
+vertical_bar_layers s clip area style filled = levels_layers s clip area style filled area.height
 
--- symbols that are kept in place
-pub record AreLightLevels (s : BarSymbols) : Type 0 where
-  pub full : IsLight s.full
-  pub seven_eighths : IsLight s.seven_eighths
-  pub three_quarters : IsLight s.three_quarters
-  pub five_eighths : IsLight s.five_eighths
-  pub half : IsLight s.half
-  pub three_eighths : IsLight s.three_eighths
-  pub one_quarter : IsLight s.one_quarter
-  pub one_eighth : IsLight s.one_eighth
-  pub empty : IsLight s.empty
+-- symbols that are stored in a cell without allocating
+pub record AreAllocationFreeLevels (s : BarSymbols) : Type 0 where
+  pub full : IsAllocationFree s.full
+  pub seven_eighths : IsAllocationFree s.seven_eighths
+  pub three_quarters : IsAllocationFree s.three_quarters
+  pub five_eighths : IsAllocationFree s.five_eighths
+  pub half : IsAllocationFree s.half
+  pub three_eighths : IsAllocationFree s.three_eighths
+  pub one_quarter : IsAllocationFree s.one_quarter
+  pub one_eighth : IsAllocationFree s.one_eighth
+  pub empty : IsAllocationFree s.empty

@@ -9,10 +9,10 @@ pub mod Sparkline
 pub mod BarChart
 pub mod Shown
 pub mod Labels
-pub mod Upright
-pub mod Lying
+pub mod VerticalBars
+pub mod HorizontalBars
 pub mod ChartStrokes
-pub mod ChartLight
+pub mod AllocationFreeCharts
 pub mod Stays
 pub mod ChartStays
 pub mod Drawing

@@ -12,9 +12,9 @@ use Rattle.tui_frames.specs.Block.{BlockData, block_data}
 use Rattle.tui_frames.specs.Space.{past}
 use Rattle.tui_text.specs.Line.{LineData, line_data}
 use Rattle.tui_text.specs.Painting.{cells_at}
-use Rattle.tui_text.specs.Setting.{AreLight, corner, line_spans, set_column, set_layers}
+use Rattle.tui_text.specs.Setting.{AreAllocationFree, corner, line_spans, set_column, set_layers}
 use Rattle.tui_text.specs.Span.{SpanData, raw_span}
-use Rattle.tui_bars.specs.Areas.{put_layers}
+use Rattle.tui_bars.specs.Areas.{fill_layers}
 use Rattle.tui_bars.specs.Percent.{percent_label}
 use Rattle.tui_bars.specs.declared.line_gauge.LineGauge.{LineGauge}
 
@@ -44,7 +44,7 @@ line_gauge_data g = record {
   unfilled_style = g.unfilled_style;
 }
 
--- a line gauge of light lines, with nothing filled, and nothing set
+-- a line gauge with the thin line `─`, with nothing filled and nothing else set
 abbrev pub empty_line_gauge : LineGaugeData
 empty_line_gauge = record {
   block = None;
@@ -58,11 +58,11 @@ empty_line_gauge = record {
   unfilled_style = no_style;
 }
 
--- a style of which one colour is the symbol's, Reset where it is not set, over the background Reset
-abbrev pub drawn_in : Style → Option Color → Style
-drawn_in s color = record s { fg = Some (unwrap_or color Reset); bg = Some Reset }
+-- the style with this foreground, `Reset` if it is not set, on the background `Reset`
+abbrev pub symbol_style : Style → Option Color → Style
+symbol_style s color = record s { fg = Some (unwrap_or color Reset); bg = Some Reset }
 
--- the spans of the label, its own or the percentage
+-- the spans of the label that is set, otherwise of the percentage
 abbrev pub label_spans : LineGaugeData → Option LineData → List SpanData
 label_spans g None = raw_span (percent_label g.num g.den) ∷ []
 label_spans g (Some line) = line_spans line
@@ -71,23 +71,23 @@ label_spans g (Some line) = line_spans line
 abbrev pub label_layers : LineGaugeData → Rect → List Layer
 label_layers g area = set_layers area (corner area) (label_spans g g.label) area.width
 
--- the column after the label's last one
+-- the column after the label
 abbrev pub label_end : LineGaugeData → Rect → ℕ
 label_end g area = set_column area (corner area) (label_spans g g.label) area.width
 
--- the line from a column of the first row on, its first part filled; past the area it has no columns
+-- the line in the first row from a column on, its first part filled; it has no columns if it starts past the area
 unfoldable pub bar_layers : LineGaugeData → Rect → ℕ → List Layer
 bar_layers g area start =
     let columns = right_of area - start in
     let count = columns * g.num / g.den in
-    put_layers area (cells_at start area.y count) g.filled g.filled_style
-    ++ put_layers area (cells_at (past start count) area.y (columns - count)) g.unfilled g.unfilled_style
+    fill_layers area (cells_at start area.y count) g.filled g.filled_style
+    ++ fill_layers area (cells_at (past start count) area.y (columns - count)) g.unfilled g.unfilled_style
 
 -- the strokes inside the block: the label, and the line from one column after it
 abbrev pub line_gauge_layers : LineGaugeData → Rect → List Layer
 line_gauge_layers g area = label_layers g area ++ bar_layers g area (past (label_end g area) 1)
 
--- no label of its own, or one that is drawn without memory
-abbrev pub IsLightLine : Option LineData → Type 0
-IsLightLine None = ⊤
-IsLightLine (Some line) = AreLight line.spans
+-- no label of its own, or one that is written without allocating
+abbrev pub IsAllocationFreeLine : Option LineData → Type 0
+IsAllocationFreeLine None = ⊤
+IsAllocationFreeLine (Some line) = AreAllocationFree line.spans

@@ -1,4 +1,4 @@
--- The names of the sides from which bars follow one another.
+-- The names of the render directions.
 use Rattle.std.specs.Prelude.{ℕ, List, codes}
 use Rattle.tui_bars.specs.declared.render_direction.RenderDirection.{RenderDirection}
 use Rattle.tui_bars.specs.declared.render_direction.RenderDirection.TheVariants.{LeftToRight, RightToLeft}

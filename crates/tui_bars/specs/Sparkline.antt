@@ -9,14 +9,14 @@ use Rattle.tui_cells.specs.Symbols.{bar_data, nine_levels}
 use Rattle.tui_cells.specs.Symbols.{BarData as BarSymbols}
 use Rattle.tui_frames.specs.Block.{BlockData, block_data}
 use Rattle.tui_frames.specs.Space.{past}
-use Rattle.tui_bars.specs.Areas.{put_layers}
-use Rattle.tui_bars.specs.Levels.{standing_layers, ticks}
+use Rattle.tui_bars.specs.Areas.{fill_layers}
+use Rattle.tui_bars.specs.Levels.{vertical_bar_layers, ticks}
 use Rattle.tui_bars.specs.declared.render_direction.RenderDirection.{RenderDirection}
 use Rattle.tui_bars.specs.declared.render_direction.RenderDirection.TheVariants.{LeftToRight, RightToLeft}
 use Rattle.tui_bars.specs.declared.sparkline.Sparkline.{Sparkline}
 use Rattle.tui_bars.specs.declared.sparkline_bar.SparklineBar.{SparklineBar}
 
--- a value, if it is present, and a style of its own, if it has one
+-- a value, which may be absent, and optionally its own style
 pub record SparklineBarData : Type 0 where
   pub value : Option ℕ
   pub style : Option Style
@@ -62,11 +62,11 @@ empty_sparkline = record {
   direction = LeftToRight;
 }
 
--- the value that fills a column: `max`, else the greatest that is present
+-- the value that fills a column: `max` if it is set, otherwise the greatest value that is present
 abbrev pub greatest_of : SparklineData → ℕ
 greatest_of s = unwrap_or s.max (fold max 0 (map (λ b. unwrap_or b.value 0) s.bars))
 
--- the column of bar i, counted from the side where the first one stands
+-- the offset of bar i in the width, by the side of the first bar
 abbrev pub side : RenderDirection → ℕ → ℕ → ℕ
 side LeftToRight width i = i
 side RightToLeft width i = width - 1 - i
@@ -75,17 +75,17 @@ side RightToLeft width i = width - 1 - i
 abbrev pub column_at : SparklineData → Rect → ℕ → Rect
 column_at s area i = record area { x = past area.x (side s.direction area.width i); width = 1 }
 
--- a bar in its column: its value by its ticks, or the symbol for no value in each cell
+-- a bar in its column: its cells by its ticks, or the symbol for an absent value in each cell
 abbrev pub value_layers : SparklineData → Rect → Rect → ℕ → Option Style → Option ℕ → List Layer
-value_layers s area column greatest style None = put_layers area column s.absent_symbol (patched s.style s.absent_style)
+value_layers s area column greatest style None = fill_layers area column s.absent_symbol (patched s.style s.absent_style)
 value_layers s area column greatest style (Some value) =
-    standing_layers s.symbols area column (patched s.style (unwrap_or style no_style)) (ticks greatest value column.height)
+    vertical_bar_layers s.symbols area column (patched s.style (unwrap_or style no_style)) (ticks greatest value column.height)
 
 -- bar i in its column
 abbrev pub bar_layers : SparklineData → Rect → ℕ → ℕ → SparklineBarData → List Layer
 bar_layers s area greatest i bar = value_layers s area (column_at s area i) greatest bar.style bar.value
 
--- bars side by side, the first of which is bar i
+-- bars side by side; the first of them is bar i
 unfoldable pub bars_layers : SparklineData → Rect → ℕ → ℕ → List SparklineBarData → List Layer
 bars_layers s area greatest i [] = []
 bars_layers s area greatest i (b ∷ bs) = bar_layers s area greatest i b ++ bars_layers s area greatest (i + 1) bs

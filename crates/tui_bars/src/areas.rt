@@ -1,17 +1,17 @@
-//! Symbols in the part of an area that lies in a clip.
+//! Filling the part of an area that is in a clip.
 
 ghost use Rattle.std.specs.Prelude.{IsOk, OnOk};
-ghost use Rattle.tui_bars.specs.Areas.{put_layers};
-ghost use Rattle.tui_cells.specs.Cell.{IsLight};
+ghost use Rattle.tui_bars.specs.Areas.{fill_layers};
+ghost use Rattle.tui_cells.specs.Cell.{IsAllocationFree};
 ghost use Rattle.tui_cells.specs.Layers.{KeptOutside, Painted};
 ghost use Rattle.tui_cells.specs.Rect.{covers};
 
 use std::alloc::Global;
 use tui_cells::{Buffer, Mem, Rect, Style};
 
-/// Puts a symbol, and then sets a style, in each cell of an area that lies in the clip.
-#[tactic(auto, unfolding(crate::specs::Areas::put_layers))]
-pub(crate) fn put_in(
+/// Writes a symbol and then a style to each cell of the area that is in the clip.
+#[tactic(auto, unfolding(crate::specs::Areas::fill_layers))]
+pub(crate) fn fill_clipped(
     alloc: Global,
     buf: &mut Buffer,
     clip: Rect,
@@ -19,9 +19,9 @@ pub(crate) fn put_in(
     symbol: &str,
     style: Style,
 ) -> Mem<()>
-    ensures ok { OnOk result (Painted (put_layers clip area symbol.now style) buf.old buf.new) }
+    ensures ok { OnOk result (Painted (fill_layers clip area symbol.now style) buf.old buf.new) }
     ensures kept { KeptOutside (covers clip) buf.old buf.new }
-    ensures light { IsLight symbol.now → IsOk result }
+    ensures allocation_free { IsAllocationFree symbol.now → IsOk result }
 {
     buf.fill(alloc, clip.intersection(area), symbol, style)
 }

@@ -2,7 +2,7 @@
 
 ghost use Rattle.std.specs.Prelude.{◌≡◌, IfOk, Some, true};
 ghost use Rattle.tui_bars.specs.BarChart.{bar_data, bar_of, label_width, value_text};
-ghost use Rattle.tui_bars.specs.ChartLight.{IsLightText, IsLightValue};
+ghost use Rattle.tui_bars.specs.AllocationFreeCharts.{IsAllocationFreeText, IsAllocationFreeValue};
 ghost use Rattle.tui_layout.specs.declared.direction.Direction.{Direction};
 ghost use Rattle.tui_text.specs.Line.{line_data};
 
@@ -21,7 +21,7 @@ pub struct Bar<'a> {
     pub(crate) text_value: Option<&'a str>,
 }
 
-// Written out, so that a crate above proves nothing of what it holds to let it go.
+// Written by hand, so that dependent crates need no proofs about dropping the fields.
 impl<'a> Drop for Bar<'a> {
     fn drop(self) {
         let Bar {
@@ -35,7 +35,7 @@ impl<'a> Drop for Bar<'a> {
 }
 
 impl<'a> Bar<'a> {
-    /// A bar of a value, with nothing set.
+    /// Returns a bar of this value with nothing else set.
     pub fn new(value: u64) -> Bar<'a>
         ensures { bar_data result ≡ bar_of value }
     {
@@ -48,7 +48,7 @@ impl<'a> Bar<'a> {
         }
     }
 
-    /// The same with a label.
+    /// Returns a bar of this value with a label.
     pub fn with_label(label: Line<'a>, value: u64) -> Bar<'a>
         ensures { bar_data result ≡ record (bar_of value) { label = Some (line_data label.entry) } }
     {
@@ -63,7 +63,7 @@ impl<'a> Bar<'a> {
         self
     }
 
-    /// Sets the label, which stands below the bar, or before it in a horizontal chart.
+    /// Sets the label. It is drawn below the bar, or before it in a horizontal chart.
     pub fn label(mut self, label: Line<'a>) -> Bar<'a>
         ensures { bar_data result ≡ record (bar_data self.entry) { label = Some (line_data label.entry) } }
     {
@@ -87,7 +87,7 @@ impl<'a> Bar<'a> {
         self
     }
 
-    /// Sets the text that is shown in place of the value.
+    /// Sets the text that is shown instead of the value.
     pub fn text_value(mut self, text: &'a str) -> Bar<'a>
         ensures { bar_data result ≡ record (bar_data self.entry) { text = Some text.now } }
     {
@@ -95,7 +95,7 @@ impl<'a> Bar<'a> {
         self
     }
 
-    /// An equal bar of its own. `NoMemory` where there is none for the label.
+    /// Returns an equal copy. Fails with `NoMemory` if the label can't be allocated.
     pub fn clone(&self) -> Mem<Bar<'a>>
         ensures is { IfOk result (λ bar. bar_data bar ≡ bar_data self.now) }
         ensures equal { IfOk result (λ bar. ⟦<Bar<'a> as PartialEq>⟧.eq bar self.now ≡ true) }
@@ -109,7 +109,7 @@ impl<'a> Bar<'a> {
         })
     }
 
-    /// The columns of the label, cut at 65535.
+    /// Returns the width of the label in columns, at most 65535.
     pub(crate) fn label_width(&self) -> u16
         ensures { result ≡ label_width (bar_data self.now) }
     {
@@ -119,12 +119,12 @@ impl<'a> Bar<'a> {
         }
     }
 
-    /// The text of the value: its own, else the decimal, which is written into the digits.
+    /// Returns the text of the value: its own text if it has one, otherwise the decimal number, written into `digits`.
     pub(crate) fn value_text<'d>(&self, digits: &'d mut Digits) -> &'d str
     where
         'a: 'd,
         ensures is { result.now ≡ value_text (bar_data self.now) }
-        ensures light { (direction : Direction) → IsLightValue direction (bar_data self.now).text → IsLightText direction result.now }
+        ensures allocation_free { (direction : Direction) → IsAllocationFreeValue direction (bar_data self.now).text → IsAllocationFreeText direction result.now }
     {
         match self.text_value {
             Some(text) => text,
@@ -134,7 +134,7 @@ impl<'a> Bar<'a> {
 }
 
 impl<'a> Default for Bar<'a> {
-    /// A bar of the value 0, with nothing set.
+    /// Returns a bar of the value 0 with nothing else set.
     fn default() -> Bar<'a>
         ensures { bar_data result ≡ bar_of 0 }
     {

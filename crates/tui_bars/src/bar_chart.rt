@@ -6,11 +6,11 @@ ghost use Rattle.tui_cells.specs.Symbols.{bar_data as symbols_of};
 ghost use Rattle.tui_frames.specs.Block.{block_data};
 ghost use Rattle.tui_layout.specs.declared.direction.Direction.TheVariants.{Horizontal, Vertical};
 
-mod lying;
+mod horizontal_bars;
 mod planning;
 mod rendering;
 mod shown;
-mod upright;
+mod vertical_bars;
 mod walking;
 
 use crate::bar::Bar;
@@ -20,7 +20,7 @@ use tui_cells::{Mem, Style, Styled, bar};
 use tui_frames::{Block, clone_if_some};
 use tui_layout::Direction;
 
-/// Groups of bars, which stand side by side or lie below each other. The greatest value fills the length that there is.
+/// Bars in groups, side by side or one below the other. The greatest value fills the available length.
 #[derive(Debug, PartialEq, Eq, Hash)]
 pub struct BarChart<'a> {
     block: Option<Block<'a>>,
@@ -37,7 +37,7 @@ pub struct BarChart<'a> {
     direction: Direction,
 }
 
-// Written out, so that a crate above proves nothing of what it holds to let it go.
+// Written by hand, so that dependent crates need no proofs about dropping the fields.
 impl<'a> Drop for BarChart<'a> {
     fn drop(self) {
         let BarChart {
@@ -58,8 +58,8 @@ impl<'a> Drop for BarChart<'a> {
 }
 
 impl<'a> BarChart<'a> {
-    /// A vertical chart of one group of these bars, without a group where there is no bar. `NoMemory` where there is none for
-    /// the group.
+    /// Returns a vertical chart with one group of these bars, or with no group if there are no bars. Fails with
+    /// `NoMemory` if the group can't be allocated.
     pub fn new(alloc: Global, bars: Vec<Bar<'a>>) -> Mem<BarChart<'a>>
         ensures { IfOk result (λ chart. bar_chart_data chart ≡ chart_of Vertical (one_group (map bar_data bars.entry.items))) }
     {
@@ -68,21 +68,21 @@ impl<'a> BarChart<'a> {
         Ok(BarChart::grouped(groups))
     }
 
-    /// The same.
+    /// Returns a vertical chart, as `new` does.
     pub fn vertical(alloc: Global, bars: Vec<Bar<'a>>) -> Mem<BarChart<'a>>
         ensures { IfOk result (λ chart. bar_chart_data chart ≡ chart_of Vertical (one_group (map bar_data bars.entry.items))) }
     {
         BarChart::new(alloc, bars)
     }
 
-    /// A horizontal chart, otherwise the same.
+    /// Returns a horizontal chart of these bars. Fails as `new` does.
     pub fn horizontal(alloc: Global, bars: Vec<Bar<'a>>) -> Mem<BarChart<'a>>
         ensures { IfOk result (λ chart. bar_chart_data chart ≡ chart_of Horizontal (one_group (map bar_data bars.entry.items))) }
     {
         Ok(BarChart::new(alloc, bars)?.direction(Direction::Horizontal))
     }
 
-    /// A vertical chart of these groups. Groups without bars are left out.
+    /// Returns a vertical chart of these groups. Groups without bars are left out.
     pub fn grouped(groups: Vec<BarGroup<'a>>) -> BarChart<'a>
         ensures { bar_chart_data result ≡ chart_of Vertical (with_bars (map group_data groups.entry.items)) }
     {
@@ -102,7 +102,8 @@ impl<'a> BarChart<'a> {
         }
     }
 
-    /// Puts a group at the end, or leaves it out where it has no bars. At `NoMemory` the chart is as before, and the group is gone.
+    /// Appends a group, or leaves it out if it has no bars. On `NoMemory` the chart is unchanged and the group is
+    /// dropped.
     pub fn data(&mut self, group: BarGroup<'a>) -> Mem<()>
         ensures ok { OnOk result (bar_chart_data self.new ≡ record (bar_chart_data self.old) {
           groups = (bar_chart_data self.old).groups ++ with_bars (group_data group.entry ∷ []);
@@ -115,7 +116,7 @@ impl<'a> BarChart<'a> {
         Ok(())
     }
 
-    /// Puts a block around the chart, which then has the area inside.
+    /// Sets the block around the chart. The chart is drawn in the block's inner area.
     pub fn block(mut self, block: Block<'a>) -> BarChart<'a>
         ensures { bar_chart_data result ≡ record (bar_chart_data self.entry) { block = Some (block_data block.entry) } }
     {
@@ -123,7 +124,7 @@ impl<'a> BarChart<'a> {
         self
     }
 
-    /// Sets the value that fills a bar, in place of the greatest of the values. 0 counts as 1.
+    /// Sets the value that fills a bar, instead of the greatest of the values. 0 counts as 1.
     pub fn max(mut self, max: u64) -> BarChart<'a>
         ensures { bar_chart_data result ≡ record (bar_chart_data self.entry) { max = Some max } }
     {
@@ -139,7 +140,7 @@ impl<'a> BarChart<'a> {
         self
     }
 
-    /// Sets the columns of a bar, or its rows in a horizontal chart.
+    /// Sets the width of a bar in columns, or its height in rows in a horizontal chart.
     pub fn bar_width(mut self, width: u16) -> BarChart<'a>
         ensures { bar_chart_data result ≡ record (bar_chart_data self.entry) { width = width } }
     {
@@ -147,7 +148,7 @@ impl<'a> BarChart<'a> {
         self
     }
 
-    /// Sets the columns between two bars, or the rows.
+    /// Sets the columns between two bars, or the rows in a horizontal chart.
     pub fn bar_gap(mut self, gap: u16) -> BarChart<'a>
         ensures { bar_chart_data result ≡ record (bar_chart_data self.entry) { gap = gap } }
     {
@@ -155,7 +156,7 @@ impl<'a> BarChart<'a> {
         self
     }
 
-    /// Sets the symbols of cells that are filled in part. A horizontal chart uses the full and the empty one alone.
+    /// Sets the symbols of partly filled cells. A horizontal chart uses only the full and the empty one.
     pub fn bar_set(mut self, set: bar::Set<'a>) -> BarChart<'a>
         ensures { bar_chart_data result ≡ record (bar_chart_data self.entry) { symbols = symbols_of set.entry } }
     {
@@ -171,7 +172,7 @@ impl<'a> BarChart<'a> {
         self
     }
 
-    /// Sets the style under the labels; a horizontal chart uses it for those of groups alone.
+    /// Sets the style under the labels. A horizontal chart uses it only for the labels of groups.
     pub fn label_style(mut self, style: Style) -> BarChart<'a>
         ensures { bar_chart_data result ≡ record (bar_chart_data self.entry) { label_style = style } }
     {
@@ -179,7 +180,8 @@ impl<'a> BarChart<'a> {
         self
     }
 
-    /// Sets the columns after a group, or the rows, besides the gap of its last bar.
+    /// Sets the columns after a group, or the rows in a horizontal chart. The gap of the group's last bar is added to
+    /// them.
     pub fn group_gap(mut self, gap: u16) -> BarChart<'a>
         ensures { bar_chart_data result ≡ record (bar_chart_data self.entry) { group_gap = gap } }
     {
@@ -187,7 +189,7 @@ impl<'a> BarChart<'a> {
         self
     }
 
-    /// Sets the style under all, the block's area included.
+    /// Sets the style under everything, including the block's area.
     pub fn style(mut self, style: Style) -> BarChart<'a>
         ensures { bar_chart_data result ≡ record (bar_chart_data self.entry) { style = style } }
     {
@@ -195,7 +197,7 @@ impl<'a> BarChart<'a> {
         self
     }
 
-    /// Sets whether the bars stand side by side (`Vertical`) or lie below each other (`Horizontal`).
+    /// Sets whether the bars are side by side (`Vertical`) or one below the other (`Horizontal`).
     pub fn direction(mut self, direction: Direction) -> BarChart<'a>
         ensures { bar_chart_data result ≡ record (bar_chart_data self.entry) { direction = direction } }
     {
@@ -203,7 +205,7 @@ impl<'a> BarChart<'a> {
         self
     }
 
-    /// An equal chart of its own. `NoMemory` where there is none for the block or the groups.
+    /// Returns an equal copy. Fails with `NoMemory` if the block or the groups can't be allocated.
     pub fn clone(&self) -> Mem<BarChart<'a>>
         ensures is { IfOk result (λ chart. bar_chart_data chart ≡ bar_chart_data self.now) }
         ensures equal { IfOk result (λ chart. ⟦<BarChart<'a> as PartialEq>⟧.eq chart self.now ≡ true) }

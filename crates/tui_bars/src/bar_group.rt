@@ -16,7 +16,7 @@ pub struct BarGroup<'a> {
     pub(crate) bars: Vec<Bar<'a>>,
 }
 
-// Written out, so that a crate above proves nothing of what it holds to let it go.
+// Written by hand, so that dependent crates need no proofs about dropping the fields.
 impl<'a> Drop for BarGroup<'a> {
     fn drop(self) {
         let BarGroup { label, bars } = self;
@@ -24,14 +24,14 @@ impl<'a> Drop for BarGroup<'a> {
 }
 
 impl<'a> BarGroup<'a> {
-    /// A group of these bars without a label.
+    /// Returns a group of these bars without a label.
     pub fn new(bars: Vec<Bar<'a>>) -> BarGroup<'a>
         ensures { group_data result ≡ record { label = None; bars = map bar_data bars.entry.items } }
     {
         BarGroup { label: None, bars }
     }
 
-    /// The same with a label.
+    /// Returns a group of these bars with a label.
     pub fn with_label(label: Line<'a>, bars: Vec<Bar<'a>>) -> BarGroup<'a>
         ensures { group_data result ≡ record { label = Some (line_data label.entry); bars = map bar_data bars.entry.items } }
     {
@@ -49,7 +49,7 @@ impl<'a> BarGroup<'a> {
         self
     }
 
-    /// Puts these bars in place of the old ones.
+    /// Replaces the bars.
     pub fn bars(mut self, bars: Vec<Bar<'a>>) -> BarGroup<'a>
         ensures { group_data result ≡ record (group_data self.entry) { bars = map bar_data bars.entry.items } }
     {
@@ -57,7 +57,7 @@ impl<'a> BarGroup<'a> {
         self
     }
 
-    /// Puts a bar of a value with a label at the end. At `NoMemory` the group is as before.
+    /// Appends a bar of a value with a label. On `NoMemory` the group is unchanged.
     pub fn push_pair(&mut self, label: &'a str, value: u64) -> Mem<()>
         ensures ok { OnOk result (group_data self.new ≡ record (group_data self.old) {
           bars = (group_data self.old).bars ++ record (bar_of value) { label = Some (raw_line label.now) } ∷ [];
@@ -70,7 +70,7 @@ impl<'a> BarGroup<'a> {
         Ok(())
     }
 
-    /// An equal group of its own. `NoMemory` where there is none for the label or the bars.
+    /// Returns an equal copy. Fails with `NoMemory` if the label or the bars can't be allocated.
     pub fn clone(&self) -> Mem<BarGroup<'a>>
         ensures is { IfOk result (λ group. group_data group ≡ group_data self.now) }
         ensures equal { IfOk result (λ group. ⟦<BarGroup<'a> as PartialEq>⟧.eq group self.now ≡ true) }
@@ -98,7 +98,7 @@ impl<'a> BarGroup<'a> {
         self.len() > 0
     }
 
-    /// The greatest value, 0 without bars.
+    /// Returns the greatest value, or 0 without bars.
     pub(crate) fn greatest(&self) -> u64
         ensures { result ≡ greatest_in (group_data self.now) }
     {
@@ -109,7 +109,7 @@ impl<'a> BarGroup<'a> {
         most
     }
 
-    /// The columns of the widest label of a bar.
+    /// Returns the width of the widest bar label in columns.
     pub(crate) fn label_width(&self) -> u16
         ensures { result ≡ label_width_in (group_data self.now) }
     {
@@ -120,7 +120,7 @@ impl<'a> BarGroup<'a> {
         most
     }
 
-    /// Whether a bar has a label.
+    /// Returns whether any bar has a label.
     pub(crate) fn has_bar_label(&self) -> bool
         ensures { result ≡ has_bar_label (group_data self.now) }
     {

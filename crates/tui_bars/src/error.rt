@@ -1,14 +1,14 @@
-//! Refusals.
+//! Errors.
 
 use thiserror::Error;
 
-/// Why a gauge's share is refused.
+/// Why the share of a gauge is invalid.
 #[derive(Clone, Copy, Debug, PartialEq, Eq, Error)]
 pub enum GaugeError {
-    /// More than 100 percent.
+    /// The share is more than 100 percent.
     #[error("PercentAbove100")]
     PercentAbove100,
-    /// A fraction whose denominator is 0, or below its numerator.
+    /// The denominator of the fraction is 0 or less than its numerator.
     #[error("RatioOutOfRange")]
     RatioOutOfRange,
 }

@@ -1,4 +1,4 @@
-//! Areas that are filled by a share.
+//! Areas filled to a share.
 
 ghost use Rattle.std.specs.Prelude.{◌≡◌, ◌<◌, ◌≤◌, Err, IfOk, IsOk, Some, true};
 ghost use Rattle.tui_bars.specs.Gauge.{empty_gauge, gauge_data};
@@ -15,8 +15,8 @@ use tui_frames::{Block, clone_if_some};
 use tui_layout::Fraction;
 use tui_text::Span;
 
-/// An area whose first columns are filled by a share, with a label in the middle. The label is the percentage where none is
-/// given. Under it the colours of the filled cells are turned round.
+/// An area whose first columns are filled to a share, with a label in the middle. If no label is set, it is the
+/// percentage. In filled cells under the label, foreground and background are swapped.
 #[derive(Debug, PartialEq, Eq)]
 pub struct Gauge<'a> {
     block: Option<Block<'a>>,
@@ -27,7 +27,7 @@ pub struct Gauge<'a> {
     use_unicode: bool,
 }
 
-// Written out, so that a crate above proves nothing of what it holds to let it go.
+// Written by hand, so that dependent crates need no proofs about dropping the fields.
 impl<'a> Drop for Gauge<'a> {
     fn drop(self) {
         let Gauge {
@@ -42,7 +42,7 @@ impl<'a> Drop for Gauge<'a> {
 }
 
 impl<'a> Default for Gauge<'a> {
-    /// A gauge of 0/1, with nothing set.
+    /// Returns a gauge of 0/1 with nothing else set.
     fn default() -> Gauge<'a>
         ensures { gauge_data result ≡ empty_gauge }
     {
@@ -58,7 +58,7 @@ impl<'a> Default for Gauge<'a> {
 }
 
 impl<'a> Gauge<'a> {
-    /// Puts a block around the gauge, which then has the area inside.
+    /// Sets the block around the gauge. The gauge is drawn in the block's inner area.
     pub fn block(mut self, block: Block<'a>) -> Gauge<'a>
         ensures { gauge_data result ≡ record (gauge_data self.entry) { block = Some (block_data block.entry) } }
     {
@@ -66,19 +66,20 @@ impl<'a> Gauge<'a> {
         self
     }
 
-    /// Sets the share in percent. Answers `PercentAbove100` exactly above 100; the gauge is gone then.
+    /// Sets the share in percent. Fails with `PercentAbove100` if and only if `percent` is above 100. The gauge is then
+    /// dropped.
     pub fn percent(mut self, percent: u16) -> Result<Gauge<'a>, GaugeError>
         ensures ok { percent ≤ 100 → IsOk result }
         ensures is { IfOk result (λ gauge. gauge_data gauge ≡ record (gauge_data self.entry) { num = percent; den = 100 }) }
-        ensures refused { 100 < percent → result ≡ Err GaugeError.PercentAbove100 }
+        ensures rejected { 100 < percent → result ≡ Err GaugeError.PercentAbove100 }
     {
         let share = share_of_percent(percent)?;
         self.share = share;
         Ok(self)
     }
 
-    /// Sets the share. Answers `RatioOutOfRange` exactly where the denominator is 0 or the numerator is above it; the gauge is
-    /// gone then.
+    /// Sets the share. Fails with `RatioOutOfRange` if and only if the denominator is 0 or the numerator is above it.
+    /// The gauge is then dropped.
     pub fn ratio(mut self, ratio: Fraction) -> Result<Gauge<'a>, GaugeError>
         ensures ok { 0 < ratio.den → ratio.num ≤ ratio.den → IsOk result }
         ensures is { IfOk result (λ gauge. gauge_data gauge ≡ record (gauge_data self.entry) { num = ratio.num; den = ratio.den }) }
@@ -90,7 +91,7 @@ impl<'a> Gauge<'a> {
         Ok(self)
     }
 
-    /// Sets the label in place of the percentage.
+    /// Sets the label, instead of the percentage.
     pub fn label(mut self, label: Span<'a>) -> Gauge<'a>
         ensures { gauge_data result ≡ record (gauge_data self.entry) { label = Some (span_data label.entry) } }
     {
@@ -98,7 +99,7 @@ impl<'a> Gauge<'a> {
         self
     }
 
-    /// Sets the style under all, the block's area included.
+    /// Sets the style under everything, including the block's area.
     pub fn style(mut self, style: Style) -> Gauge<'a>
         ensures { gauge_data result ≡ record (gauge_data self.entry) { style = style } }
     {
@@ -106,7 +107,7 @@ impl<'a> Gauge<'a> {
         self
     }
 
-    /// Sets the style inside the block. Filled cells have its colours, Reset for one that it doesn't set.
+    /// Sets the style inside the block. Filled cells have its colours, `Reset` for a colour that it doesn't set.
     pub fn gauge_style(mut self, style: Style) -> Gauge<'a>
         ensures { gauge_data result ≡ record (gauge_data self.entry) { gauge_style = style } }
     {
@@ -114,7 +115,8 @@ impl<'a> Gauge<'a> {
         self
     }
 
-    /// Sets whether the column after the whole ones shows the eighths of it that are filled; else the columns are rounded.
+    /// Sets whether the column after the completely filled ones shows its filled eighths. Otherwise the number of
+    /// filled columns is rounded.
     pub fn use_unicode(mut self, use_unicode: bool) -> Gauge<'a>
         ensures { gauge_data result ≡ record (gauge_data self.entry) { use_unicode = use_unicode } }
     {
@@ -122,7 +124,7 @@ impl<'a> Gauge<'a> {
         self
     }
 
-    /// An equal gauge of its own. `NoMemory` where there is none for the block.
+    /// Returns an equal copy. Fails with `NoMemory` if the block can't be allocated.
     pub fn clone(&self) -> Mem<Gauge<'a>>
         ensures is { IfOk result (λ gauge. gauge_data gauge ≡ gauge_data self.now) }
         ensures equal { IfOk result (λ gauge. ⟦<Gauge<'a> as PartialEq>⟧.eq gauge self.now ≡ true) }

@@ -1,17 +1,17 @@
-//! Bars that stand: what of their length a value fills, and the symbols of their cells.
+//! Vertical bars: how much of their length a value fills, and the symbols of their cells.
 
 ghost use Rattle.std.specs.Prelude.{◌≡◌, ◌*◌, ◌≤◌, IsOk, OnOk};
-ghost use Rattle.tui_bars.specs.Levels.{AreLightLevels, level, row_at, standing_layers, ticks};
-ghost use Rattle.tui_cells.specs.Cell.{IsLight};
+ghost use Rattle.tui_bars.specs.Levels.{AreAllocationFreeLevels, level, row_at, vertical_bar_layers, ticks};
+ghost use Rattle.tui_cells.specs.Cell.{IsAllocationFree};
 ghost use Rattle.tui_cells.specs.Layers.{KeptOutside, Painted};
 ghost use Rattle.tui_cells.specs.Rect.{covers};
 ghost use Rattle.tui_cells.specs.Symbols.{bar_data};
 
-use crate::areas::put_in;
+use crate::areas::fill_clipped;
 use std::alloc::Global;
 use tui_cells::{Buffer, Mem, Rect, Style, bar};
 
-/// The eighths of a length that a value fills, where the greatest value fills all.
+/// Returns how many eighths of a length a value fills, if the greatest value fills all of it.
 #[tactic(auto, unfolding(crate::specs::Levels::ticks))]
 pub(crate) fn ticks(greatest: u64, value: u64, length: u16) -> u32
     ensures is { result ≡ ticks greatest value length }
@@ -24,11 +24,11 @@ pub(crate) fn ticks(greatest: u64, value: u64, length: u16) -> u32
     (u128::from(value) * whole / u128::from(greatest)).min(whole) as u32
 }
 
-/// The symbol of a cell of which this many eighths are left to fill; from 8 on it is full.
+/// Returns the symbol of a cell of which this many eighths are still to be filled. From 8 on the cell is full.
 #[tactic(auto, unfolding(crate::specs::Levels::level))]
 fn level<'a>(set: &bar::Set<'a>, eighths: u32) -> &'a str
     ensures is { result.now ≡ level (bar_data set.now) eighths }
-    ensures light { AreLightLevels (bar_data set.now) → IsLight result.now }
+    ensures allocation_free { AreAllocationFreeLevels (bar_data set.now) → IsAllocationFree result.now }
 {
     match eighths {
         0 => set.empty,
@@ -43,7 +43,7 @@ fn level<'a>(set: &bar::Set<'a>, eighths: u32) -> &'a str
     }
 }
 
-/// A row of an area.
+/// Returns row `n` of an area.
 fn row_at(area: Rect, n: u16) -> Rect
     ensures { result ≡ row_at area n }
 {
@@ -54,32 +54,32 @@ fn row_at(area: Rect, n: u16) -> Rect
     }
 }
 
-/// A bar that stands.
+/// A vertical bar.
 #[derive(Clone, Copy, Debug)]
-pub(crate) struct StandingBar {
-    /// All of its cells.
+pub(crate) struct VerticalBar {
+    /// All of its cells, filled or not.
     pub(crate) area: Rect,
-    /// The eighths of a cell that are filled, from below.
+    /// How many eighths of a cell are filled, from the bottom.
     pub(crate) filled: u32,
     pub(crate) style: Style,
 }
 
-/// Puts the symbols of a bar in the part of its area that lies in the clip, row by row upwards.
+/// Draws the part of a bar that is in the clip, row by row from the bottom up.
 pub(crate) fn paint_levels(
     alloc: Global,
     buf: &mut Buffer,
     clip: Rect,
     set: &bar::Set<'_>,
-    bar: StandingBar,
+    bar: VerticalBar,
 ) -> Mem<()>
-    ensures ok { OnOk result (Painted (standing_layers (bar_data set.now) clip bar.area bar.style bar.filled) buf.old buf.new) }
+    ensures ok { OnOk result (Painted (vertical_bar_layers (bar_data set.now) clip bar.area bar.style bar.filled) buf.old buf.new) }
     ensures kept { KeptOutside (covers clip) buf.old buf.new }
-    ensures light { AreLightLevels (bar_data set.now) → IsOk result }
+    ensures allocation_free { AreAllocationFreeLevels (bar_data set.now) → IsOk result }
 {
     let mut left = bar.filled;
     'rows: for up in 0..bar.area.height {
         let row = row_at(bar.area, bar.area.height - 1 - up);
-        put_in(alloc, buf, clip, row, level(set, left), bar.style)?;
+        fill_clipped(alloc, buf, clip, row, level(set, left), bar.style)?;
         left = left.saturating_sub(8);
     }
     Ok(())

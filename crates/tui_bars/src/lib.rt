@@ -1,4 +1,4 @@
-//! Bars by whole numbers: gauges that fill by a share, charts of bars, and values side by side.
+//! Bars in integer arithmetic: gauges that are filled to a share, bar charts, and sparklines.
 #![tactic(auto)]
 
 mod areas;

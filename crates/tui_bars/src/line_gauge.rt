@@ -1,7 +1,7 @@
-//! Lines that are filled by a share, after a label.
+//! Lines that are filled to a share, after a label.
 
 ghost use Rattle.std.specs.Prelude.{◌≡◌, ◌<◌, ◌≤◌, Err, IfOk, IsOk, Some, true};
-ghost use Rattle.tui_bars.specs.LineGauge.{drawn_in, empty_line_gauge, line_gauge_data};
+ghost use Rattle.tui_bars.specs.LineGauge.{symbol_style, empty_line_gauge, line_gauge_data};
 ghost use Rattle.tui_frames.specs.Block.{block_data};
 ghost use Rattle.tui_text.specs.Line.{line_data};
 
@@ -16,8 +16,8 @@ use tui_frames::{Block, clone_if_some};
 use tui_layout::Fraction;
 use tui_text::Line;
 
-/// A label, and one column after it a line up to the end of the first row, whose first columns are filled by a share. The label
-/// is the percentage in three places where none is given.
+/// A label and, one column after it, a line to the end of the first row, whose first columns are filled to a share. If
+/// no label is set, it is the percentage, padded to three digits.
 #[derive(Debug, PartialEq, Eq)]
 pub struct LineGauge<'a> {
     block: Option<Block<'a>>,
@@ -30,7 +30,7 @@ pub struct LineGauge<'a> {
     unfilled_style: Style,
 }
 
-// Written out, so that a crate above proves nothing of what it holds to let it go.
+// Written by hand, so that dependent crates need no proofs about dropping the fields.
 impl<'a> Drop for LineGauge<'a> {
     fn drop(self) {
         let LineGauge {
@@ -46,15 +46,15 @@ impl<'a> Drop for LineGauge<'a> {
     }
 }
 
-/// A style of which one colour is the symbol's, Reset where it is not set, over the background Reset.
-fn drawn_in(style: Style, color: Option<Color>) -> Style
-    ensures { result ≡ drawn_in style color }
+/// Returns the style with this foreground, `Reset` if it is not set, on the background `Reset`.
+fn symbol_style(style: Style, color: Option<Color>) -> Style
+    ensures { result ≡ symbol_style style color }
 {
     style.fg(color.unwrap_or(Color::Reset)).bg(Color::Reset)
 }
 
 impl<'a> Default for LineGauge<'a> {
-    /// A line gauge of 0/1 with the symbol `─` for both parts, and nothing set.
+    /// Returns a line gauge of 0/1 with the symbol `─` for both parts and nothing else set.
     fn default() -> LineGauge<'a>
         ensures { line_gauge_data result ≡ empty_line_gauge }
     {
@@ -72,7 +72,7 @@ impl<'a> Default for LineGauge<'a> {
 }
 
 impl<'a> LineGauge<'a> {
-    /// Puts a block around the line gauge, which then has the area inside.
+    /// Sets the block around the line gauge. The line gauge is drawn in the block's inner area.
     pub fn block(mut self, block: Block<'a>) -> LineGauge<'a>
         ensures { line_gauge_data result ≡ record (line_gauge_data self.entry) { block = Some (block_data block.entry) } }
     {
@@ -80,8 +80,8 @@ impl<'a> LineGauge<'a> {
         self
     }
 
-    /// Sets the share. Answers `RatioOutOfRange` exactly where the denominator is 0 or the numerator is above it; the line gauge
-    /// is gone then.
+    /// Sets the share. Fails with `RatioOutOfRange` if and only if the denominator is 0 or the numerator is above it.
+    /// The line gauge is then dropped.
     pub fn ratio(mut self, ratio: Fraction) -> Result<LineGauge<'a>, GaugeError>
         ensures ok { 0 < ratio.den → ratio.num ≤ ratio.den → IsOk result }
         ensures is { IfOk result (λ gauge. line_gauge_data gauge ≡ record (line_gauge_data self.entry) { num = ratio.num; den = ratio.den }) }
@@ -93,7 +93,7 @@ impl<'a> LineGauge<'a> {
         Ok(self)
     }
 
-    /// Sets both symbols to the horizontal one of a set.
+    /// Sets both symbols to the horizontal symbol of a set.
     pub fn line_set(mut self, set: line::Set<'a>) -> LineGauge<'a>
         ensures { line_gauge_data result ≡ record (line_gauge_data self.entry) { filled = set.entry.horizontal.now; unfilled = set.entry.horizontal.now } }
     {
@@ -118,7 +118,7 @@ impl<'a> LineGauge<'a> {
         self
     }
 
-    /// Sets the label in place of the percentage.
+    /// Sets the label, instead of the percentage.
     pub fn label(mut self, label: Line<'a>) -> LineGauge<'a>
         ensures { line_gauge_data result ≡ record (line_gauge_data self.entry) { label = Some (line_data label.entry) } }
     {
@@ -126,7 +126,7 @@ impl<'a> LineGauge<'a> {
         self
     }
 
-    /// Sets the style under all, the block's area included.
+    /// Sets the style under everything, including the block's area.
     pub fn style(mut self, style: Style) -> LineGauge<'a>
         ensures { line_gauge_data result ≡ record (line_gauge_data self.entry) { style = style } }
     {
@@ -150,20 +150,20 @@ impl<'a> LineGauge<'a> {
         self
     }
 
-    /// Sets both styles: this one with its own colour for the filled columns, with its background as colour for the others,
-    /// Reset where it sets none, and with the background Reset.
+    /// Sets both styles. Filled columns have the foreground of `style`, the others its background as their foreground,
+    /// and `Reset` if `style` doesn't set it. The background of both is `Reset`.
     pub fn gauge_style(mut self, style: Style) -> LineGauge<'a>
         ensures { line_gauge_data result ≡ record (line_gauge_data self.entry) {
-          filled_style = drawn_in style style.fg;
-          unfilled_style = drawn_in style style.bg;
+          filled_style = symbol_style style style.fg;
+          unfilled_style = symbol_style style style.bg;
         } }
     {
-        self.filled_style = drawn_in(style, style.fg);
-        self.unfilled_style = drawn_in(style, style.bg);
+        self.filled_style = symbol_style(style, style.fg);
+        self.unfilled_style = symbol_style(style, style.bg);
         self
     }
 
-    /// An equal line gauge of its own. `NoMemory` where there is none for the block or the label.
+    /// Returns an equal copy. Fails with `NoMemory` if the block or the label can't be allocated.
     pub fn clone(&self) -> Mem<LineGauge<'a>>
         ensures is { IfOk result (λ gauge. line_gauge_data gauge ≡ line_gauge_data self.now) }
         ensures equal { IfOk result (λ gauge. ⟦<LineGauge<'a> as PartialEq>⟧.eq gauge self.now ≡ true) }

@@ -2,7 +2,7 @@
 
 ghost use Rattle.std.specs.Prelude.{◌≡◌, ◌+◌, ◌*◌, ◌++◌, ◌<◌, ◌≤◌, ◌^◌, [], ◌∷◌, Err, IfOk, IsOk, codes, decimal, true, false};
 ghost use Rattle.tui_bars.specs.Percent.{eighths_of, fill_of, half_even, padded, percent_label, percent_of};
-ghost use Rattle.tui_text.specs.Setting.{AreLight};
+ghost use Rattle.tui_text.specs.Setting.{AreAllocationFree};
 ghost use Rattle.tui_text.specs.Span.{raw_span};
 
 use crate::error::GaugeError;
@@ -11,11 +11,11 @@ use arrayvec::ArrayString;
 use itoa::Buffer as Digits;
 use tui_layout::Fraction;
 
-/// The share of this many percent.
+/// Returns the share of this many percent.
 pub(crate) fn share_of_percent(percent: u16) -> Result<Share, GaugeError>
     ensures ok { percent ≤ 100 → IsOk result }
     ensures is { IfOk result (λ share. (share.num ≡ percent) × (share.den ≡ 100)) }
-    ensures refused { 100 < percent → result ≡ Err GaugeError.PercentAbove100 }
+    ensures rejected { 100 < percent → result ≡ Err GaugeError.PercentAbove100 }
 {
     if percent > 100 {
         return Err(GaugeError::PercentAbove100);
@@ -26,7 +26,7 @@ pub(crate) fn share_of_percent(percent: u16) -> Result<Share, GaugeError>
     })
 }
 
-/// The share that a fraction gives, if it is from 0 to 1.
+/// Returns the share of a fraction from 0 to 1.
 pub(crate) fn share_of(ratio: Fraction) -> Result<Share, GaugeError>
     ensures ok { 0 < ratio.den → ratio.num ≤ ratio.den → IsOk result }
     ensures is { IfOk result (λ share. (share.num ≡ ratio.num) × (share.den ≡ ratio.den)) }
@@ -40,20 +40,20 @@ pub(crate) fn share_of(ratio: Fraction) -> Result<Share, GaugeError>
     Ok(Share { num, den })
 }
 
-/// The share in percent, rounded, a half upwards.
+/// Returns the share in percent, rounded to the nearest number, halves up.
 fn percent_of(share: Share) -> u64
     ensures is { result ≡ percent_of share.num share.den }
-    ensures few { result ≤ 100 }
+    ensures bound { result ≤ 100 }
 {
     let (num, den) = (u128::from(share.num), u128::from(share.den));
     ((200 * num + den) / (2 * den)) as u64
 }
 
-/// The share in percent with its sign, on the stack.
-#[tactic(auto, using(crate::proofs::LightNumbers::percent_light))]
+/// Returns the share in percent with a percent sign. It does not allocate.
+#[tactic(auto, using(crate::proofs::AllocationFreeNumbers::percent_allocation_free))]
 pub(crate) fn percent_text(share: Share) -> ArrayString<24>
     ensures is { result.bytes ≡ decimal (percent_of share.num share.den) ++ codes "%" }
-    ensures light { AreLight (raw_span result.bytes ∷ []) }
+    ensures allocation_free { AreAllocationFree (raw_span result.bytes ∷ []) }
 {
     let mut digits = Digits::new();
     let mut text = ArrayString::new();
@@ -62,7 +62,7 @@ pub(crate) fn percent_text(share: Share) -> ArrayString<24>
     text
 }
 
-/// A quotient rounded to the nearest number, and a half to the even one.
+/// Returns a quotient rounded to the nearest number, halves to the even one.
 fn half_even(a: u128, b: u128) -> u128
     requires { (0 < b) × (b < 2 ^ 96) }
     ensures is { result ≡ half_even a b }
@@ -76,7 +76,7 @@ fn half_even(a: u128, b: u128) -> u128
     }
 }
 
-/// A percentage in three places with its sign, on the stack.
+/// Returns a percentage with a percent sign, padded to three digits. It does not allocate.
 fn padded(percent: u128) -> ArrayString<48>
     ensures { result.bytes ≡ padded percent }
 {
@@ -93,16 +93,16 @@ fn padded(percent: u128) -> ArrayString<48>
     text
 }
 
-/// The share in percent in three places, rounded, at a half to the even number.
-#[tactic(auto, using(crate::proofs::LightNumbers::padded_light))]
+/// Returns the share in percent, padded to three digits, rounded to the nearest number, halves to the even one.
+#[tactic(auto, using(crate::proofs::AllocationFreeNumbers::padded_allocation_free))]
 pub(crate) fn percent_label(share: Share) -> ArrayString<48>
     ensures is { result.bytes ≡ percent_label share.num share.den }
-    ensures light { AreLight (raw_span result.bytes ∷ []) }
+    ensures allocation_free { AreAllocationFree (raw_span result.bytes ∷ []) }
 {
     padded(half_even(100 * u128::from(share.num), u128::from(share.den)))
 }
 
-/// The whole columns of a width that a share fills.
+/// Returns how many whole columns of a width the share fills.
 pub(crate) fn whole_columns(width: u16, share: Share) -> u16
     ensures { result ≡ fill_of true width share.num share.den }
 {
@@ -110,7 +110,7 @@ pub(crate) fn whole_columns(width: u16, share: Share) -> u16
     (part / u128::from(share.den)) as u16
 }
 
-/// The columns of a width that a share fills, rounded.
+/// Returns how many columns of a width the share fills, rounded.
 pub(crate) fn rounded_columns(width: u16, share: Share) -> u16
     ensures { result ≡ fill_of false width share.num share.den }
 {
@@ -119,7 +119,7 @@ pub(crate) fn rounded_columns(width: u16, share: Share) -> u16
     ((2 * part + den) / (2 * den)) as u16
 }
 
-/// The eighths of the column after them that are filled, rounded.
+/// Returns how many eighths of the column after the whole ones are filled, rounded.
 pub(crate) fn eighths_of(width: u16, share: Share) -> u8
     ensures { result ≡ eighths_of width share.num share.den }
 {

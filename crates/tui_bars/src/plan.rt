@@ -1,38 +1,38 @@
-//! What the walks over a bar chart share.
+//! What all passes over a bar chart share.
 
 use tui_cells::Rect;
 
-/// What all bars of a drawing share.
+/// What all bars of a chart share while it is drawn.
 #[derive(Clone, Copy, Debug, PartialEq, Eq)]
-pub(crate) struct Plan {
+pub(crate) struct ChartPlan {
     /// The area inside the block.
     pub(crate) area: Rect,
     /// The value that fills the length.
     pub(crate) greatest: u64,
-    /// The cells along a bar.
+    /// How many cells long a bar is at most.
     pub(crate) length: u16,
-    /// In a vertical chart: which labels have a row below the bars.
+    /// In a vertical chart: whether labels of bars and labels of groups have a row below the bars.
     pub(crate) bar_labels: bool,
     pub(crate) group_labels: bool,
-    /// In a horizontal chart: the columns of the bars' labels, and the column where the bars begin.
+    /// In a horizontal chart: the width of the bars' labels, and the column where the bars start.
     pub(crate) labels: u16,
     pub(crate) start: u16,
 }
 
-/// A walk over the shown bars.
+/// One pass over the bars that are shown.
 #[derive(Clone, Copy, Debug, PartialEq, Eq)]
 pub(crate) struct Walk {
-    pub(crate) plan: Plan,
+    pub(crate) plan: ChartPlan,
     pub(crate) pass: Pass,
 }
 
-/// What a walk draws.
+/// What a pass draws.
 #[derive(Clone, Copy, Debug, PartialEq, Eq)]
 pub(crate) enum Pass {
-    /// Bars that stand.
+    /// The cells of vertical bars.
     Columns,
-    /// Their labels and values.
+    /// Labels and values of vertical bars.
     Texts,
-    /// Bars that lie, each with its label and value.
+    /// Horizontal bars, each with its label and value.
     Rows,
 }

@@ -1,4 +1,4 @@
-//! The sides from which bars follow one another.
+//! The direction in which the bars of a sparkline follow one another.
 
 ghost use Rattle.std.specs.Prelude.{◌≡◌};
 
@@ -6,17 +6,17 @@ use std::fmt;
 use std::str::FromStr;
 use tui_cells::ParseError;
 
-/// The side where the first bar of a sparkline stands. `Display` writes the variant's name, and `FromStr` reads it.
+/// The side where the first bar of a sparkline is. `Display` writes the variant's name, and `FromStr` reads it.
 #[derive(Clone, Copy, Debug, PartialEq, Eq, Hash)]
 pub enum RenderDirection {
-    /// The first bar stands in the first column.
+    /// The first bar is in the first column.
     LeftToRight,
-    /// The first bar stands in the last column.
+    /// The first bar is in the last column.
     RightToLeft,
 }
 
 impl Default for RenderDirection {
-    /// `LeftToRight`.
+    /// Returns `LeftToRight`.
     fn default() -> RenderDirection
         ensures { result ≡ RenderDirection.LeftToRight }
     {
@@ -46,7 +46,7 @@ impl FromStr for RenderDirection {
 
     ghost from_str_gives = { IsParsed name_of };
 
-    /// Answers `VariantNotFound` exactly where the text is no variant's name.
+    /// Fails with `VariantNotFound` if and only if the text is not the name of a variant.
     fn from_str(text: &str) -> Result<RenderDirection, ParseError> {
         match text {
             "LeftToRight" => Ok(RenderDirection::LeftToRight),

@@ -13,7 +13,7 @@ use std::alloc::Global;
 use tui_cells::{Mem, Style, Styled, bar};
 use tui_frames::{Block, clone_if_some};
 
-/// Values side by side, each as a bar in a column of its own. Values that have no column are left out.
+/// Values side by side, each as a bar in its own column. Values for which there is no column are left out.
 #[derive(Debug, PartialEq, Eq)]
 pub struct Sparkline<'a> {
     block: Option<Block<'a>>,
@@ -26,7 +26,7 @@ pub struct Sparkline<'a> {
     direction: RenderDirection,
 }
 
-// Written out, so that a crate above proves nothing of what it holds to let it go.
+// Written by hand, so that dependent crates need no proofs about dropping the fields.
 impl<'a> Drop for Sparkline<'a> {
     fn drop(self) {
         let Sparkline {
@@ -43,7 +43,7 @@ impl<'a> Drop for Sparkline<'a> {
 }
 
 impl<'a> Sparkline<'a> {
-    /// A sparkline without values, with nine levels, a blank for an absent value, and nothing else set.
+    /// Returns a sparkline without values, with nine levels, a space for an absent value, and nothing else set.
     pub fn new(alloc: Global) -> Sparkline<'a>
         ensures { sparkline_data result ≡ empty_sparkline }
     {
@@ -59,7 +59,7 @@ impl<'a> Sparkline<'a> {
         }
     }
 
-    /// Puts a block around the bars, which then have the area inside.
+    /// Sets the block around the bars. The bars are drawn in the block's inner area.
     pub fn block(mut self, block: Block<'a>) -> Sparkline<'a>
         ensures { sparkline_data result ≡ record (sparkline_data self.entry) { block = Some (block_data block.entry) } }
     {
@@ -75,7 +75,7 @@ impl<'a> Sparkline<'a> {
         self
     }
 
-    /// Sets the style that patches it in the column of an absent value.
+    /// Sets the style for the columns of absent values. It patches the style of the bars.
     pub fn absent_value_style(mut self, style: Style) -> Sparkline<'a>
         ensures { sparkline_data result ≡ record (sparkline_data self.entry) { absent_style = style } }
     {
@@ -83,7 +83,7 @@ impl<'a> Sparkline<'a> {
         self
     }
 
-    /// Sets the symbol in each cell of the column of an absent value.
+    /// Sets the symbol that fills the column of an absent value.
     pub fn absent_value_symbol(mut self, symbol: &'a str) -> Sparkline<'a>
         ensures { sparkline_data result ≡ record (sparkline_data self.entry) { absent_symbol = symbol.now } }
     {
@@ -91,7 +91,7 @@ impl<'a> Sparkline<'a> {
         self
     }
 
-    /// Puts these bars in place of the old ones.
+    /// Replaces the bars.
     pub fn data(mut self, bars: Vec<SparklineBar>) -> Sparkline<'a>
         ensures { sparkline_data result ≡ record (sparkline_data self.entry) { bars = map sparkline_bar_data bars.items } }
     {
@@ -99,7 +99,7 @@ impl<'a> Sparkline<'a> {
         self
     }
 
-    /// Sets the value that fills a column, in place of the greatest of the values.
+    /// Sets the value that fills a column, instead of the greatest of the values.
     pub fn max(mut self, max: u64) -> Sparkline<'a>
         ensures { sparkline_data result ≡ record (sparkline_data self.entry) { max = Some max } }
     {
@@ -107,7 +107,7 @@ impl<'a> Sparkline<'a> {
         self
     }
 
-    /// Sets the symbols of cells that are filled in part.
+    /// Sets the symbols of partly filled cells.
     pub fn bar_set(mut self, set: bar::Set<'a>) -> Sparkline<'a>
         ensures { sparkline_data result ≡ record (sparkline_data self.entry) { symbols = bar_data set.entry } }
     {
@@ -115,7 +115,7 @@ impl<'a> Sparkline<'a> {
         self
     }
 
-    /// Sets the side where the first bar stands.
+    /// Sets the side where the first bar is.
     pub fn direction(mut self, direction: RenderDirection) -> Sparkline<'a>
         ensures { sparkline_data result ≡ record (sparkline_data self.entry) { direction = direction } }
     {
@@ -123,7 +123,7 @@ impl<'a> Sparkline<'a> {
         self
     }
 
-    /// An equal sparkline of its own. `NoMemory` where there is none for the block or the bars.
+    /// Returns an equal copy. Fails with `NoMemory` if the block or the bars can't be allocated.
     pub fn clone(&self) -> Mem<Sparkline<'a>>
         ensures is { IfOk result (λ line. sparkline_data line ≡ sparkline_data self.now) }
         ensures equal { IfOk result (λ line. ⟦<Sparkline<'a> as PartialEq>⟧.eq line self.now ≡ true) }

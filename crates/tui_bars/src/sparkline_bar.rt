@@ -2,7 +2,7 @@
 
 use tui_cells::Style;
 
-/// A value, which may be absent, and a style of its own, which it may have.
+/// A value, which may be absent, and optionally its own style.
 #[derive(Clone, Copy, Debug, PartialEq, Eq)]
 pub struct SparklineBar {
     pub(crate) value: Option<u64>,
@@ -13,7 +13,7 @@ impl SparklineBar {
     ghost use Rattle.std.specs.Prelude.{◌≡◌};
     ghost use Rattle.tui_bars.specs.Sparkline.{sparkline_bar_data};
 
-    /// Sets the style that patches the sparkline's, or none.
+    /// Sets or clears the style that patches the style of the sparkline.
     pub fn style(self, style: Option<Style>) -> SparklineBar
         ensures { sparkline_bar_data result ≡ record (sparkline_bar_data self) { style = style } }
     {
@@ -25,7 +25,7 @@ impl Default for SparklineBar {
     ghost use Rattle.std.specs.Prelude.{◌≡◌, None};
     ghost use Rattle.tui_bars.specs.Sparkline.{sparkline_bar_data};
 
-    /// No value and no style.
+    /// Returns a bar without a value and a style.
     fn default() -> SparklineBar
         ensures { sparkline_bar_data result ≡ record { value = None; style = None } }
     {
@@ -51,7 +51,7 @@ impl From<u64> for SparklineBar {
     }
 }
 
-/// The same.
+/// A value by reference, without a style of its own.
 impl From<&u64> for SparklineBar {
     ghost use Rattle.std.specs.Prelude.{◌≡◌, None, Some};
     ghost use Rattle.tui_bars.specs.Sparkline.{sparkline_bar_data};
@@ -78,7 +78,7 @@ impl From<Option<u64>> for SparklineBar {
     }
 }
 
-/// The same.
+/// A value by reference that may be absent, without a style of its own.
 impl From<&Option<u64>> for SparklineBar {
     ghost use Rattle.std.specs.Prelude.{◌≡◌, None};
     ghost use Rattle.tui_bars.specs.Sparkline.{sparkline_bar_data};

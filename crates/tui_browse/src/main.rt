@@ -1,14 +1,15 @@
-//! The program `tui_browse`: a pager of a file's entries, or of a text's pieces, on the terminal that `./live` gives it.
+//! The program `tui_browse`: it shows a file's entries, or a text's pieces, in a pager on the terminal that `./live`
+//! provides.
 #![tactic(auto)]
 
 use std::io;
 use std::process::ExitCode;
-use tui_app::Port;
+use tui_app::IoTerminal;
 use tui_browse_run::{BrowseEnded, file_named, run_program};
 use tui_cells::{Mem, NoMemory};
-use tui_outside::{StdSink, StdSource};
+use tui_io::{StdSink, StdSource};
 use tui_program::FileSource;
-use tui_system::{opened, setting, words};
+use tui_system::{arguments, open_file, setting};
 
 fn main(rt: HostRuntime) -> ExitCode {
     match browse(&rt) {
@@ -17,16 +18,17 @@ fn main(rt: HostRuntime) -> ExitCode {
     }
 }
 
-/// Runs over what the system gives. `NoMemory` where it had none for what it says, before anything is read or written.
+/// Runs the program with what the system gives. Fails with `NoMemory` if the system has no memory for that, before
+/// anything is read or written.
 fn browse(rt: &HostRuntime) -> Mem<BrowseEnded> {
     let alloc = rt.alloc();
     let setting = setting(rt)?;
-    // Where the words name no file nothing is read of the one without a name, which can't be opened.
-    let file = match file_named(alloc, words(rt)?) {
+    // If the arguments name no file, the empty name is opened. That fails, and nothing is read.
+    let file = match file_named(alloc, arguments(rt)?) {
         Some(file) => file,
         None => String::new(alloc),
     };
-    let mut source = FileSource::new(opened(rt, file.as_str())?);
-    let mut terminal = Port::new(StdSource::new(rt.reader()), StdSink::new(io::writer(rt)));
-    Ok(run_program(alloc, setting, words(rt)?, &mut source, &mut terminal))
+    let mut source = FileSource::new(open_file(rt, file.as_str())?);
+    let mut terminal = IoTerminal::new(StdSource::new(rt.reader()), StdSink::new(io::writer(rt)));
+    Ok(run_program(alloc, setting, arguments(rt)?, &mut source, &mut terminal))
 }

@@ -1,10 +1,10 @@
-//! A pager as an app, which keys and sizes move.
+//! A pager as an app, driven by keys and screen sizes.
 #![tactic(auto)]
 
-mod asking;
+mod actions;
 mod laws;
 mod paging;
 
-pub use asking::Asked;
+pub use actions::PagerAction;
 pub use laws::paging_law;
 pub use paging::PagerApp;

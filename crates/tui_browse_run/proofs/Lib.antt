@@ -2,5 +2,5 @@ pub mod Counting
 pub mod FirstPiece
 pub mod Cuts
 pub mod Mapped
-pub mod Saying
+pub mod Parsing
 pub mod Naming

@@ -1,7 +1,7 @@
--- The endings of the program, and their exit status.
+-- The outcomes of the program, and their exit statuses.
 use Rattle.std.specs.Prelude.{ℕ}
-use Rattle.tui_app.specs.declared.ending.AppEnd.{AppEnd}
-use Rattle.tui_app.specs.declared.ending.AppEnd.TheVariants as ends
+use Rattle.tui_app.specs.declared.outcome.AppEnd.{AppEnd}
+use Rattle.tui_app.specs.declared.outcome.AppEnd.TheVariants as ends
 use Rattle.tui_browse_run.specs.declared.ended.BrowseEnded.{BrowseEnded}
 use Rattle.tui_browse_run.specs.declared.ended.BrowseEnded.TheVariants.{
   Quit,
@@ -19,7 +19,7 @@ use Rattle.tui_browse_run.specs.declared.ended.BrowseEnded.TheVariants.{
 use Rattle.tui_browse_run.specs.declared.refusal.Refusal.{Refusal}
 use Rattle.tui_browse_run.specs.declared.refusal.Refusal.TheVariants as refusals
 
--- of a session
+-- the outcome for the end of a session
 abbrev pub ended_as : AppEnd → BrowseEnded
 ended_as ends.Quit = Quit
 ended_as ends.Ended = Ended
@@ -28,12 +28,12 @@ ended_as ends.WriteFault = WriteFault
 ended_as ends.NoMemory = NoMemory
 ended_as ends.ManyReads = ManyReads
 
--- of a refusal
-abbrev pub refused_as : Refusal → BrowseEnded
-refused_as refusals.TooLong = TooLong
-refused_as refusals.NotJson = NotJson
-refused_as refusals.NotText = NotText
-refused_as (refusals.BadInput x) = BadInput x.at x.field
+-- the outcome of a rejected file
+abbrev pub rejected_as : Refusal → BrowseEnded
+rejected_as refusals.TooLong = TooLong
+rejected_as refusals.NotJson = NotJson
+rejected_as refusals.NotText = NotText
+rejected_as (refusals.BadInput x) = BadInput x.at x.field
 
 abbrev pub status_of : BrowseEnded → ℕ
 status_of Quit = 0

@@ -1,11 +1,11 @@
--- What a file says: its entries, or what is refused of it.
+-- What a file means: its entries, or why it is rejected.
 use Rattle.std.specs.Prelude.{◌≡◌, ℕ, List, map, Some, None, Result, Ok, Err, IsUtf8}
 use Rattle.serde_json.specs.Data.{Data}
 use Rattle.serde_json.specs.Read.{read}
 use Rattle.tui_browse_run.specs.Pieces.{AreAllPieces, HasMorePieces, PieceData}
 use Rattle.tui_browse_run.specs.Pieces as pieces
-use Rattle.tui_browse_run.specs.declared.form.Form.{Form}
-use Rattle.tui_browse_run.specs.declared.form.Form.TheVariants as forms
+use Rattle.tui_browse_run.specs.declared.format.Format.{Format}
+use Rattle.tui_browse_run.specs.declared.format.Format.TheVariants as formats
 use Rattle.tui_browse_run.specs.declared.refusal.Refusal.{Refusal}
 use Rattle.tui_browse_run.specs.declared.refusal.Refusal.TheVariants.{TooLong, NotJson, NotText, BadInput}
 use Rattle.tui_json.specs.Members.{elements_within}
@@ -15,39 +15,39 @@ use Rattle.tui_pager_run.specs.Input.{entry_of, required}
 use Rattle.tui_pager_run.specs.declared.bad_input.BadInput.{BadInput as Bad}
 use Rattle.tui_pager_run.specs.declared.field.PagerField.TheVariants as fields
 
--- the entries of an input, or the refusal of the first field whose test fails
+-- the entries of an input, or its first field that fails its test
 unfoldable pub entries_of : Data → Result (List EntryData) Bad
 entries_of d = do
   values ← required (elements_within 0 1000) None fields.Entries d
   numbered entry_of 0 values
 
--- its entries, or what is refused of it
-abbrev pub Said : Type 0
-Said = Result (List EntryData) Refusal
+-- entries, or why the file is rejected
+abbrev pub Parsed : Type 0
+Parsed = Result (List EntryData) Refusal
 
--- a value in JSON
-abbrev pub SaysValue : Data → Said → Type 0
-SaysValue d (Ok entries) = entries_of d ≡ Ok entries
-SaysValue d (Err (BadInput x)) = entries_of d ≡ Err x
-SaysValue d (Err other) = ⊥
+-- a JSON value
+abbrev pub ValueParsesTo : Data → Parsed → Type 0
+ValueParsesTo d (Ok entries) = entries_of d ≡ Ok entries
+ValueParsesTo d (Err (BadInput x)) = entries_of d ≡ Err x
+ValueParsesTo d (Err other) = ⊥
 
--- bytes that are to be JSON
-abbrev pub SaysEntries : List ℕ → Said → Type 0
-SaysEntries bytes (Err NotJson) = IsUtf8 bytes → read bytes ≡ None
-SaysEntries bytes said = (d : Data) × IsUtf8 bytes × (read bytes ≡ Some d) × SaysValue d said
+-- bytes that should be JSON
+abbrev pub JsonParsesTo : List ℕ → Parsed → Type 0
+JsonParsesTo bytes (Err NotJson) = IsUtf8 bytes → read bytes ≡ None
+JsonParsesTo bytes parsed = (d : Data) × IsUtf8 bytes × (read bytes ≡ Some d) × ValueParsesTo d parsed
 
--- a text: its pieces are the entries
-abbrev pub SaysPieces : List ℕ → Said → Type 0
-SaysPieces text (Ok entries) = (all : List PieceData) × AreAllPieces text all × (entries ≡ map pieces.entry_of all)
-SaysPieces text (Err TooLong) = HasMorePieces text
-SaysPieces text (Err other) = ⊥
+-- a text, whose pieces are the entries
+abbrev pub PiecesParseTo : List ℕ → Parsed → Type 0
+PiecesParseTo text (Ok entries) = (all : List PieceData) × AreAllPieces text all × (entries ≡ map pieces.entry_of all)
+PiecesParseTo text (Err TooLong) = HasMorePieces text
+PiecesParseTo text (Err other) = ⊥
 
--- bytes that are to be a text
-abbrev pub SaysText : List ℕ → Said → Type 0
-SaysText bytes (Err NotText) = IsUtf8 bytes → ⊥
-SaysText bytes said = IsUtf8 bytes × SaysPieces bytes said
+-- bytes that should be UTF-8 text
+abbrev pub TextParsesTo : List ℕ → Parsed → Type 0
+TextParsesTo bytes (Err NotText) = IsUtf8 bytes → ⊥
+TextParsesTo bytes parsed = IsUtf8 bytes × PiecesParseTo bytes parsed
 
 -- the bytes of a file
-abbrev pub Says : Form → List ℕ → Said → Type 0
-Says forms.Entries bytes said = SaysEntries bytes said
-Says forms.Text bytes said = SaysText bytes said
+abbrev pub ParsesTo : Format → List ℕ → Parsed → Type 0
+ParsesTo formats.Entries bytes parsed = JsonParsesTo bytes parsed
+ParsesTo formats.Text bytes parsed = TextParsesTo bytes parsed

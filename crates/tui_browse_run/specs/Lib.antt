@@ -3,7 +3,7 @@ pub mod Cuts
 pub mod TextEntry
 pub mod Refusals
 pub mod Input
-pub mod Words
+pub mod Arguments
 pub mod Shown
 pub mod Ended
 pub mod Ends

@@ -2,43 +2,45 @@
 use Rattle.std.specs.Prelude.{◌≡◌, ◌≢◌, ◌⊎◌, ◌==◌, ℕ, ◌+◌, ◌-◌, ◌<◌, ◌≤◌, Bool, List, [], ◌∷◌, ◌++◌, codes, decimal, length, take, slice_index}
 use Rattle.std.specs.List.{before_first, count_by, flat_map}
 use Rattle.std.specs.Str.{IsCharBoundary}
-use Rattle.tui_browse_run.specs.declared.piece.Piece.{Piece}
+use Rattle.tui_browse_run.specs.declared.piece.TextPiece.{TextPiece}
 use Rattle.tui_pager_lib.specs.Entry.{EntryData}
 
 -- ---- one piece
 
-abbrev pub is_feed : ℕ → Bool
-is_feed b = b == 10
+abbrev pub is_line_feed : ℕ → Bool
+is_line_feed b = b == 10
 
--- how many line feeds a text has
-abbrev pub feeds : List ℕ → ℕ
-feeds text = count_by is_feed text
+-- the number of line feeds in a text
+abbrev pub line_feeds : List ℕ → ℕ
+line_feeds text = count_by is_line_feed text
 
--- The first n bytes of a text are no more than a piece may have. They have as many lines as line feeds before their last byte, and one more.
+-- The first n bytes of a text are at most what a piece may have. Their lines are counted as the line feeds before the
+-- last byte, plus one.
 pub record Fits (text : List ℕ) (n : ℕ) : Type 0 where
   pub some : 0 < n
   pub within : n ≤ length text
-  pub few : feeds (take (n - 1) text) + 1 ≤ 1000
+  pub few : line_feeds (take (n - 1) text) + 1 ≤ 1000
   pub short : n ≤ 65536
 
--- and a line ends behind them
+-- and a line ends after them
 pub record FitsLines (text : List ℕ) (n : ℕ) : Type 0 where
   pub fits : Fits text n
   pub ends : (slice_index text (n - 1) ≡ 10) ⊎ (n ≡ length text)
 
--- and a character ends behind them
+-- and a character ends after them
 pub record FitsChars (text : List ℕ) (n : ℕ) : Type 0 where
   pub fits : Fits text n
   pub ends : IsCharBoundary text n
 
--- the greatest number of which something holds
+-- the greatest number for which a property holds
 pub record IsGreatest (P : ℕ → Type 0) (n : ℕ) : Type 0 where
   pub holds : P n
   pub greatest : (m : ℕ) → P m → m ≤ n
 
--- The first piece of a text is as long as it may be where a line ends; where none ends, as long as it may be where a character ends.
-abbrev pub EndsPiece : List ℕ → ℕ → Type 0
-EndsPiece text n = IsGreatest (FitsLines text) n ⊎ (((m : ℕ) → FitsLines text m → ⊥) × IsGreatest (FitsChars text) n)
+-- The first piece of a text is the longest allowed one that ends with a line. If none ends with a line, it is the
+-- longest allowed one that ends with a character.
+abbrev pub IsPieceEnd : List ℕ → ℕ → Type 0
+IsPieceEnd text n = IsGreatest (FitsLines text) n ⊎ (((m : ℕ) → FitsLines text m → ⊥) × IsGreatest (FitsChars text) n)
 
 -- ---- all pieces
 
@@ -47,23 +49,23 @@ pub record PieceData : Type 0 where
   pub line : ℕ
   pub body : List ℕ
 
-abbrev pub piece_data : Piece → PieceData
+abbrev pub piece_data : TextPiece → PieceData
 piece_data piece = record { line = piece.line; body = piece.body.now }
 
--- the first pieces of a text, the number of the line that goes on or begins behind them, and what stands there
+-- the first pieces of a text, the number of the line that continues or begins after them, and the rest of the text
 pub data ArePieces (text : List ℕ) : List PieceData → ℕ → List ℕ → Type 0 where
   no_pieces : ArePieces text [] 1 text
-  one_more : (pieces : List PieceData) (line : ℕ) (body rest : List ℕ) → ArePieces text pieces line (body ++ rest) → EndsPiece (body ++ rest) (length body)
-      → ArePieces text (pieces ++ record { line = line; body = body } ∷ []) (line + feeds body) rest
+  one_more : (pieces : List PieceData) (line : ℕ) (body rest : List ℕ) → ArePieces text pieces line (body ++ rest) → IsPieceEnd (body ++ rest) (length body)
+      → ArePieces text (pieces ++ record { line = line; body = body } ∷ []) (line + line_feeds body) rest
 
--- all pieces of a text, of which there are at most a thousand: one behind the other they are the text
+-- all pieces of a text, at most a thousand; joined they are the text
 pub record AreAllPieces (text : List ℕ) (pieces : List PieceData) : Type 0 where
   pub line : ℕ
   pub are : ArePieces text pieces line []
   pub few : length pieces ≤ 1000
   pub joined : flat_map (λ p. p.body) pieces ≡ text
 
--- a text of more pieces: behind the first thousand something is left
+-- a text with more pieces: something is left after the first thousand
 pub record HasMorePieces (text : List ℕ) : Type 0 where
   pub pieces : List PieceData
   pub line : ℕ
@@ -74,11 +76,11 @@ pub record HasMorePieces (text : List ℕ) : Type 0 where
 
 -- ---- as entries
 
--- what stands before the first line feed, or all where there is none
+-- the text before the first line feed, or all of it if there is none
 abbrev pub first_line : List ℕ → List ℕ
-first_line text = before_first is_feed text
+first_line text = before_first is_line_feed text
 
--- a piece's title: the number of its first line, a blank, and that line, as far as it stands in the piece
+-- a piece's title: the number of its first line, a space, and that line, as far as it is in the piece
 abbrev pub title_of : PieceData → List ℕ
 title_of piece = decimal piece.line ++ (codes " " ++ first_line piece.body)
 

@@ -1,4 +1,4 @@
--- Laws: refusals and endings that `==` calls equal are the same.
+-- Laws: values of `Refusal` and of `BrowseEnded` that are equal by `==` are the same.
 use Rattle.std.specs.Prelude.{◌≡◌, true}
 use Rattle.std.proofs.Common.{rules}
 use Rattle.std.proofs.lemmas.Bool.{and_parts}
@@ -24,12 +24,12 @@ same_bad_input a b e =
     let both = and_parts _ (field.TheImpl.ghosts.eq a.field b.field) e in
     Prim.search (rules, both.0, same_field a.field b.field both.1)
 
--- refusals that `==` calls equal are the same
+-- values of `Refusal` that are equal by `==` are the same
 pub same_refusal : (a b : Refusal) → refusal.TheImpl.ghosts.eq a b ≡ true → a ≡ b
 same_refusal (refusals.BadInput a) (refusals.BadInput b) e = Prim.search (rules, same_bad_input a b e)
 same_refusal a b e = Prim.search rules
 
--- so are endings
+-- so are values of `BrowseEnded`
 pub same_ended : (a b : BrowseEnded) → ended.TheImpl.ghosts.eq a b ≡ true → a ≡ b
 same_ended (endings.BadInput p f) (endings.BadInput q g) e =
     let both = and_parts _ (field.TheImpl.ghosts.eq f g) e in

@@ -1,19 +1,19 @@
 -- A session of a pager.
 use Rattle.std.specs.Prelude.{ℕ, List}
 use Rattle.tui_app.specs.Run.{IsAppRun}
-use Rattle.tui_app.specs.declared.ending.AppEnd.{AppEnd}
-use Rattle.tui_browse_lib.specs.Paging.{first_of, paging}
+use Rattle.tui_app.specs.declared.outcome.AppEnd.{AppEnd}
+use Rattle.tui_browse_lib.specs.Paging.{initial_pager_for, paging}
 use Rattle.tui_browse_lib.specs.declared.paging.PagerApp.{PagerApp}
 use Rattle.tui_cells.specs.Rect.{area_of}
-use Rattle.tui_outside.specs.Causes.{Told}
+use Rattle.tui_io.specs.Causes.{Observed}
 use Rattle.tui_pager_lib.specs.Entry.{EntryData}
-use Rattle.tui_tty.specs.declared.output.Output.{Output}
+use Rattle.tui_terminal_model.specs.declared.output.Output.{Output}
 
--- the pager of these entries, on a screen of a size
+-- the pager of these entries on a screen of a size
 abbrev pub app_of : List EntryData → ℕ → ℕ → PagerApp
-app_of entries width height = record { pager = first_of entries width height }
+app_of entries width height = record { pager = initial_pager_for entries width height }
 
--- its run on a terminal, which told these before and then, and how it ended
-pub record AreEntriesShown (o : Output) (entries : List EntryData) (width height : ℕ) (old new : Told) (end : AppEnd) : Type 0 where
+-- its run on a terminal, whose observable states before and after are `old` and `new`, and how it ended
+pub record AreEntriesShown (o : Output) (entries : List EntryData) (width height : ℕ) (old new : Observed) (end : AppEnd) : Type 0 where
   pub last : PagerApp
   pub run : IsAppRun paging o (app_of entries width height) (area_of 0 0 width height) old new last end

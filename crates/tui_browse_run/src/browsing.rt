@@ -3,19 +3,19 @@
 ghost use Rattle.serde_json.specs.View.{view};
 ghost use Rattle.std.specs.Prelude.{◌≡◌, Ok, map};
 ghost use Rattle.tui_browse_run.specs.Ends.{EndsOver};
-ghost use Rattle.tui_browse_run.specs.Input.{Says, SaysEntries, SaysPieces, SaysText, SaysValue};
+ghost use Rattle.tui_browse_run.specs.Input.{ParsesTo, JsonParsesTo, PiecesParseTo, TextParsesTo, ValueParsesTo};
 ghost use Rattle.tui_browse_run.specs.Pieces.{entry_of, piece_data};
 ghost use Rattle.tui_browse_run.specs.TextEntry.{text_entry_data};
 ghost use Rattle.tui_pager_lib.specs.Entry.{entry_data};
 
-use crate::ended::{BrowseEnded, refuse};
+use crate::ended::{BrowseEnded, reject};
 use crate::entries::read_entries;
-use crate::form::Form;
-use crate::piece::Piece;
+use crate::format::Format;
+use crate::piece::TextPiece;
 use crate::pieces::{PiecesError, pieces_of};
 use crate::refusal::Refusal;
 use crate::session::show;
-use crate::text_entry::{TextEntry, lent_entries, text_entries};
+use crate::text_entry::{TextEntry, borrowed_entries, text_entries};
 use serde_json::Value;
 use std::alloc::Global;
 use tui_app::Terminal;
@@ -25,19 +25,19 @@ use tui_pager_lib::Entry;
 use tui_program::{JsonError, json_of};
 use tui_system::Setting;
 
-/// Shows what bytes of a form say, or refuses them.
+/// Shows what these bytes of a format hold, or rejects them.
 pub(crate) fn browse_bytes<T: Terminal>(
     alloc: Global,
     setting: Setting,
-    form: Form,
+    format: Format,
     bytes: Vec<u8>,
     terminal: &mut T,
 ) -> BrowseEnded
-    ensures { EndsOver setting (Says form bytes.items) (T.told terminal.old) (T.told terminal.new) result }
+    ensures { EndsOver setting (ParsesTo format bytes.items) (T.observed terminal.old) (T.observed terminal.new) result }
 {
-    match form {
-        Form::Entries => browse_json(alloc, setting, bytes, terminal),
-        Form::Text => browse_text(alloc, setting, bytes.as_slice(), terminal),
+    match format {
+        Format::Entries => browse_json(alloc, setting, bytes, terminal),
+        Format::Text => browse_text(alloc, setting, bytes.as_slice(), terminal),
     }
 }
 
@@ -47,11 +47,11 @@ fn browse_json<T: Terminal>(
     bytes: Vec<u8>,
     terminal: &mut T,
 ) -> BrowseEnded
-    ensures { EndsOver setting (SaysEntries bytes.items) (T.told terminal.old) (T.told terminal.new) result }
+    ensures { EndsOver setting (JsonParsesTo bytes.items) (T.observed terminal.old) (T.observed terminal.new) result }
 {
     match json_of(alloc, bytes) {
         Ok(value) => browse_value(alloc, setting, &value, terminal),
-        Err(JsonError::NotJson) => refuse(Refusal::NotJson, terminal),
+        Err(JsonError::NotJson) => reject(Refusal::NotJson, terminal),
         Err(JsonError::NoMemory) => BrowseEnded::NoMemory,
     }
 }
@@ -62,11 +62,11 @@ fn browse_value<T: Terminal>(
     value: &Value,
     terminal: &mut T,
 ) -> BrowseEnded
-    ensures { EndsOver setting (SaysValue (view value.now)) (T.told terminal.old) (T.told terminal.new) result }
+    ensures { EndsOver setting (ValueParsesTo (view value.now)) (T.observed terminal.old) (T.observed terminal.new) result }
 {
     match read_entries(alloc, value) {
         Ok(entries) => browse_entries(alloc, setting, entries, terminal),
-        Err(InputError::Refused(bad)) => refuse(Refusal::BadInput(bad), terminal),
+        Err(InputError::Refused(bad)) => reject(Refusal::BadInput(bad), terminal),
         Err(InputError::NoMemory) => BrowseEnded::NoMemory,
     }
 }
@@ -77,11 +77,11 @@ fn browse_text<T: Terminal>(
     bytes: &[u8],
     terminal: &mut T,
 ) -> BrowseEnded
-    ensures { EndsOver setting (SaysText bytes.now) (T.told terminal.old) (T.told terminal.new) result }
+    ensures { EndsOver setting (TextParsesTo bytes.now) (T.observed terminal.old) (T.observed terminal.new) result }
 {
     match str::from_utf8(bytes) {
         Ok(text) => browse_pieces_of(alloc, setting, text, terminal),
-        Err(_) => refuse(Refusal::NotText, terminal),
+        Err(_) => reject(Refusal::NotText, terminal),
     }
 }
 
@@ -91,11 +91,11 @@ fn browse_pieces_of<T: Terminal>(
     text: &str,
     terminal: &mut T,
 ) -> BrowseEnded
-    ensures { EndsOver setting (SaysPieces text.now) (T.told terminal.old) (T.told terminal.new) result }
+    ensures { EndsOver setting (PiecesParseTo text.now) (T.observed terminal.old) (T.observed terminal.new) result }
 {
     match pieces_of(alloc, text) {
         Ok(pieces) => browse_pieces(alloc, setting, pieces.as_slice(), terminal),
-        Err(PiecesError::TooMany) => refuse(Refusal::TooLong, terminal),
+        Err(PiecesError::TooMany) => reject(Refusal::TooLong, terminal),
         Err(PiecesError::NoMemory) => BrowseEnded::NoMemory,
     }
 }
@@ -103,27 +103,27 @@ fn browse_pieces_of<T: Terminal>(
 fn browse_pieces<T: Terminal>(
     alloc: Global,
     setting: Setting,
-    pieces: &[Piece<'_>],
+    pieces: &[TextPiece<'_>],
     terminal: &mut T,
 ) -> BrowseEnded
-    ensures { EndsOver setting (λ said. said ≡ Ok (map (λ p. entry_of (piece_data p)) pieces.now)) (T.told terminal.old) (T.told terminal.new) result }
+    ensures { EndsOver setting (λ parsed. parsed ≡ Ok (map (λ p. entry_of (piece_data p)) pieces.now)) (T.observed terminal.old) (T.observed terminal.new) result }
 {
     match text_entries(alloc, pieces) {
-        Ok(entries) => browse_lent(alloc, setting, entries.as_slice(), terminal),
+        Ok(entries) => browse_borrowed(alloc, setting, entries.as_slice(), terminal),
         Err(NoMemory) => BrowseEnded::NoMemory,
     }
 }
 
-fn browse_lent<T: Terminal>(
+fn browse_borrowed<T: Terminal>(
     alloc: Global,
     setting: Setting,
     entries: &[TextEntry],
     terminal: &mut T,
 ) -> BrowseEnded
-    ensures { EndsOver setting (λ said. said ≡ Ok (map text_entry_data entries.now)) (T.told terminal.old) (T.told terminal.new) result }
+    ensures { EndsOver setting (λ parsed. parsed ≡ Ok (map text_entry_data entries.now)) (T.observed terminal.old) (T.observed terminal.new) result }
 {
-    match lent_entries(alloc, entries) {
-        Ok(lent) => browse_entries(alloc, setting, lent, terminal),
+    match borrowed_entries(alloc, entries) {
+        Ok(borrowed) => browse_entries(alloc, setting, borrowed, terminal),
         Err(NoMemory) => BrowseEnded::NoMemory,
     }
 }
@@ -134,7 +134,7 @@ fn browse_entries<T: Terminal>(
     entries: Vec<Entry<'_>>,
     terminal: &mut T,
 ) -> BrowseEnded
-    ensures { EndsOver setting (λ said. said ≡ Ok (map entry_data entries.entry.items)) (T.told terminal.old) (T.told terminal.new) result }
+    ensures { EndsOver setting (λ parsed. parsed ≡ Ok (map entry_data entries.entry.items)) (T.observed terminal.old) (T.observed terminal.new) result }
 {
     show(
         alloc,

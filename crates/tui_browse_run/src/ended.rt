@@ -1,42 +1,44 @@
 //! How a run of the program ends.
 
 ghost use Rattle.std.specs.Prelude.{◌≡◌};
-ghost use Rattle.tui_browse_run.specs.Ends.{Refuses};
-ghost use Rattle.tui_browse_run.specs.Ended.{ended_as, refused_as, status_of};
+ghost use Rattle.tui_browse_run.specs.Ends.{Rejects};
+ghost use Rattle.tui_browse_run.specs.Ended.{ended_as, rejected_as, status_of};
 
-use crate::refusal::{Refusal, put_line};
+use crate::refusal::{Refusal, write_refusal_line};
 use std::process::ExitCode;
 use tui_app::AppEnd;
-use tui_outside::{Sink, WriteFault};
+use tui_io::{Sink, WriteFault};
 use tui_pager_run::{BadInput, PagerField};
 
-/// How a run ends. The endings from `Usage` to `BadInput` have written one line that says so, and the terminal was not entered.
+/// How a run ends. `Usage`, `TooLong`, `NotJson`, `NotText` and `BadInput` have written one line that says so, without
+/// entering the terminal.
 #[derive(Clone, Copy, Debug, PartialEq, Eq)]
 pub enum BrowseEnded {
     /// The user quit.
     Quit,
-    /// No byte is left of the keys.
+    /// The input has ended.
     Ended,
-    /// The words are not those of a command.
+    /// The arguments are not valid.
     Usage,
-    /// The file has more than 1,048,576 bytes, or as a text more than 1,000 pieces.
+    /// The file has more than 1,048,576 bytes, or, as text, more than 1,000 pieces.
     TooLong,
-    /// The file is no JSON in UTF-8.
+    /// The file is not JSON in UTF-8.
     NotJson,
-    /// The file is no text in UTF-8.
+    /// The file is not UTF-8 text.
     NotText,
-    /// A field of the input, or of the entry of this number from 0, is missing or of the wrong kind.
+    /// A field of the input is missing or of the wrong kind. With `at` it is a field of the entry of that index, from
+    /// 0.
     BadInput {
         at: Option<usize>,
         field: PagerField,
     },
-    /// The file could not be opened, or a read of it or of the keys failed.
+    /// The file could not be opened, or reading it or the keys failed.
     ReadFault,
-    /// A put failed.
+    /// A write failed.
     WriteFault,
-    /// The memory was not there.
+    /// Memory ran out.
     NoMemory,
-    /// The session had as many reads as one may have.
+    /// The session has made the most reads that it may make, 4,294,967,296.
     ManyReads,
 }
 
@@ -60,9 +62,9 @@ impl From<AppEnd> for BrowseEnded {
 
 impl From<Refusal> for BrowseEnded {
     ghost use Rattle.std.specs.Prelude.{◌≡◌};
-    ghost use Rattle.tui_browse_run.specs.Ended.{refused_as};
+    ghost use Rattle.tui_browse_run.specs.Ended.{rejected_as};
 
-    ghost from_gives = { λ refusal ended. ended ≡ refused_as refusal };
+    ghost from_gives = { λ refusal ended. ended ≡ rejected_as refusal };
 
     fn from(refusal: Refusal) -> BrowseEnded {
         match refusal {
@@ -74,11 +76,11 @@ impl From<Refusal> for BrowseEnded {
     }
 }
 
-/// Writes the line of a refusal, and ends with it.
-pub(crate) fn refuse<K: Sink>(refusal: Refusal, sink: &mut K) -> BrowseEnded
-    ensures { Refuses refusal (K.told sink.old) (K.told sink.new) result }
+/// Writes the line that says why the file is rejected, and returns how the run ends.
+pub(crate) fn reject<K: Sink>(refusal: Refusal, sink: &mut K) -> BrowseEnded
+    ensures { Rejects refusal (K.observed sink.old) (K.observed sink.new) result }
 {
-    match put_line(refusal, sink) {
+    match write_refusal_line(refusal, sink) {
         Ok(()) => refusal.into(),
         Err(WriteFault) => BrowseEnded::WriteFault,
     }
@@ -89,7 +91,7 @@ impl BrowseEnded {
     ghost use Rattle.std.specs.Process.{exit_status};
     ghost use Rattle.tui_browse_run.specs.Ended.{status_of};
 
-    /// The exit status of the program.
+    /// Returns the exit status of the program.
     pub fn status(&self) -> u8
         ensures { result ≡ status_of self.now }
     {
@@ -105,7 +107,7 @@ impl BrowseEnded {
         }
     }
 
-    /// The exit status, as `main` answers it.
+    /// Returns the exit status as `main` returns it.
     pub fn exit_code(&self) -> ExitCode
         ensures { exit_status result ≡ status_of self.now }
     {

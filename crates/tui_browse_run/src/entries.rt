@@ -12,8 +12,8 @@ use tui_json::{Counted, InputError, each_numbered, required};
 use tui_pager_lib::Entry;
 use tui_pager_run::{BadInput, PagerField};
 
-/// The entries of an input, which is an object with an array of at most 1000 of them, as the pager's is. It is refused at the first field that is
-/// missing or not of its kind.
+/// Reads the entries of the input: an object with an array of at most 1000 of them, as `tui_pager` reads it. Rejects
+/// the first field that is missing or of the wrong kind.
 #[tactic(auto, unfolding(crate::specs::Input::entries_of))]
 pub(crate) fn read_entries<'v>(
     alloc: Global,

@@ -1,11 +1,13 @@
-//! The program that browses: a file in a pager that keys move, from the words, the file and what the terminal gives to what the terminal is sent.
+//! The program `tui_browse`: it shows a file in a pager that keys control. This crate goes from the arguments, the file
+//! and the terminal's input to what the terminal is sent.
 #![tactic(auto)]
 
+mod arguments;
 mod browsing;
 mod cutting;
 mod ended;
 mod entries;
-mod form;
+mod format;
 mod laws;
 mod piece;
 mod pieces;
@@ -14,14 +16,13 @@ mod program;
 mod refusal;
 mod session;
 mod text_entry;
-mod words;
 
+pub use arguments::file_named;
 pub use ended::BrowseEnded;
-pub use form::Form;
+pub use format::Format;
 pub use laws::browsing_law;
-pub use piece::Piece;
+pub use piece::TextPiece;
 pub use pieces::{PiecesError, pieces_of};
 pub use program::{browse, run_program};
 pub use refusal::Refusal;
 pub use session::show;
-pub use words::file_named;

@@ -4,16 +4,16 @@ ghost use Rattle.std.specs.Prelude.{◌≡◌, IfOk, IsErrOf, map};
 ghost use Rattle.tui_browse_run.specs.Pieces.{AreAllPieces, HasMorePieces, piece_data};
 
 use crate::cutting::first_piece;
-use crate::piece::Piece;
+use crate::piece::TextPiece;
 use std::alloc::{AllocFailed, Global};
 
-/// The most pieces of a text.
+/// The most pieces that a text may have.
 const MOST_PIECES: usize = 1000;
 
-/// Why a text is not cut into pieces.
+/// Why a text was not cut into pieces.
 #[derive(Clone, Copy, Debug, PartialEq, Eq)]
 pub enum PiecesError {
-    /// There would be more than 1,000.
+    /// The text has more than 1,000 pieces.
     TooMany,
     NoMemory,
 }
@@ -29,8 +29,8 @@ impl<T: Drop> From<AllocFailed<T>> for PiecesError {
     }
 }
 
-/// The pieces of a text, of which there are at most 1,000.
-pub fn pieces_of(alloc: Global, text: &str) -> Result<Vec<Piece<'_>>, PiecesError>
+/// Cuts a text into pieces, of which there may be at most 1,000. Fails with `TooMany` if there are more.
+pub fn pieces_of(alloc: Global, text: &str) -> Result<Vec<TextPiece<'_>>, PiecesError>
     ensures ok { IfOk result (λ pieces. AreAllPieces text.now (map piece_data pieces.items)) }
     ensures many { IsErrOf result PiecesError.TooMany → HasMorePieces text.now }
 {
@@ -42,10 +42,10 @@ pub fn pieces_of(alloc: Global, text: &str) -> Result<Vec<Piece<'_>>, PiecesErro
             return Ok(pieces);
         }
         let cut = first_piece(rest);
-        let (body, behind) = rest.split_at(cut.len);
-        pieces.push(Piece { line, body })?;
-        rest = behind;
-        line += cut.feeds;
+        let (body, after) = rest.split_at(cut.len);
+        pieces.push(TextPiece { line, body })?;
+        rest = after;
+        line += cut.line_feeds;
     }
     if rest.is_empty() {
         Ok(pieces)

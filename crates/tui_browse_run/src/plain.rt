@@ -1,33 +1,33 @@
-//! Plain values of the program, which `==` tells apart and a clone leaves as they are.
+//! Plain values of the program: equal by `==` means the same, and a clone is the value.
 
 ghost use Rattle.std.proofs.Common.{rules};
 ghost use Rattle.tui_browse_run.specs.Same.{same_ended, same_refusal};
 
 use crate::ended::BrowseEnded;
-use crate::form::Form;
+use crate::format::Format;
 use crate::pieces::PiecesError;
 use crate::refusal::Refusal;
-use tui_program::Plain;
+use tui_program::PlainValue;
 
-impl Plain for Form {
+impl PlainValue for Format {
     ghost same = { Prim.search rules };
 
     ghost cloned = { Prim.search rules };
 }
 
-impl Plain for PiecesError {
+impl PlainValue for PiecesError {
     ghost same = { Prim.search rules };
 
     ghost cloned = { Prim.search rules };
 }
 
-impl Plain for Refusal {
+impl PlainValue for Refusal {
     ghost same = { same_refusal };
 
     ghost cloned = { Prim.search rules };
 }
 
-impl Plain for BrowseEnded {
+impl PlainValue for BrowseEnded {
     ghost same = { same_ended };
 
     ghost cloned = { Prim.search rules };

@@ -9,10 +9,11 @@ use tui_app::{AppEnd, Terminal, run};
 use tui_browse_lib::PagerApp;
 use tui_cells::NoMemory;
 use tui_pager_lib::Entry;
-use tui_tty::Output;
+use tui_terminal_model::Output;
 
-/// Shows entries in a pager on a terminal of `width` columns and `height` rows, until the user quits or the session ends otherwise, as `run` of an app does.
-/// At `NoMemory` nothing is put where there was none for the pager or its first screen.
+/// Shows entries in a pager on a terminal of `width` columns and `height` rows. It ends when the user quits, or
+/// otherwise as `tui_app::run` does. Writes nothing if memory for the pager or its first screen is missing
+/// (`NoMemory`).
 pub fn show<T: Terminal>(
     alloc: Global,
     entries: Vec<Entry<'_>>,
@@ -21,7 +22,7 @@ pub fn show<T: Terminal>(
     height: u16,
     terminal: &mut T,
 ) -> AppEnd
-    ensures { AreEntriesShown output (map entry_data entries.entry.items) width height (T.told terminal.old) (T.told terminal.new) result }
+    ensures { AreEntriesShown output (map entry_data entries.entry.items) width height (T.observed terminal.old) (T.observed terminal.new) result }
 {
     match PagerApp::new(alloc, width, height, entries) {
         Ok(app) => {

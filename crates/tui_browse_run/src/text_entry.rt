@@ -5,7 +5,7 @@ ghost use Rattle.tui_browse_run.specs.Pieces.{entry_of, first_line, piece_data};
 ghost use Rattle.tui_browse_run.specs.TextEntry.{text_entry_data};
 ghost use Rattle.tui_pager_lib.specs.Entry.{entry_data};
 
-use crate::piece::Piece;
+use crate::piece::TextPiece;
 use std::alloc::Global;
 use tui_cells::Mem;
 use tui_pager_lib::Entry;
@@ -17,8 +17,9 @@ pub(crate) struct TextEntry {
     body: String,
 }
 
-/// An entry for each piece. Its title is the number of the piece's first line, a blank, and the text of that line, as far as it stands in the piece.
-pub(crate) fn text_entries(alloc: Global, pieces: &[Piece<'_>]) -> Mem<Vec<TextEntry>>
+/// Returns an entry for each piece. Its title is the number of the piece's first line, a space, and that line, as far
+/// as it is in the piece.
+pub(crate) fn text_entries(alloc: Global, pieces: &[TextPiece<'_>]) -> Mem<Vec<TextEntry>>
     ensures { IfOk result (λ entries. map text_entry_data entries.items ≡ map (λ p. entry_of (piece_data p)) pieces.now) }
 {
     let mut entries = Vec::with_capacity(alloc, pieces.len())?;
@@ -28,7 +29,7 @@ pub(crate) fn text_entries(alloc: Global, pieces: &[Piece<'_>]) -> Mem<Vec<TextE
     Ok(entries)
 }
 
-fn text_entry(alloc: Global, piece: &Piece<'_>) -> Mem<TextEntry>
+fn text_entry(alloc: Global, piece: &TextPiece<'_>) -> Mem<TextEntry>
     ensures { IfOk result (λ entry. text_entry_data entry ≡ entry_of (piece_data piece.now)) }
 {
     let line = first_line(piece.body);
@@ -38,7 +39,7 @@ fn text_entry(alloc: Global, piece: &Piece<'_>) -> Mem<TextEntry>
     })
 }
 
-/// What stands before a text's first line feed; all of it, where there is none.
+/// Returns the text before the first line feed, or all of it if there is none.
 fn first_line(text: &str) -> &str
     ensures { result.now ≡ first_line text.now }
 {
@@ -48,17 +49,17 @@ fn first_line(text: &str) -> &str
     }
 }
 
-/// The entries with these texts.
-pub(crate) fn lent_entries<'e>(alloc: Global, entries: &'e [TextEntry]) -> Mem<Vec<Entry<'e>>>
-    ensures { IfOk result (λ lent. map entry_data lent.items ≡ map text_entry_data entries.now) }
+/// Returns entries that borrow these texts.
+pub(crate) fn borrowed_entries<'e>(alloc: Global, entries: &'e [TextEntry]) -> Mem<Vec<Entry<'e>>>
+    ensures { IfOk result (λ borrowed. map entry_data borrowed.items ≡ map text_entry_data entries.now) }
 {
-    let mut lent = Vec::with_capacity(alloc, entries.len())?;
+    let mut borrowed = Vec::with_capacity(alloc, entries.len())?;
     'entries: for i in 0..entries.len() {
         let entry = &entries[i];
-        lent.push(Entry {
+        borrowed.push(Entry {
             title: entry.title.as_str(),
             body: entry.body.as_str(),
         })?;
     }
-    Ok(lent)
+    Ok(borrowed)
 }

@@ -1,4 +1,4 @@
--- A store with one date more.
+-- A store with one more date.
 use Rattle.std.proofs.Common.{◌≡◌, Bool, true, false, List, [], ◌∷◌, map, Option, Some, ℤ, refl, ap, rules, tests}
 use Rattle.std.specs.Prelude.{cond}
 use Rattle.std.specs.BTreeMap.{BTreeMap, get_by, insert_entry, is_at}
@@ -29,7 +29,7 @@ replaced : {T : Type 0} (a : Bool) (v x rest : T) → cond a v rest ≡ cond a v
 replaced true v x rest = refl
 replaced false v x rest = refl
 
--- what a query by a number finds
+-- what a lookup by number finds
 abbrev found_at : {K X : Type 0} → (K → ℤ) → ℤ → List (K × X) → Option X
 found_at number n es = lookup (is_at (λ key. int_cmp n (number key))) es
 
@@ -43,13 +43,13 @@ placed number n e es with_it k v Equal f h =
 placed number n e es with_it k v Greater f h =
     swapped (int_eq n (number k)) (int_eq n (number e.0)) (Some e.1) (Some v) (found_at number n es) (found_at number n with_it) (apart n (number k) (number e.0) f) h
 
--- of entries that are ordered by numbers, with one more
+-- entries in the order of their numbers, with one more
 pub inserted : {K X : Type 0} (number : K → ℤ) (n : ℤ) (es : List (K × X)) (k : K) (v : X) →
     found_at number n (insert_entry (λ a b. int_cmp (number a) (number b)) es k v) ≡ cond (int_eq n (number k)) (Some v) (found_at number n es)
 inserted number n [] k v = refl
 inserted number n (e ∷ es) k v = placed number n e es _ k v (int_cmp (number k) (number e.0)) refl (inserted number n es k v)
 
--- entries whose keys are seen as others
+-- entries with their keys mapped
 abbrev pub seen_as : {K L X : Type 0} → (K → L) → List (K × X) → List (L × X)
 seen_as f = map (λ e. (f e.0, e.1))
 
@@ -60,7 +60,7 @@ placed_as f Less k v e es with_it seen h = refl
 placed_as f Equal k v e es with_it seen h = refl
 placed_as f Greater k v e es with_it seen h = ap (λ l. (f e.0, e.1) ∷ l) h
 
--- one entry more, by an order of what the keys are seen as
+-- one more entry, by an order of the mapped keys
 pub inserted_as : {K L X : Type 0} (f : K → L) (order : L → L → Ordering) (es : List (K × X)) (k : K) (v : X) →
     seen_as f (insert_entry (λ a b. order (f a) (f b)) es k v) ≡ insert_entry order (seen_as f es) (f k) v
 inserted_as f order [] k v = refl

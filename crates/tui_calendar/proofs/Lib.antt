@@ -1,4 +1,4 @@
 pub mod MonthPlaces
 pub mod Events
-pub mod MonthWords
+pub mod MonthTexts
 pub mod MonthSheet

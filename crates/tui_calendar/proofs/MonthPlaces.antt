@@ -60,7 +60,7 @@ use Rattle.tui_calendar.specs.Month.{
   after_sunday,
   date_of,
   days_of,
-  lead_of,
+  leading_days_of,
   nth_after,
   nth_before,
   place_of,
@@ -72,7 +72,7 @@ use Rattle.tui_calendar.specs.Month.{
 same_parts : (a b : DateData) → a.year ≡ b.year → a.month ≡ b.month → a.day ≡ b.day → Some a ≡ Some b
 same_parts a b x y z = let e : date_of a.year a.month a.day ≡ date_of b.year b.month b.day = cc in ap (λ (d : DateData). Some d) e
 
--- two dates of one day are one
+-- two dates of the same day are equal
 pub day_once : (day : ℤ) (a b : Option DateData) → IsDay day a → IsDay day b → a ≡ b
 day_once day None None p q = refl
 day_once day (Some a) None p q =
@@ -151,9 +151,9 @@ pub after_is : (year : ℤ) (month n : ℕ) → IsCivilDate year month 1 → 1 �
     IsDay (days_from_civil year month (days_in_month year month) +ℤ pos n) (nth_after year month n)
 after_is year month n c low high = later year month n (month == 12) refl c low high
 
-lead_bound : (d : DateData) → lead_of d < 7
-unfolding lead_of
-lead_bound d = omega arith
+leading_days_bound : (d : DateData) → leading_days_of d < 7
+unfolding leading_days_of
+leading_days_bound d = omega arith
 
 placed : (d : DateData) (l n i : ℕ) (a b : Bool) → nat_lt i l ≡ a → nat_lt i (l + n) ≡ b → l < 7 → n ≡ days_of d → i < 7 * ((l + n + 6) / 7) → IsCivilDate d.year d.month 1 →
     IsDay (days_from_civil d.year d.month 1 -ℤ pos l +ℤ pos i)
@@ -176,18 +176,18 @@ placed d l n i false false e f small whole inside c =
 -- each place has the date of its day
 pub place_is : (d : DateData) (i : ℕ) → IsCivilDate d.year d.month 1 → i < 7 * weeks_of d → IsDay (start_of d +ℤ pos i) (place_of d i)
 unfolding place_of
-place_is d i c inside = placed d (lead_of d) (days_of d) i (nat_lt i (lead_of d)) (nat_lt i (lead_of d + days_of d)) refl refl (lead_bound d) refl inside c
+place_is d i c inside = placed d (leading_days_of d) (days_of d) i (nat_lt i (leading_days_of d)) (nat_lt i (leading_days_of d + days_of d)) refl refl (leading_days_bound d) refl inside c
 
--- the date that is found at a place is the one that stands there
+-- the date that is found for a place is the date of that place
 pub place_found : (d : DateData) (i : ℕ) (found : Option DateData) → IsCivilDate d.year d.month 1 → i < 7 * weeks_of d → IsDay (start_of d +ℤ pos i) found → found ≡ place_of d i
 place_found d i found c inside h = day_once (start_of d +ℤ pos i) found (place_of d i) h (place_is d i c inside)
 
 day_placed : (d : DateData) (k : ℕ) → 1 ≤ k → k ≤ days_of d → place_of d (place_of_day d k) ≡ Some (date_of d.year d.month k)
 unfolding place_of
 day_placed d k low high =
-    let early : nat_lt (lead_of d + k - 1) (lead_of d) ≡ false = grind (arith, nat_tests) in
-    let within : nat_lt (lead_of d + k - 1) (lead_of d + days_of d) ≡ true = grind (arith, nat_tests) in
-    let day : lead_of d + k - 1 + 1 - lead_of d ≡ k = omega arith in
+    let early : nat_lt (leading_days_of d + k - 1) (leading_days_of d) ≡ false = grind (arith, nat_tests) in
+    let within : nat_lt (leading_days_of d + k - 1) (leading_days_of d + days_of d) ≡ true = grind (arith, nat_tests) in
+    let day : leading_days_of d + k - 1 + 1 - leading_days_of d ≡ k = omega arith in
     rw (early, within, day) refl
 
 abbrev year_of : Option DateData → ℤ
@@ -226,17 +226,17 @@ placed_once d l n i k false false e low h = absurd (not_after d.year d.month (i 
 
 day_once_placed : (d : DateData) (i k : ℕ) → 1 ≤ d.month → place_of d i ≡ Some (date_of d.year d.month k) → i ≡ place_of_day d k
 unfolding place_of
-day_once_placed d i k low h = placed_once d (lead_of d) (days_of d) i k (nat_lt i (lead_of d)) (nat_lt i (lead_of d + days_of d)) refl low h
+day_once_placed d i k low h = placed_once d (leading_days_of d) (days_of d) i k (nat_lt i (leading_days_of d)) (nat_lt i (leading_days_of d + days_of d)) refl low h
 
 in_column : (d : DateData) (k : ℕ) → 1 ≤ k → place_of_day d k % 7 ≡ after_sunday (days_from_civil d.year d.month k)
-unfolding lead_of
+unfolding leading_days_of
 in_column d k low = omega (arith, weekday_number-day d.year d.month 1 k (omega arith) low)
 
 row_needed : (l n row : ℕ) → l < 7 → row < (l + n + 6) / 7 → 1 ≤ n → (k : ℕ) × (1 ≤ k) × (k ≤ n) × ((l + k - 1) / 7 ≡ row)
 row_needed l n zero small inside some = (1, omega arith, omega arith, omega arith)
 row_needed l n (suc row) small inside some = (7 * suc row + 1 - l, omega arith, omega arith, omega arith)
 
--- how a month stands in its weeks
+-- how a month is arranged in its weeks
 pub month_is : (d : DateData) → IsCivilDate d.year d.month 1 → IsMonth d
 month_is d c = record {
   places = λ i inside. place_is d i c inside;
@@ -244,9 +244,9 @@ month_is d c = record {
   once = λ i k h. day_once_placed d i k c.1.0 h;
   column = λ k low high. in_column d k low;
   inside = λ k low high. omega arith;
-  needed = λ row inside. row_needed (lead_of d) (days_of d) row (lead_bound d) inside (omega (arith, days_in_month_bounds d.year d.month));
+  needed = λ row inside. row_needed (leading_days_of d) (days_of d) row (leading_days_bound d) inside (omega (arith, days_in_month_bounds d.year d.month));
 }
 
--- the date itself gives the first of its month
+-- the year and the month of a date have a first day
 pub first_of : (d : Plain) → IsCivilDate d.year d.month 1
 first_of d = (d.year_in, d.month_in, (omega arith, omega (arith, days_in_month_bounds d.year d.month)))

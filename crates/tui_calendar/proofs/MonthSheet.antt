@@ -17,20 +17,20 @@ use Rattle.tui_calendar.specs.MonthlyStrokes.{
   place_layers,
   sheet_layers,
   slot_layers,
-  under,
+  below_header,
   week_layers,
   weekdays_layers,
   weeks_layers,
 }
 
--- a blank, and then two characters
+-- a space, and then two characters
 pub slot_painted : {T E : Type 0} (result : Result T E) (inner : Rect) (x y right : ℕ) (gap style : Style) (text shown : List ℕ) (a b c : Screen) →
     right ≡ past x 1 → shown ≡ text → Painted (set_layers inner (place_at x y) (styled_text (codes " ") gap) 1) a b →
     OnOk result (Painted (set_layers inner (place_at right y) (styled_text shown style) 2) b c) →
     OnOk result (Painted (slot_layers inner x y gap (record { text = text; style = style })) a c)
 slot_painted result inner x y right gap style text shown a b c r t p q = on_ok result (λ k. Painted-then p (rw (r, t) at k)) q
 
--- one place more of a week
+-- one more place of a week
 pub week_more : (style_of : DateData → Style) (m : MonthlyData) (inner : Rect) (x y row column : ℕ) (a b c : Screen) → column < 7 →
     Painted (place_layers style_of m inner x y row column) a b → Painted (week_layers style_of m inner x y row (column + 1) (7 - (column + 1))) b c →
     Painted (week_layers style_of m inner x y row column (7 - column)) a c
@@ -43,7 +43,7 @@ pub week_done : (style_of : DateData → Style) (m : MonthlyData) (inner : Rect)
 unfolding week_layers
 week_done style_of m inner x y row column a le = let e : 7 - column ≡ 0 = omega arith in rw e (Painted-none a)
 
--- one week more
+-- one more week
 pub weeks_more : (style_of : DateData → Style) (m : MonthlyData) (inner : Rect) (x y row n top : ℕ) (a b c : Screen) → row < n → top ≡ past y row →
     Painted (week_layers style_of m inner x top row 0 7) a b → Painted (weeks_layers style_of m inner x y (row + 1) (n - (row + 1))) b c →
     Painted (weeks_layers style_of m inner x y row (n - row)) a c
@@ -69,7 +69,7 @@ weekdays_painted result inner rest header style room a b e r p = rw e (rw r at p
 
 -- the headers and the weeks
 pub content_painted : {T E : Type 0} (result : Result T E) (style_of : DateData → Style) (m : MonthlyData) (inner rest weeks : Rect) (a b c d : Screen) →
-    rest ≡ under m.month_header inner → weeks ≡ under m.weekdays_header rest →
+    rest ≡ below_header m.month_header inner → weeks ≡ below_header m.weekdays_header rest →
     Painted (month_layers m inner m.month_header) a b → Painted (weekdays_layers inner rest m.weekdays_header) b c →
     OnOk result (Painted (sheet_layers style_of m inner weeks) c d) → OnOk result (Painted (monthly_layers style_of m inner) a d)
 content_painted result style_of m inner rest weeks a b c d e f p q r =

@@ -1,4 +1,4 @@
--- A month as plain data, its words, and what its places show.
+-- A month as plain data, its texts, and what its places show.
 use Rattle.std.specs.Prelude.{ℕ, ◌+◌, ◌-◌, ◌/◌, ◌%◌, ◌==◌, min, nat_lt, List, [], ◌∷◌, ◌++◌, Option, None, Some, codes, get_or, option_map, if◌then◌else◌}
 use Rattle.std.specs.Fmt.{signed_decimal}
 use Rattle.tui_cells.specs.Rect.{farthest_edge}
@@ -11,7 +11,7 @@ use Rattle.tui_calendar.specs.Month.{DateData, date_data, weeks_of}
 use Rattle.tui_calendar.specs.declared.monthly.Monthly.{Monthly}
 use Rattle.tui_calendar.specs.declared.monthly.rendering.Slot.{Slot}
 
--- the styles of the two headers and of the days around the month, where they are shown
+-- a month as plain data; the headers and the surrounding days are shown if their styles are set
 pub record MonthlyData : Type 0 where
   pub block : Option BlockData
   pub date : DateData
@@ -31,11 +31,11 @@ monthly_data m = record {
   default_style = m.default_style;
 }
 
--- the weeks of a date's month alone
-abbrev pub weeks_alone : DateData → MonthlyData
-weeks_alone date = record { block = None; date = date; month_header = None; weekdays_header = None; surrounding = None; default_style = no_style }
+-- only the weeks of a date's month
+abbrev pub weeks_only : DateData → MonthlyData
+weeks_only date = record { block = None; date = date; month_header = None; weekdays_header = None; surrounding = None; default_style = no_style }
 
--- the rows of a header that is shown or not
+-- the rows of a header, which may be hidden
 abbrev pub rows_of : Option Style → ℕ
 rows_of None = 0
 rows_of (Some _) = 1
@@ -62,11 +62,11 @@ month_name month = get_or month_names (month - 1) []
 unfoldable pub heading_text : DateData → List ℕ
 heading_text d = month_name d.month ++ (codes " " ++ signed_decimal d.year)
 
--- the days of the week, a blank before each
+-- the names of the weekdays, with a space before each
 abbrev pub weekdays_text : List ℕ
 weekdays_text = codes " Su Mo Tu We Th Fr Sa"
 
--- a day at the right of two places
+-- the number of a day, right-aligned in two columns
 unfoldable pub day_text : ℕ → List ℕ
 day_text day = (if nat_lt day 10 then 32 else 48 + day / 10) ∷ (48 + day % 10) ∷ []
 
@@ -79,26 +79,27 @@ pub record SlotData : Type 0 where
 abbrev pub slot_data : Slot → SlotData
 slot_data s = record { text = s.text.bytes; style = s.style }
 
--- the background of a style alone
+-- only the background of a style
 abbrev pub background : Style → Style
 background s = record no_style { bg = s.bg }
 
 -- a place without a date
-abbrev pub blanks : MonthlyData → SlotData
-blanks m = record { text = codes "  "; style = background m.default_style }
+abbrev pub blank_slot : MonthlyData → SlotData
+blank_slot m = record { text = codes "  "; style = background m.default_style }
 
--- a day of another month, which is shown where the days around have a style
+-- a day of another month, which is shown if surrounding days have a style
 abbrev pub day_around : MonthlyData → DateData → Style → Option Style → SlotData
-day_around m d event None = blanks m
+day_around m d event None = blank_slot m
 day_around m d event (Some s) = record { text = day_text d.day; style = patched (patched m.default_style s) event }
 
--- what a place shows, by the styles of the dates: a day of the month, a day of another one, and blanks where there is no date
+-- what a place shows, with these styles of dates: a day of the month, a day of another month, or spaces if there is no
+-- date
 unfoldable pub slot_of : (DateData → Style) → MonthlyData → Option DateData → SlotData
-slot_of style_of m None = blanks m
+slot_of style_of m None = blank_slot m
 slot_of style_of m (Some d) =
     if d.month == m.date.month then record { text = day_text d.day; style = patched m.default_style (style_of d) }
     else day_around m d (style_of d) m.surrounding
 
--- the style of the blank before a day
+-- the style of the space before a day
 abbrev pub gap_style : MonthlyData → ℕ → Style
 gap_style m column = if column == 0 then no_style else background m.default_style

@@ -13,7 +13,7 @@ use Rattle.tui_text.proofs.RowStays.{row_stays}
 use Rattle.tui_text.proofs.SetStays.{set_stays}
 use Rattle.tui_calendar.specs.Month.{DateData, weeks_of}
 use Rattle.tui_calendar.specs.Monthly.{MonthlyData, heading_text}
-use Rattle.tui_calendar.specs.MonthlyStrokes.{month_layers, monthly_layers, place_layers, sheet_layers, under, week_layers, weekdays_layers, weeks_layers}
+use Rattle.tui_calendar.specs.MonthlyStrokes.{month_layers, monthly_layers, place_layers, sheet_layers, below_header, week_layers, weekdays_layers, weeks_layers}
 
 place_stays : (style_of : DateData → Style) (m : MonthlyData) (inner : Rect) (x y row column : ℕ) →
     StayIn (covers inner) (place_layers style_of m inner x y row column)
@@ -48,9 +48,9 @@ unfolding weekdays_layers
 weekdays_stay inner rest None = StayIn-none
 weekdays_stay inner rest (Some style) = set_stays inner _ _ _
 
--- a month changes cells inside its block alone
+-- a month changes only cells inside its block
 pub monthly_stays : (style_of : DateData → Style) (m : MonthlyData) (inner : Rect) → StayIn (covers inner) (monthly_layers style_of m inner)
 monthly_stays style_of m inner =
     StayIn-append (month_stays m inner m.month_header)
-    (StayIn-append (weekdays_stay inner (under m.month_header inner) m.weekdays_header)
-    (sheet_stays style_of m inner (under m.weekdays_header (under m.month_header inner))))
+    (StayIn-append (weekdays_stay inner (below_header m.month_header inner) m.weekdays_header)
+    (sheet_stays style_of m inner (below_header m.weekdays_header (below_header m.month_header inner))))

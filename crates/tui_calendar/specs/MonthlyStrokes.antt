@@ -13,11 +13,11 @@ use Rattle.tui_text.specs.declared.alignment.Alignment.TheVariants.{Center}
 use Rattle.tui_calendar.specs.Month.{DateData, place_of, weeks_of}
 use Rattle.tui_calendar.specs.Monthly.{MonthlyData, SlotData, gap_style, heading_text, slot_of, weekdays_text}
 
--- a position by its column and row
+-- the position in this column and row
 abbrev pub place_at : ℕ → ℕ → Position
 place_at x y = record { x = x; y = y }
 
--- a blank, and then two characters
+-- a space, and then two characters
 abbrev pub slot_layers : Rect → ℕ → ℕ → Style → SlotData → List Layer
 slot_layers inner x y gap slot =
     set_layers inner (place_at x y) (styled_text (codes " ") gap) 1
@@ -28,41 +28,41 @@ unfoldable pub place_layers : (DateData → Style) → MonthlyData → Rect → 
 place_layers style_of m inner x y row column =
     slot_layers inner (past x (3 * column)) y (gap_style m column) (slot_of style_of m (place_of m.date (7 * row + column)))
 
--- n places of a week from a column on
+-- n places of a week, from a column on
 unfoldable pub week_layers : (DateData → Style) → MonthlyData → Rect → ℕ → ℕ → ℕ → ℕ → ℕ → List Layer
 week_layers style_of m inner x y row column zero = []
 week_layers style_of m inner x y row column (suc n) =
     place_layers style_of m inner x y row column ++ week_layers style_of m inner x y row (column + 1) n
 
--- n weeks from one of them on
+-- n weeks, from a row on
 unfoldable pub weeks_layers : (DateData → Style) → MonthlyData → Rect → ℕ → ℕ → ℕ → ℕ → List Layer
 weeks_layers style_of m inner x y row zero = []
 weeks_layers style_of m inner x y row (suc n) =
     week_layers style_of m inner x (past y row) row 0 7 ++ weeks_layers style_of m inner x y (row + 1) n
 
--- the weeks that have a row
+-- the weeks for which there is a row
 unfoldable pub sheet_layers : (DateData → Style) → MonthlyData → Rect → Rect → List Layer
 sheet_layers style_of m inner rest = weeks_layers style_of m inner rest.x rest.y 0 (min (weeks_of m.date) rest.height)
 
--- the month and the year, in the middle of the first row, where that header is shown
+-- the month and the year, centred in the first row, if that header is shown
 unfoldable pub month_layers : MonthlyData → Rect → Option Style → List Layer
 month_layers m inner None = []
 month_layers m inner (Some style) = row_layers inner Center (spans_line (raw_span (heading_text m.date) ∷ []) style)
 
--- the names of the days, in the next row
+-- the names of the weekdays, in the next row, if they are shown
 unfoldable pub weekdays_layers : Rect → Rect → Option Style → List Layer
 weekdays_layers inner rest None = []
 weekdays_layers inner rest (Some style) = set_layers inner (corner rest) (styled_text weekdays_text style) rest.width
 
--- what is left of an area below a header that is shown or not
-abbrev pub under : Option Style → Rect → Rect
-under None area = area
-under (Some _) area = below area
+-- what is left of an area below a header, which may be hidden
+abbrev pub below_header : Option Style → Rect → Rect
+below_header None area = area
+below_header (Some _) area = below area
 
 -- the headers that are shown, and the weeks
 abbrev pub monthly_layers : (DateData → Style) → MonthlyData → Rect → List Layer
 monthly_layers style_of m inner =
-    let rest = under m.month_header inner in
+    let rest = below_header m.month_header inner in
     month_layers m inner m.month_header
     ++ (weekdays_layers inner rest m.weekdays_header
-    ++ sheet_layers style_of m inner (under m.weekdays_header rest))
+    ++ sheet_layers style_of m inner (below_header m.weekdays_header rest))

@@ -16,7 +16,7 @@ pub struct CalendarEventStore {
     styles: BTreeMap<Date, Style>,
 }
 
-// Written out, so that a crate above proves nothing of what it holds to let it go.
+// Written by hand, so that dependent crates need no proofs about dropping the fields.
 impl Drop for CalendarEventStore {
     fn drop(self) {
         let CalendarEventStore { styles } = self;
@@ -24,7 +24,7 @@ impl Drop for CalendarEventStore {
 }
 
 impl CalendarEventStore {
-    /// A store without dates.
+    /// Returns a store without dates.
     pub fn new(alloc: Global) -> CalendarEventStore
         ensures none { (d : DateData) → kept_style result d ≡ None }
         ensures dates { dated_styles result ≡ [] }
@@ -34,7 +34,7 @@ impl CalendarEventStore {
         }
     }
 
-    /// Gives a date a style, in place of the one that it may have had. At `NoMemory` the store is as before.
+    /// Gives a date a style and replaces the style that it had. On `NoMemory` the store is unchanged.
     pub fn add(&mut self, date: Date, style: Style) -> Mem<()>
         ensures ok { OnOk result (HasAdded self.old self.new date style) }
         ensures dates { OnOk result (dated_styles self.new ≡ with_date (dated_styles self.old) (date_data date) style) }
@@ -44,7 +44,7 @@ impl CalendarEventStore {
         Ok(())
     }
 
-    /// A store with one date. `NoMemory` where there is none for it.
+    /// Returns a store with one date. Fails with `NoMemory` if the date can't be stored.
     pub fn on(alloc: Global, date: Date, style: Style) -> Mem<CalendarEventStore>
         ensures { IfOk result (λ store. HasOne store date style) }
     {
@@ -53,7 +53,7 @@ impl CalendarEventStore {
         Ok(store)
     }
 
-    /// An equal store of its own. `NoMemory` where there is none for the dates.
+    /// Returns an equal copy. Fails with `NoMemory` if the dates can't be allocated.
     pub fn clone(&self) -> Mem<CalendarEventStore>
         ensures is { IfOk result (λ store. store.styles.entries ≡ self.now.styles.entries) }
         ensures equal { IfOk result (λ store. ⟦<CalendarEventStore as PartialEq>⟧.eq store self.now ≡ true) }
@@ -73,7 +73,7 @@ fn copied(styles: &BTreeMap<Date, Style>) -> Mem<BTreeMap<Date, Style>>
 impl DateStyler for CalendarEventStore {
     ghost date_style = { event_style };
 
-    /// The style that is kept for the date, else the empty one.
+    /// Returns the style that is stored for the date, or the empty style.
     fn get_style(&self, date: Date) -> Style {
         match self.styles.get(&date) {
             Some(style) => *style,
@@ -85,7 +85,7 @@ impl DateStyler for CalendarEventStore {
 impl DateStyler for &CalendarEventStore {
     ghost date_style = { λ store. event_style store.now };
 
-    /// The style that the store gives.
+    /// Returns the style that the store gives.
     fn get_style(&self, date: Date) -> Style {
         (*self).get_style(date)
     }

@@ -1,4 +1,4 @@
-//! What gives dates their styles.
+//! Styles of dates.
 
 ghost use Rattle.std.specs.Prelude.{◌≡◌};
 ghost use Rattle.tui_calendar.specs.Month.{DateData, date_data};
@@ -7,12 +7,12 @@ ghost use Rattle.tui_cells.specs.declared.style.Style.{Style};
 use jiff::civil::Date;
 use tui_cells::Style;
 
-/// What gives each date a style.
+/// Gives each date a style.
 pub trait DateStyler {
     /// The style of each date.
     ghost date_style: { Self → DateData → Style };
 
-    /// The style of a date.
+    /// Returns the style of a date.
     fn get_style(&self, date: Date) -> Style
         ensures { result ≡ date_style self.now (date_data date) };
 }

@@ -1,21 +1,21 @@
-//! The weeks of a month, by the days of the calendar.
+//! The weeks of a month, counted in days of the calendar.
 
 ghost use Rattle.std.specs.Prelude.{◌≡◌, neg_ℤ, ◌≤ℤ◌, ◌+◌, ◌<◌, ◌≤◌, ◌*◌, pos, ◌+ℤ◌, option_map};
-ghost use Rattle.tui_calendar.specs.Month.{IsDay, date_data, lead_of, days_of, place_of, start_of, weeks_of};
+ghost use Rattle.tui_calendar.specs.Month.{IsDay, date_data, leading_days_of, days_of, place_of, start_of, weeks_of};
 
 use jiff::civil::Date;
 use jiff_core::civil;
 
-/// The places of the first week before the first of the month.
-#[tactic(auto, unfolding(crate::specs::Month::lead_of))]
-fn lead(date: Date) -> u8
-    ensures value { result ≡ lead_of (date_data date) }
+/// Returns how many places of the first week are before the first of the month.
+#[tactic(auto, unfolding(crate::specs::Month::leading_days_of))]
+fn leading_days(date: Date) -> u8
+    ensures value { result ≡ leading_days_of (date_data date) }
     ensures bound { result < 7 }
 {
     date.first_of_month().weekday().next().index()
 }
 
-/// The days of the month.
+/// Returns the number of days of the month.
 fn days(date: Date) -> u8
     ensures value { result ≡ days_of (date_data date) }
     ensures bound { result ≤ 31 }
@@ -24,24 +24,24 @@ fn days(date: Date) -> u8
     civil::days_in_month(plain.year, plain.month)
 }
 
-/// The weeks that hold a day of the month.
+/// Returns how many weeks have a day of the month.
 pub(crate) fn weeks(date: Date) -> u8
     ensures value { result ≡ weeks_of (date_data date) }
     ensures bound { result ≤ 6 }
 {
-    (lead(date) + days(date) + 6) / 7
+    (leading_days(date) + days(date) + 6) / 7
 }
 
-/// The day number of the first place.
+/// Returns the day number of the first place.
 pub(crate) fn start(date: Date) -> i32
     ensures value { result ≡ start_of (date_data date) }
     ensures low { neg_ℤ (pos 4_371_593) ≤ℤ result }
     ensures high { result ≤ℤ pos 2_932_896 }
 {
-    date.first_of_month().to_plain().to_unix_epoch_day() - i32::from(lead(date))
+    date.first_of_month().to_plain().to_unix_epoch_day() - i32::from(leading_days(date))
 }
 
-/// The date this many days after a day, if the calendar has it.
+/// Returns the date `i` days after a day, if the calendar has it.
 fn day_at(start: i32, i: u8) -> Option<Date>
     ensures { IsDay (start +ℤ pos i) (option_map date_data result) }
 {
@@ -51,7 +51,7 @@ fn day_at(start: i32, i: u8) -> Option<Date>
     }
 }
 
-/// The date in a place, counted from the first Sunday.
+/// Returns the date in place `i`, counted from the first Sunday.
 pub(crate) fn place(date: Date, start: i32, i: u8) -> Option<Date>
     requires start { start ≡ start_of (date_data date) }
     requires inside { i < 7 * weeks_of (date_data date) }

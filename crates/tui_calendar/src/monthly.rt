@@ -2,11 +2,11 @@
 
 ghost use Rattle.std.specs.Prelude.{◌≡◌, ◌≤◌, Some};
 ghost use Rattle.tui_calendar.specs.Month.{date_data};
-ghost use Rattle.tui_calendar.specs.Monthly.{monthly_data, monthly_height, monthly_width, rows_of, weeks_alone};
+ghost use Rattle.tui_calendar.specs.Monthly.{monthly_data, monthly_height, monthly_width, rows_of, weeks_only};
 ghost use Rattle.tui_frames.specs.Block.{block_data};
 
 mod rendering;
-mod words;
+mod texts;
 
 use crate::date_styler::DateStyler;
 use crate::month::weeks;
@@ -14,8 +14,8 @@ use jiff::civil::Date;
 use tui_cells::{FARTHEST_EDGE, Style};
 use tui_frames::{Block, beside, columns_if_some, rows_if_some};
 
-/// The days of a month week by week, each week from Sunday on in a row of its own, 21 columns wide. Each day has a style by its
-/// date. The name of the month and those of the days stand above, where they are shown.
+/// The days of a month week by week. Each week starts on Sunday and has its own row, 21 columns wide. The style of each
+/// day depends on its date. The names of the month and of the weekdays are above, if they are shown.
 #[derive(Debug, PartialEq, Eq, Hash, Drop)]
 pub struct Monthly<'a, DS: DateStyler> {
     display_date: Date,
@@ -28,9 +28,9 @@ pub struct Monthly<'a, DS: DateStyler> {
 }
 
 impl<'a, DS: DateStyler> Monthly<'a, DS> {
-    /// The month of a date, with the styles of its days: without headers, without the days around the month, and without a block.
+    /// Returns the month of a date, with the styles of its days, without headers, surrounding days and block.
     pub fn new(display_date: Date, events: DS) -> Monthly<'a, DS>
-        ensures is { monthly_data result ≡ weeks_alone (date_data display_date) }
+        ensures is { monthly_data result ≡ weeks_only (date_data display_date) }
         ensures events { result.events ≡ events }
     {
         Monthly {
@@ -44,8 +44,8 @@ impl<'a, DS: DateStyler> Monthly<'a, DS> {
         }
     }
 
-    /// Shows the days of the months before and after in the first and in the last week, in a style between the default one and
-    /// that of their date.
+    /// Shows the days of the previous and the next month in the first and the last week. Their style is the default
+    /// style, patched with `style` and then with the style of the date.
     pub fn show_surrounding(mut self, style: Style) -> Monthly<'a, DS>
         ensures is { monthly_data result ≡ record (monthly_data self.entry) { surrounding = Some style } }
         ensures events { result.events ≡ self.entry.events }
@@ -54,7 +54,7 @@ impl<'a, DS: DateStyler> Monthly<'a, DS> {
         self
     }
 
-    /// Shows the names of the days, in a style.
+    /// Shows the names of the weekdays in a style.
     pub fn show_weekdays_header(mut self, style: Style) -> Monthly<'a, DS>
         ensures is { monthly_data result ≡ record (monthly_data self.entry) { weekdays_header = Some style } }
         ensures events { result.events ≡ self.entry.events }
@@ -63,7 +63,7 @@ impl<'a, DS: DateStyler> Monthly<'a, DS> {
         self
     }
 
-    /// Shows the name of the month and the year, in a style.
+    /// Shows the name of the month and the year in a style.
     pub fn show_month_header(mut self, style: Style) -> Monthly<'a, DS>
         ensures is { monthly_data result ≡ record (monthly_data self.entry) { month_header = Some style } }
         ensures events { result.events ≡ self.entry.events }
@@ -72,7 +72,7 @@ impl<'a, DS: DateStyler> Monthly<'a, DS> {
         self
     }
 
-    /// Sets the style of the days, which those of their dates patch. Its background alone is that of the blanks between them.
+    /// Sets the style of the days. The style of each date patches it. The spaces between days have only its background.
     pub fn default_style(mut self, style: Style) -> Monthly<'a, DS>
         ensures is { monthly_data result ≡ record (monthly_data self.entry) { default_style = style } }
         ensures events { result.events ≡ self.entry.events }
@@ -81,7 +81,7 @@ impl<'a, DS: DateStyler> Monthly<'a, DS> {
         self
     }
 
-    /// Puts a block around the month, which then has the area inside.
+    /// Sets the block around the month. The month is drawn in the block's inner area.
     pub fn block(mut self, block: Block<'a>) -> Monthly<'a, DS>
         ensures is { monthly_data result ≡ record (monthly_data self.entry) { block = Some (block_data block.entry) } }
         ensures events { result.events ≡ self.entry.events }
@@ -90,14 +90,14 @@ impl<'a, DS: DateStyler> Monthly<'a, DS> {
         self
     }
 
-    /// The columns of a week and of the block, cut at 65535.
+    /// Returns the columns of a week and of the block, at most 65535.
     pub fn width(&self) -> u16
         ensures { result ≡ monthly_width (monthly_data self.now) }
     {
         beside(21, columns_if_some(&self.block)).min(FARTHEST_EDGE as usize) as u16
     }
 
-    /// The rows of the weeks, of the headers that are shown, and of the block, cut at 65535.
+    /// Returns the rows of the weeks, of the headers that are shown, and of the block, at most 65535.
     pub fn height(&self) -> u16
         ensures { result ≡ monthly_height (monthly_data self.now) }
     {
@@ -107,10 +107,10 @@ impl<'a, DS: DateStyler> Monthly<'a, DS> {
     }
 }
 
-/// The rows of a header that is shown or not.
+/// Returns the rows of a header: 1 if it is shown, otherwise 0.
 fn rows_of(header: Option<Style>) -> u8
     ensures is { result ≡ rows_of header }
-    ensures few { result ≤ 1 }
+    ensures bound { result ≤ 1 }
 {
     match header {
         None => 0,

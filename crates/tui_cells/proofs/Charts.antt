@@ -1,4 +1,4 @@
--- The lookups of border symbols find what the table says.
+-- The lookups of border symbols find what the tables say.
 use Rattle.std.proofs.Common.{
   ◌≡◌,
   Bor,
@@ -96,7 +96,7 @@ each_of_four p e Double = (and_parts (p Heavy) _ (and_parts (p Light) _ (and_par
 abbrev no_arms : Arms
 no_arms = record { up = Empty; right = Empty; down = Empty; left = Empty }
 
--- each set of arms stands at its number
+-- each set of arms is at its number
 abbrev numbered : Arms → Bool
 numbered a = same_arms (get_or all_arms (arms_number a) no_arms) a
 
@@ -147,7 +147,7 @@ shown_in (x ∷ es) a t e = shown_if (same_arms x.1 a) x.0 (symbol_in es a) (and
     shown_if true (c ∷ cs) o h g e = cc
     shown_if false s o h g e = g e
 
--- what stands at the number of a set of arms is its symbol, or is empty where there is none
+-- the entry at the number of a set of arms is its symbol, or is empty if there is none
 pub none_at : (a : Arms) (s : List ℕ) (b : Bool) → b ≡ (length s == 0) → b ≡ true → s ≡ unwrap_or (plain_with a) [] → None ≡ plain_with a
 none_at a s b t u e = none_or (plain_with a) s e (eqb-true (length s) 0 (sym t ∙ u)) (shown_in plain_table a all_shown)
   where
@@ -176,7 +176,7 @@ same_drawn_are None (Some b) e = absurd (false≢true e)
 same_drawn_are (Some a) None e = absurd (false≢true e)
 same_drawn_are (Some a) (Some b) e = ap Some (same_arms_are a b e)
 
--- what the chart says at a place is what the table says of the character with these bytes
+-- the entry of the chart is what the tables say of the character with these bytes
 abbrev right_at : ℕ → ℕ → ℕ → Bool
 right_at place middle last =
     same_drawn (plain_drawn (get_or CHART place Other)) (plain_arms (0xE2 ∷ middle ∷ last ∷ []))
@@ -211,7 +211,7 @@ right_second last low high =
     (subst (λ (i : ℕ). right_at i 0x95 (0x80 + (last - 0x80)) ≡ true) place
     (agree_below_at (λ k. right_at (0x40 + k) 0x95 (0x80 + k)) (λ k. true) 64 (last - 0x80) second_right (omega arith)))
 
--- what the chart says at a place is what the tables say of a text
+-- the entry of the chart is what the tables say of a string
 pub record IsRight (place : ℕ) (text : List ℕ) : Type 0 where
   pub within : place < 128
   pub plain : plain_drawn (get_or CHART place Other) ≡ plain_arms text
@@ -247,7 +247,7 @@ in_chart (a ∷ (b ∷ [])) place e = cc
 in_chart (a ∷ (b ∷ (c ∷ []))) place e = right_bytes a b c place e
 in_chart (a ∷ (b ∷ (c ∷ (d ∷ ds)))) place e = cc
 
--- each symbol of the tables has a place in the chart
+-- each symbol of the tables has an index in the chart
 abbrev all_placed : List Entry → Bool
 all_placed es = list_all (λ (e : Entry). is_some (place_in_chart e.0)) es
 

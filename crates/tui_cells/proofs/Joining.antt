@@ -39,7 +39,7 @@ use Rattle.std.specs.List.{list_all}
 use Rattle.std.specs.Option.{option_or}
 use Rattle.tui_cells.specs.Arms.{agree, all_agree, has_arm, joined_arms, joined_arm, lightened_arms, lightened_arm, same_arms, weight}
 use Rattle.tui_cells.specs.BoxDrawing.{Entry, arms_in, known_arms, other_table, plain_arms, plain_table, plain_with, symbol_in}
-use Rattle.tui_cells.specs.Cell.{IsLight}
+use Rattle.tui_cells.specs.Cell.{IsAllocationFree}
 use Rattle.tui_cells.specs.Merging.{EitherOrderJoins, EveryJoinExists, FuzzyAlwaysJoins, PlainSymbolsJoin, UnknownGivesNew, both_arms, exact, exact_for, fuzzy, fuzzy_for, merged}
 use Rattle.tui_cells.specs.declared.arms.Arm.{Arm}
 use Rattle.tui_cells.specs.declared.arms.Arm.TheVariants.{Empty, Light, Heavy, Double}
@@ -57,11 +57,11 @@ each_single p e Light s = (and_parts (p Light) _ (and_parts (p Empty) _ e).1).0
 each_single p e Heavy s = (and_parts (p Light) _ (and_parts (p Empty) _ e).1).1
 each_single p e Double s = cc
 
--- there is no arm, or a symbol
+-- there is no arm, or there is a symbol
 abbrev drawn : Arms → Bool
 drawn a = not (has_arm a) || is_some (plain_with a)
 
--- each of the 81 sets of arms that are not double, one after another
+-- checks each of the 81 sets of arms that are not double
 all_drawn : all_single (λ u. all_single (λ r. all_single (λ d. all_single (λ l. drawn (record { up = u; right = r; down = d; left = l }))))) ≡ true
 unfolding plain_table symbol_in
 all_drawn = refl
@@ -115,14 +115,14 @@ fuzzy_short None new h = h
 fuzzy_short (Some a) new h =
     short_or (plain_with a) (plain_with (lightened_arms a)) new (short_in plain_table a new plain_short h) (short_in plain_table (lightened_arms a) new plain_short h)
 
--- a symbol that is joined takes no memory where the new one takes none
-pub merged_light : (s : MergeStrategy) (old new : List ℕ) → IsLight new → IsLight (merged s old new)
+-- joining a symbol does not allocate if the new symbol does not
+pub merged_allocation_free : (s : MergeStrategy) (old new : List ℕ) → IsAllocationFree new → IsAllocationFree (merged s old new)
 unfolding exact fuzzy
-merged_light Replace old new h = h
-merged_light Exact old new h = exact_short (both_arms (plain_arms old) (plain_arms new)) new h
-merged_light Fuzzy old new h = fuzzy_short (both_arms (known_arms old) (known_arms new)) new h
+merged_allocation_free Replace old new h = h
+merged_allocation_free Exact old new h = exact_short (both_arms (plain_arms old) (plain_arms new)) new h
+merged_allocation_free Fuzzy old new h = fuzzy_short (both_arms (known_arms old) (known_arms new)) new h
 
--- what is found in a table of which each entry has an arm has an arm
+-- if each entry of a table has an arm, what is found in the table has an arm
 abbrev all_armed : List Entry → Bool
 all_armed es = list_all (λ (e : Entry). has_arm e.1) es
 
@@ -153,7 +153,7 @@ known_armed symbol a e =
     either None p a f g e = g e
     either (Some k) p a f g e = f e
 
--- a join has the new arms, and a lightened arm is an arm that is not double
+-- a join keeps the arms of both, and a lightened arm is not double and not lost
 lit : (old new : Arm) → (weight (lightened_arm (joined_arm old new)) == 0) ≡ ((weight new == 0) && (weight old == 0))
 lit Empty Empty = refl
 lit Light Empty = refl
@@ -180,7 +180,7 @@ fuzzy_always_joins old new a b e f =
     (weight a.up == 0) (weight a.right == 0) (weight a.down == 0) (weight a.left == 0) (known_armed new b f)))
     (rw (single (joined_arm a.up b.up), single (joined_arm a.right b.right), single (joined_arm a.down b.down), single (joined_arm a.left b.left)) refl)
 
--- where one is unknown, nothing is joined
+-- if either has no arms, nothing is joined
 none_known : (o p : Option Arms) → option_or o p ≡ None → o ≡ None
 none_known None p e = refl
 none_known (Some a) p e = cc
@@ -197,7 +197,7 @@ unknown_gives_new Exact old new e =
     rw (unknown_both (plain_arms old) (plain_arms new) (elim e [ inl p ↦ inl (none_known _ _ p) | inr p ↦ inr (none_known _ _ p) ])) refl
 unknown_gives_new Fuzzy old new e = rw (unknown_both (known_arms old) (known_arms new) e) refl
 
--- two plain symbols are joined by either strategy to the symbol with the joined arms
+-- both strategies join two plain symbols to the symbol with the joined arms
 plain_known : (symbol : List ℕ) (a : Arms) → plain_arms symbol ≡ Some a → known_arms symbol ≡ Some a
 plain_known symbol a e = rw e refl
 
@@ -205,7 +205,7 @@ pub plain_symbols_join : PlainSymbolsJoin
 unfolding exact fuzzy
 plain_symbols_join old new symbol a b e f g = (rw (e, f, g) refl, rw (plain_known old a e, plain_known new b f, g) refl)
 
--- arms that agree are joined to the same in either order
+-- arms that agree join to the same arm in either order
 same_join : (a b : Arm) → agree a b ≡ true → joined_arm b a ≡ joined_arm a b
 same_join Empty Empty e = refl
 same_join Empty Light e = refl

@@ -1,10 +1,10 @@
 pub mod Painting
-pub mod Dressing
+pub mod NoStyleLaws
 pub mod Regions
 pub mod Charts
 pub mod Joining
 pub mod Showing
 pub mod Making
-pub mod Spelling
+pub mod RowWritingLaws
 pub mod Looking
 pub mod Copies

@@ -6,14 +6,14 @@ use Rattle.tui_cells.specs.Rect.{covers, is_empty}
 use Rattle.tui_cells.specs.Layers.{StayIn}
 use Rattle.tui_cells.specs.Cell.{Look, Edit, edited}
 use Rattle.tui_cells.specs.Buffer.{Screen, cell_at, look_at}
-use Rattle.tui_cells.specs.Layers.{EditedFirst, Painted, KeptOutside, SameCells, Layer, before, layers_at, over, edits, stroke}
+use Rattle.tui_cells.specs.Layers.{EditedPrefix, Painted, KeptOutside, SameCells, Layer, before, layers_at, over, edits, stroke}
 use Rattle.tui_cells.specs.Stays.{StayIn-stroke}
 
--- at one place, the third region is the first two together, which do not meet
+-- at one position: the first two regions do not meet, and the third is their union
 abbrev pub Joins : (r s t : Bool) → Type 0
 Joins r s t = ((r && s) ≡ false) × (t ≡ (r || s))
 
--- the layers of two lists in turn
+-- the layers of one list and then of another
 pub layers_at-append : (ls ms : List Layer) (x y : ℕ) (c : Look) → layers_at (ls ++ ms) x y c ≡ layers_at ms x y (layers_at ls x y c)
 layers_at-append [] ms x y c = refl
 layers_at-append (l ∷ ls) ms x y c = layers_at-append ls ms x y (if l.region x y then edited l.edit c else c)
@@ -23,14 +23,14 @@ append_at : (ls ms : List Layer) (x y : ℕ) (o : Option Look) →
 append_at ls ms x y None = refl
 append_at ls ms x y (Some c) = ap Some (sym (layers_at-append ls ms x y c))
 
--- layers, and then others
+-- one list of layers and then another
 pub Painted-append : (ls ms : List Layer) (a b c : Screen) → Painted ls a b → Painted ms b c → Painted (ls ++ ms) a c
 Painted-append ls ms a b c p q = record {
   area = q.area ∙ p.area;
   cells = λ x y. q.cells x y ∙ (ap (option_map (layers_at ms x y)) (p.cells x y) ∙ append_at ls ms x y (cell_at a x y));
 }
 
--- the same, its parts found from the facts
+-- the same with implicit lists and screens
 pub Painted-then : {ls ms : List Layer} {a b c : Screen} → Painted ls a b → Painted ms b c → Painted (ls ++ ms) a c
 Painted-then {ls = ls} {ms = ms} {a = a} {b = b} {c = c} p q = Painted-append ls ms a b c p q
 
@@ -42,7 +42,7 @@ same_at : (ls ms : List Layer) (x y : ℕ) (o : Option Look) → ((c : Look) →
 same_at ls ms x y None e = refl
 same_at ls ms x y (Some c) e = ap Some (e c)
 
--- strokes that do the same at each place
+-- strokes with the same effect at each position
 pub Painted-same : {ls ms : List Layer} {a b : Screen} → ((x y : ℕ) (c : Look) → layers_at ls x y c ≡ layers_at ms x y c) → Painted ls a b → Painted ms a b
 Painted-same {ls = ls} {ms = ms} {a = a} e p = record { area = p.area; cells = λ x y. p.cells x y ∙ same_at ls ms x y (cell_at a x y) (e x y) }
 
@@ -77,7 +77,7 @@ join_over_cell : (R S T : ℕ → ℕ → Bool) (es : List Edit) (x y : ℕ) (o 
 join_over_cell R S T es x y None j = refl
 join_over_cell R S T es x y (Some c) j = ap Some (join_over R S T es x y (R x y) (S x y) (T x y) refl refl refl j c)
 
--- the same strokes over regions that do not meet are those strokes over both
+-- the same edits over two regions that do not meet are those edits over their union
 pub Painted-over : (R S T : ℕ → ℕ → Bool) (es : List Edit) (a b c : Screen) →
     Painted (over R es) a b → Painted (over S es) b c →
     ((x y : ℕ) → Joins (R x y) (S x y) (T x y)) → Painted (over T es) a c
@@ -91,12 +91,12 @@ same_place : (R S : ℕ → ℕ → Bool) (es : List Edit) (x y : ℕ) (r : Bool
 same_place R S es x y true p e c = over_true R es x y c p ∙ sym (over_true S es x y c (sym e ∙ p))
 same_place R S es x y false p e c = over_false R es x y c p ∙ sym (over_false S es x y c (sym e ∙ p))
 
--- the same strokes over regions that agree
+-- the same edits over regions that agree
 pub Painted-region : (R S : ℕ → ℕ → Bool) (es : List Edit) (a b : Screen) →
     Painted (over R es) a b → ((x y : ℕ) → R x y ≡ S x y) → Painted (over S es) a b
 Painted-region R S es a b p e = Painted-same (λ x y c. same_place R S es x y (R x y) refl (e x y) c) p
 
--- the same strokes over regions that agree in the buffer
+-- the same edits over regions that agree in the buffer
 pub Painted-within : (R S : ℕ → ℕ → Bool) (es : List Edit) (a b : Screen) →
     Painted (over R es) a b → ((x y : ℕ) → covers a.area x y ≡ true → R x y ≡ S x y) → Painted (over S es) a b
 Painted-within R S es a b p e = record {
@@ -110,7 +110,7 @@ Painted-within R S es a b p e = record {
     at_place x y true is = ap Some (same_place R S es x y (R x y) refl (e x y is) (look_at a x y))
     at_place x y false is = refl
 
--- strokes that do the same at each place of the buffer
+-- strokes with the same effect at each position of the buffer
 pub Painted-inside : {ls ms : List Layer} {a b : Screen} →
     ((x y : ℕ) → covers a.area x y ≡ true → (c : Look) → layers_at ls x y c ≡ layers_at ms x y c) → Painted ls a b → Painted ms a b
 Painted-inside {ls = ls} {ms = ms} {a = a} e p = record {
@@ -134,18 +134,18 @@ still_at : (ls : List Layer) (x y : ℕ) (o : Option Look) → ((c : Look) → l
 still_at ls x y None e = refl
 still_at ls x y (Some c) e = ap Some (sym (e c))
 
--- strokes that stay in a region where there is none do nothing
+-- strokes that stay in an empty region do nothing
 pub Painted-still : {region : ℕ → ℕ → Bool} {ls : List Layer} (b : Screen) → StayIn region ls → ((x y : ℕ) → region x y ≡ false) → Painted ls b b
 Painted-still {ls = ls} b s none = record {
   area = refl;
   cells = λ x y. still_at ls x y (cell_at b x y) (s.cell x y (none x y));
 }
 
--- so over an empty clip
+-- in particular, strokes that stay in an empty clip
 pub Painted-empty : {ls : List Layer} (clip : Rect) (b : Screen) → StayIn (covers clip) ls → is_empty clip ≡ true → Painted ls b b
 Painted-empty clip b s e = Painted-still b s (covers_nowhere clip e)
 
--- strokes that stay in a region where there is none change nothing
+-- strokes that stay in an empty region change nothing
 pub Painted-nowhere : {region : ℕ → ℕ → Bool} {ls : List Layer} {a b : Screen} → StayIn region ls → ((x y : ℕ) → region x y ≡ false) →
     Painted ls a b → SameCells a b
 Painted-nowhere {ls = ls} {a = a} s none p = record {
@@ -153,21 +153,21 @@ Painted-nowhere {ls = ls} {a = a} s none p = record {
   cells = λ x y. p.cells x y ∙ sym (still_at ls x y (cell_at a x y) (s.cell x y (none x y)));
 }
 
--- strokes that stay in a region leave all outside it
+-- strokes that stay in a region change nothing outside it
 pub Painted-kept : {region : ℕ → ℕ → Bool} {ls : List Layer} {a b : Screen} → StayIn region ls → Painted ls a b → KeptOutside region a b
 Painted-kept {ls = ls} {a = a} s p = record {
   area = p.area;
   cells = λ x y out. p.cells x y ∙ sym (still_at ls x y (cell_at a x y) (s.cell x y out));
 }
 
--- what has reached a position of an area, where nothing more has changed
-pub edited_first : {T E : Type 0} (r : Result T E) (area : Rect) (edit : Edit) (x y : ℕ) (a b c : Screen) → Painted (stroke (before area x y) edit) a b → c ≡ b →
-    OnErr r (EditedFirst area edit a c)
-edited_first (Ok k) area edit x y a b c p e = tt
-edited_first (Err k) area edit x y a b c p e = record { column = x; row = y; cells = rw e p }
+-- if the edits have reached a position of an area and nothing else has changed, a first part of the area got the edit
+pub edited_prefix : {T E : Type 0} (r : Result T E) (area : Rect) (edit : Edit) (x y : ℕ) (a b c : Screen) → Painted (stroke (before area x y) edit) a b → c ≡ b →
+    OnErr r (EditedPrefix area edit a c)
+edited_prefix (Ok k) area edit x y a b c p e = tt
+edited_prefix (Err k) area edit x y a b c p e = record { column = x; row = y; cells = rw e p }
 
--- what has not begun
-pub none_edited : {T E : Type 0} (r : Result T E) (area : Rect) (edit : Edit) (b : Screen) → OnErr r (EditedFirst area edit b b)
+-- if nothing has changed, an empty first part got the edit
+pub none_edited : {T E : Type 0} (r : Result T E) (area : Rect) (edit : Edit) (b : Screen) → OnErr r (EditedPrefix area edit b b)
 none_edited (Ok x) area edit b = tt
 none_edited (Err e) area edit b =
     record { column = 0; row = 0; cells = Painted-still b (StayIn-stroke (before area 0 0) edit (λ x y out. out)) (λ x y. nowhere x y) }

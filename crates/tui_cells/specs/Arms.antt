@@ -11,18 +11,18 @@ weight Light = 1
 weight Heavy = 2
 weight Double = 3
 
--- the same arm in each direction
+-- whether the arms are the same in each direction
 abbrev pub same_arms : Arms → Arms → Bool
 same_arms a b = (weight a.up == weight b.up) && (weight a.right == weight b.right) && (weight a.down == weight b.down) && (weight a.left == weight b.left)
 
--- the new arm, else the old one
+-- the new arm, or the old one if the new symbol has none
 abbrev pub joined_arm : Arm → Arm → Arm
 joined_arm old Empty = old
 joined_arm old Light = Light
 joined_arm old Heavy = Heavy
 joined_arm old Double = Double
 
--- the new arm in each direction that has one, else the old one
+-- in each direction the new arm if there is one, else the old one
 abbrev pub joined_arms : Arms → Arms → Arms
 joined_arms old new = record {
   up = joined_arm old.up new.up;
@@ -31,14 +31,14 @@ joined_arms old new = record {
   left = joined_arm old.left new.left;
 }
 
--- a double arm made light
+-- a double arm becomes a light one
 abbrev pub lightened_arm : Arm → Arm
 lightened_arm Empty = Empty
 lightened_arm Light = Light
 lightened_arm Heavy = Heavy
 lightened_arm Double = Light
 
--- each double arm made light
+-- each double arm becomes a light one
 abbrev pub lightened_arms : Arms → Arms
 lightened_arms a = record {
   up = lightened_arm a.up;
@@ -47,18 +47,18 @@ lightened_arms a = record {
   left = lightened_arm a.left;
 }
 
--- an arm in some direction
+-- whether there is an arm in some direction
 abbrev pub has_arm : Arms → Bool
 has_arm a = not ((weight a.up == 0) && (weight a.right == 0) && (weight a.down == 0) && (weight a.left == 0))
 
--- a double arm in some direction
+-- whether there is a double arm in some direction
 abbrev pub has_double : Arms → Bool
 has_double a = (weight a.up == 3) || (weight a.right == 3) || (weight a.down == 3) || (weight a.left == 3)
 
--- one of the two is no arm, or both are the same
+-- at least one arm is empty, or both are the same
 abbrev pub agree : Arm → Arm → Bool
 agree a b = (weight a == 0) || (weight b == 0) || (weight a == weight b)
 
--- in no direction two different arms
+-- no direction has two different arms
 abbrev pub all_agree : Arms → Arms → Bool
 all_agree a b = agree a.up b.up && agree a.right b.right && agree a.down b.down && agree a.left b.left

@@ -54,7 +54,7 @@ other_symbols =
     at 0x256D Empty Light Light Empty ∷ at 0x256E Empty Empty Light Light ∷ at 0x256F Light Empty Empty Light ∷ at 0x2570 Light Light Empty Empty ∷
     []
 
--- a symbol, which is a text in UTF-8, and its arms
+-- a symbol, which is a UTF-8 string, and its arms
 abbrev pub Entry : Type 0
 Entry = List ℕ × Arms
 
@@ -70,12 +70,12 @@ plain_table = map as_entry plain_symbols
 unfoldable pub other_table : List Entry
 other_table = map as_entry other_symbols
 
--- the arms of a symbol of a table
+-- the arms of a symbol, found in a table
 unfoldable pub arms_in : List Entry → List ℕ → Option Arms
 arms_in [] symbol = None
 arms_in (e ∷ es) symbol = if pointwise nat_eq e.0 symbol then Some e.1 else arms_in es symbol
 
--- the symbol of a table with these arms
+-- the symbol with these arms, found in a table
 unfoldable pub symbol_in : List Entry → Arms → Option (List ℕ)
 symbol_in [] arms = None
 symbol_in (e ∷ es) arms = if same_arms e.1 arms then Some e.0 else symbol_in es arms

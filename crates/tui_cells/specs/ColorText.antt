@@ -1,4 +1,4 @@
--- How a colour is written, in a scene and in the print of its screen.
+-- How a colour is written, in a scene and in the printed screen.
 use Rattle.std.specs.Prelude.{ℕ, ◌/◌, ◌%◌, List, [], ◌∷◌, ◌++◌, codes, decimal, slice_index_or}
 use Rattle.tui_cells.specs.declared.color.Color.{Color}
 use Rattle.tui_cells.specs.declared.color.Color.TheVariants as colors

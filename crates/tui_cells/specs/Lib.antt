@@ -8,11 +8,11 @@ pub mod Strategies
 pub mod Cell
 pub mod Attributes
 pub mod Buffer
-pub mod Keeping
+pub mod Representation
 pub mod ColorText
 pub mod Text
 pub mod Layers
-pub mod Spelt
+pub mod RowWriting
 pub mod Stays
 pub mod Drawing
 pub mod Symbols

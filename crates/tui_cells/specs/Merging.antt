@@ -1,4 +1,4 @@
--- Border symbols joined with those that stand there.
+-- Border symbols joined with those that are already there.
 use Rattle.std.specs.Prelude.{◌≡◌, ◌⊎◌, true, false, ℕ, List, Option, None, Some, IsSome, unwrap_or}
 use Rattle.std.specs.Option.{option_or}
 use Rattle.tui_cells.specs.declared.arms.Arms.{Arms}
@@ -7,23 +7,23 @@ use Rattle.tui_cells.specs.declared.merge_strategy.MergeStrategy.TheVariants.{Re
 use Rattle.tui_cells.specs.Arms.{all_agree, has_arm, has_double, joined_arms, lightened_arms}
 use Rattle.tui_cells.specs.BoxDrawing.{known_arms, plain_arms, plain_with}
 
--- the arms of both together, if both are given
+-- the joined arms, if both have arms
 abbrev pub both_arms : Option Arms → Option Arms → Option Arms
 both_arms (Some old) (Some new) = Some (joined_arms old new)
 both_arms None new = None
 both_arms (Some old) None = None
 
--- the plain symbol with the arms, if there are arms and there is one; else the new symbol
+-- the plain symbol with the arms, if there are arms and such a symbol; else the new symbol
 abbrev pub exact_for : Option Arms → List ℕ → List ℕ
 exact_for (Some arms) new = unwrap_or (plain_with arms) new
 exact_for None new = new
 
--- likewise, and if there is none, the plain symbol with light arms for double ones
+-- likewise, but if there is no such symbol, the plain symbol with light arms in place of double ones
 abbrev pub fuzzy_for : Option Arms → List ℕ → List ℕ
 fuzzy_for (Some arms) new = unwrap_or (option_or (plain_with arms) (plain_with (lightened_arms arms))) new
 fuzzy_for None new = new
 
--- plain symbols alone are joined
+-- only plain symbols are joined
 unfoldable pub exact : List ℕ → List ℕ → List ℕ
 exact old new = exact_for (both_arms (plain_arms old) (plain_arms new)) new
 
@@ -41,26 +41,26 @@ merged Fuzzy old new = fuzzy old new
 abbrev pub EveryJoinExists : Type 0
 EveryJoinExists = (a : Arms) → has_arm a ≡ true → has_double a ≡ false → IsSome (plain_with a)
 
--- so two symbols that have arms always join to a plain one, once double arms are made light
+-- so any two symbols that have arms join to a plain one, once double arms become light ones
 abbrev pub FuzzyAlwaysJoins : Type 0
 FuzzyAlwaysJoins = (old new : List ℕ) (a b : Arms) → known_arms old ≡ Some a → known_arms new ≡ Some b →
     IsSome (plain_with (lightened_arms (joined_arms a b)))
 
--- a symbol without arms, old or new, leaves the new symbol
+-- if the old or the new symbol has no arms, the result is the new symbol
 abbrev pub UnknownGivesNew : Type 0
 UnknownGivesNew = (strategy : MergeStrategy) (old new : List ℕ) → (known_arms old ≡ None) ⊎ (known_arms new ≡ None) →
     merged strategy old new ≡ new
 
--- by Exact and by Fuzzy an old and a new symbol give this one
+-- both Exact and Fuzzy join an old and a new symbol to this one
 abbrev pub JoinTo : List ℕ → List ℕ → List ℕ → Type 0
 JoinTo old new symbol = (merged Exact old new ≡ symbol) × (merged Fuzzy old new ≡ symbol)
 
--- two plain symbols give the plain symbol that has the joined arms, where there is one
+-- two plain symbols give the plain symbol that has the joined arms, if there is one
 abbrev pub PlainSymbolsJoin : Type 0
 PlainSymbolsJoin = (old new symbol : List ℕ) (a b : Arms) → plain_arms old ≡ Some a → plain_arms new ≡ Some b →
     plain_with (joined_arms a b) ≡ Some symbol → JoinTo old new symbol
 
--- and in the other order the same one, where no direction has two different arms
+-- in the other order they give the same symbol, if no direction has two different arms
 abbrev pub EitherOrderJoins : Type 0
 EitherOrderJoins = (old new symbol : List ℕ) (a b : Arms) → plain_arms old ≡ Some a → plain_arms new ≡ Some b →
     plain_with (joined_arms a b) ≡ Some symbol → all_agree a b ≡ true → JoinTo new old symbol

@@ -3,8 +3,8 @@ use Rattle.std.specs.Prelude.{◌≡◌, ◌≢◌, ℕ, List, Result, MatchResu
 use Rattle.tui_cells.specs.declared.error.ParseError.{ParseError}
 use Rattle.tui_cells.specs.declared.error.ParseError.TheVariants.{VariantNotFound}
 
--- the text is the name of the value that is answered, and no value's name where it is refused
+-- on Ok the string is the name of the returned value; on an error it is the name of no value
 abbrev pub IsParsed : {A : Type 0} → (A → List ℕ) → List ℕ → Result A ParseError → Type 0
 IsParsed {A} name text answer = MatchResult answer
     (λ value. text ≡ name value)
-    (λ refusal. (refusal ≡ VariantNotFound) × ((value : A) → text ≢ name value))
+    (λ error. (error ≡ VariantNotFound) × ((value : A) → text ≢ name value))

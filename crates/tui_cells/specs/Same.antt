@@ -1,4 +1,5 @@
--- Laws: colours, attributes and styles that `==` calls equal are the same; and colours and attributes are equal to themselves.
+-- Laws: colours, attributes and styles that `==` calls equal are the same. Colours and attributes are equal to
+-- themselves.
 use Rattle.std.specs.Prelude.{◌≡◌, ℕ, ◌==◌, Bool, true, Option, Some, None, refl}
 use Rattle.std.specs.contracts.prelude.OptionPartialEq as options
 use Rattle.std.proofs.Common.{arith, rules}

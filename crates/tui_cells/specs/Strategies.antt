@@ -1,4 +1,4 @@
--- The names of the ways to join border symbols.
+-- The names of the merge strategies.
 use Rattle.std.specs.Prelude.{ℕ, List, codes}
 use Rattle.tui_cells.specs.declared.merge_strategy.MergeStrategy.{MergeStrategy}
 use Rattle.tui_cells.specs.declared.merge_strategy.MergeStrategy.TheVariants.{Replace, Exact, Fuzzy}

@@ -1,4 +1,5 @@
--- The symbols that widgets draw with: each set by its symbols, and the sets of a module in the order of their constants.
+-- The symbols that widgets draw with: each set by its symbols, and the sets of a module in the order of their
+-- constants.
 use Prim.Native.String.{String}
 use Rattle.std.specs.Prelude.{ℕ, List, [], ◌∷◌, codes, flat_map, map}
 use Rattle.std.specs.Char.{encode_utf8}
@@ -7,7 +8,7 @@ use Rattle.tui_cells.specs.declared.symbols.border.Set.{Set as BorderSet}
 use Rattle.tui_cells.specs.declared.symbols.line.Set.{Set as LineSet}
 use Rattle.tui_cells.specs.declared.symbols.scrollbar.Set.{Set as ScrollbarSet}
 
--- a text in UTF-8
+-- a string in UTF-8
 abbrev pub utf8 : String → List ℕ
 utf8 text = flat_map encode_utf8 (codes text)
 
@@ -35,7 +36,7 @@ border_data s = record {
   horizontal_bottom = s.horizontal_bottom.now;
 }
 
--- four corners, the sides left and right, the sides above and below
+-- four corners, the left and right sides, the top and bottom sides
 abbrev border : (top_left top_right bottom_left bottom_right vertical_left vertical_right horizontal_top horizontal_bottom : String) → BorderData
 border top_left top_right bottom_left bottom_right vertical_left vertical_right horizontal_top horizontal_bottom = record {
   top_left = utf8 top_left;
@@ -109,7 +110,7 @@ line vertical horizontal = record { vertical = utf8 vertical; horizontal = utf8 
 abbrev pub line_sets : List LineData
 line_sets = line "│" "─" ∷ line "║" "═" ∷ line "┃" "━" ∷ []
 
--- the two symbols of a light line, upright and lying
+-- the two symbols of a light line, vertical and horizontal
 abbrev pub line_symbols : List (List ℕ)
 line_symbols = utf8 "│" ∷ utf8 "─" ∷ []
 
@@ -164,7 +165,7 @@ bar full seven_eighths three_quarters five_eighths half three_eighths one_quarte
 abbrev pub nine_levels : BarData
 nine_levels = bar "█" "▇" "▆" "▅" "▄" "▃" "▂" "▁" " "
 
--- full, half and empty alone
+-- full, half and empty only
 abbrev pub three_levels : BarData
 three_levels = bar "█" "█" "▄" "▄" "▄" "▄" "▄" " " " "
 

@@ -35,7 +35,7 @@ impl Arm {
         }
     }
 
-    /// The new arm, or the old one where the new symbol has none.
+    /// Returns the new arm, or the old one if the new symbol has none.
     fn joined(self, new: Arm) -> Arm
         ensures { result ≡ joined_arm self new }
     {
@@ -67,7 +67,7 @@ impl Arms {
         }
     }
 
-    /// Each double arm made light.
+    /// Replaces each double arm by a light one.
     pub(crate) fn lightened(self) -> Arms
         ensures { result ≡ lightened_arms self }
     {
@@ -79,7 +79,7 @@ impl Arms {
         }
     }
 
-    /// The number of these arms among all 256 sets: up counts most, left least.
+    /// Returns the number of this set of arms among all 256 sets. `up` counts most, `left` least.
     pub(crate) fn number(self) -> usize
         ensures is { result ≡ arms_number self }
         ensures within { result < 256 }

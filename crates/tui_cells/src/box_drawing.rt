@@ -1,4 +1,4 @@
-//! The characters of the chart Box Drawing, U+2500 to U+257F, by their arms.
+//! The characters of the Unicode block Box Drawing, U+2500 to U+257F, by their arms.
 
 ghost use Rattle.std.specs.Prelude.{◌≡◌, map, option_map};
 ghost use Rattle.tui_cells.specs.BoxDrawing.{known_arms, plain_arms, plain_with};
@@ -6,14 +6,14 @@ ghost use Rattle.tui_cells.specs.Chart.{drawn_arms, place_in_chart, plain_drawn,
 
 use crate::arms::{Arm, Arms};
 
-/// What a text counts as where border symbols are joined.
+/// What a string counts as when border symbols are joined.
 #[derive(Clone, Copy, Debug, PartialEq, Eq, Hash)]
 pub(crate) enum Drawn {
     /// A plain symbol.
     Plain(Arms),
-    /// A dashed or rounded symbol, with the arms of the plain one that it counts as.
-    Alike(Arms),
-    /// No such symbol.
+    /// A dashed or rounded symbol, with the arms of the plain symbol that it counts as.
+    LikePlain(Arms),
+    /// Not a border symbol.
     Other,
 }
 
@@ -31,7 +31,7 @@ impl Drawn {
         ensures { result ≡ drawn_arms self }
     {
         match self {
-            Drawn::Plain(arms) | Drawn::Alike(arms) => Some(arms),
+            Drawn::Plain(arms) | Drawn::LikePlain(arms) => Some(arms),
             Drawn::Other => None,
         }
     }
@@ -53,7 +53,7 @@ fn chart() -> &'static [Drawn]
     &CHART
 }
 
-/// The place in the chart of a text that is one of its characters.
+/// Returns the index of a character in the block, or `None` if the string is not one of its characters.
 fn place_in_chart(symbol: &str) -> Option<u8>
     ensures { result ≡ place_in_chart symbol.now }
 {
@@ -64,7 +64,7 @@ fn place_in_chart(symbol: &str) -> Option<u8>
     }
 }
 
-/// The plain symbol with these arms.
+/// Returns the plain symbol with these arms, if there is one.
 pub(crate) fn symbol_with(arms: Arms) -> Option<&'static str>
     ensures { option_map (λ s. s.now) result ≡ plain_with arms }
 {
@@ -76,7 +76,7 @@ pub(crate) fn symbol_with(arms: Arms) -> Option<&'static str>
     }
 }
 
-/// The plain symbol for each number of a set of arms, empty where there is none.
+/// Returns the plain symbols, indexed by the number of their arms. An entry is empty if there is no such symbol.
 fn symbols_by_arms() -> &'static [&'static str]
     ensures { map (λ s. s.now) result.now ≡ symbols_by_arms }
 {
@@ -90,13 +90,13 @@ macro_rules! arm {
     (double) => { Arm::Double };
 }
 
-// The arms up, right, down and left in brackets for a plain symbol, in parentheses for a dashed or rounded one.
+// A plain symbol is written as its arms up, right, down and left in brackets, a dashed or rounded one in parentheses.
 macro_rules! drawn {
     ([$up:tt $right:tt $down:tt $left:tt]) => {
         Drawn::Plain(Arms { up: arm!($up), right: arm!($right), down: arm!($down), left: arm!($left) })
     };
     (($up:tt $right:tt $down:tt $left:tt)) => {
-        Drawn::Alike(Arms { up: arm!($up), right: arm!($right), down: arm!($down), left: arm!($left) })
+        Drawn::LikePlain(Arms { up: arm!($up), right: arm!($right), down: arm!($down), left: arm!($left) })
     };
     (other) => { Drawn::Other };
 }
@@ -141,7 +141,7 @@ static CHART: [Drawn; 128] = chart! {
     [- heavy - light] [light - heavy -] [- light - heavy] [heavy - light -] // ╼ ╽ ╾ ╿
 };
 
-// A row for each pair of arms up and right, a column for each pair of arms down and left.
+// One row for each pair of arms up and right, one column for each pair of arms down and left.
 #[rattlefmt::skip]
 static SYMBOLS: [&str; 256] = [
     "", "╴", "╸", "", "╷", "┐", "┑", "╕", "╻", "┒", "┓", "", "", "╖", "", "╗",

@@ -2,7 +2,7 @@
 
 ghost use Rattle.std.specs.Prelude.{◌≡◌, ◌↔◌, ◌<◌, IsOk, IsTrue, IfOk, OnOk, OnErr, length, string_bytes};
 ghost use Rattle.tui_cells.specs.Attributes.{look_of};
-ghost use Rattle.tui_cells.specs.Cell.{IsAtRest, IsLight, IsSymbol, blank, dim, dress, edited, merge, put, wipe};
+ghost use Rattle.tui_cells.specs.Cell.{IsUnstyled, IsAllocationFree, IsSymbol, blank, dim, set_style, edited, merge, write, wipe};
 
 use crate::attributes::Attributes;
 use crate::color::Color;
@@ -16,8 +16,8 @@ use std::alloc::Global;
 use std::marker::Model;
 use std::rc::Rc;
 
-/// A symbol, which is a text that is not empty, with its colours and modifiers. A symbol of at most 8 bytes stands in the
-/// cell; a longer one takes memory.
+/// A symbol with its colours and modifiers. The symbol is a string that is not empty. A symbol of at most 8 bytes is
+/// stored in the cell; a longer one is allocated.
 #[derive(Drop)]
 pub struct Cell {
     alloc: Global,
@@ -36,14 +36,14 @@ impl Model for Cell {
 }
 
 impl Cell {
-    /// A blank cell: one blank, both colours Reset, no modifier.
+    /// Returns a blank cell: one space, both colours Reset, no modifier.
     #[inline]
     pub fn new(alloc: Global) -> Cell
         ensures { result ≡ blank }
     {
         Cell {
             alloc,
-            content: Content::Short(Attributes::at_rest(), blank_symbol()),
+            content: Content::Short(Attributes::unstyled(), blank_symbol()),
         }
     }
 
@@ -56,7 +56,7 @@ impl Cell {
         self.content.symbol()
     }
 
-    /// The colours and the modifiers at once.
+    /// Returns the colours and the modifiers together.
     #[inline]
     pub fn attributes(&self) -> Attributes
         ensures { look_of self.now.symbol result ≡ self.now }
@@ -73,10 +73,10 @@ impl Cell {
     }
 
     #[inline]
-    pub(crate) fn is_at_rest(&self) -> bool
-        ensures { IsTrue result ↔ IsAtRest self.now }
+    pub(crate) fn is_unstyled(&self) -> bool
+        ensures { IsTrue result ↔ IsUnstyled self.now }
     {
-        self.content.attributes().is_at_rest()
+        self.content.attributes().is_unstyled()
     }
 
     /// The foreground.
@@ -100,23 +100,24 @@ impl Cell {
         self.content.attributes().modifier
     }
 
-    /// Sets the symbol alone; the empty text gives one blank. At NoMemory the cell is as before. A text of at most 8 bytes
-    /// takes no memory.
+    /// Sets the symbol and nothing else. An empty string sets one space. Fails with `NoMemory` if memory runs out; the
+    /// cell is then unchanged. A symbol of at most 8 bytes does not allocate.
     #[inline]
     pub fn set_symbol(&mut self, symbol: &str) -> Mem<()>
-        ensures ok { OnOk result (self.new ≡ edited (put symbol.now) self.old) }
+        ensures ok { OnOk result (self.new ≡ edited (write symbol.now) self.old) }
         ensures err { OnErr result (self.new ≡ self.old) }
-        ensures light { IsLight symbol.now → IsOk result }
+        ensures allocation_free { IsAllocationFree symbol.now → IsOk result }
     {
         self.content.set_symbol(self.alloc, symbol)
     }
 
-    /// Sets what `MergeStrategy::merge` makes of the cell's symbol and a new one; the empty text counts as one blank. At
-    /// NoMemory the cell is as before. A new symbol of at most 8 bytes takes no memory.
+    /// Joins the cell's symbol with a new one, as `MergeStrategy::merge` does. An empty string counts as one space.
+    /// Fails with `NoMemory` if memory runs out; the cell is then unchanged. A new symbol of at most 8 bytes does not
+    /// allocate.
     pub fn merge_symbol(&mut self, symbol: &str, strategy: MergeStrategy) -> Mem<()>
         ensures ok { OnOk result (self.new ≡ edited (merge strategy symbol.now) self.old) }
         ensures err { OnErr result (self.new ≡ self.old) }
-        ensures light { IsLight symbol.now → IsOk result }
+        ensures allocation_free { IsAllocationFree symbol.now → IsOk result }
     {
         let merged = strategy.merge(self.content.symbol(), symbol);
         self.content.set_symbol(self.alloc, merged)
@@ -130,10 +131,10 @@ impl Cell {
         self.content.dim();
     }
 
-    /// Sets the colours that are given, adds the added modifiers and then takes out the removed ones.
+    /// Sets the colours that the style gives, adds its added modifiers and then removes its removed ones.
     #[inline]
     pub fn set_style(&mut self, style: Style)
-        ensures { self.new ≡ edited (dress style) self.old }
+        ensures { self.new ≡ edited (set_style style) self.old }
     {
         self.content.set_style(style);
     }
@@ -143,44 +144,45 @@ impl Cell {
     pub fn reset(&mut self)
         ensures { self.new ≡ edited wipe self.old }
     {
-        self.content = Content::Short(Attributes::at_rest(), blank_symbol());
+        self.content = Content::Short(Attributes::unstyled(), blank_symbol());
     }
 
     #[inline]
     pub(crate) fn set_short(&mut self, symbol: ArrayString<SHORT>)
         requires { 0 < length symbol.bytes }
-        ensures { self.new ≡ edited (put symbol.bytes) self.old }
+        ensures { self.new ≡ edited (write symbol.bytes) self.old }
     {
         self.content.set_short(symbol);
     }
 
-    /// Sets a symbol that cells share.
+    /// Sets a symbol that is shared with other cells.
     pub(crate) fn set_shared(&mut self, symbol: &Rc<String>) -> Mem<()>
         requires { 0 < length (string_bytes symbol.now.value) }
-        ensures ok { OnOk result (self.new ≡ edited (put (string_bytes symbol.now.value)) self.old) }
+        ensures ok { OnOk result (self.new ≡ edited (write (string_bytes symbol.now.value)) self.old) }
         ensures err { OnErr result (self.new ≡ self.old) }
     {
         self.content = Content::Long(self.content.attributes(), symbol.clone()?);
         Ok(())
     }
 
-    /// Shows what another cell shows. At NoMemory the cell is as before. A symbol of at most 8 bytes takes no memory.
+    /// Makes the cell show what another cell shows. Fails with `NoMemory` if memory runs out; the cell is then
+    /// unchanged. A symbol of at most 8 bytes does not allocate.
     #[inline]
     pub fn copy_from(&mut self, other: &Cell) -> Mem<()>
         ensures ok { OnOk result (self.new ≡ other.now) }
         ensures err { OnErr result (self.new ≡ self.old) }
-        ensures light { IsLight other.now.symbol → IsOk result }
+        ensures allocation_free { IsAllocationFree other.now.symbol → IsOk result }
     {
         self.content.copy_from(&other.content)
     }
 
-    /// Another cell that shows the same.
-    pub(crate) fn duplicate(&self) -> Mem<Cell>
+    /// Returns another cell that shows the same.
+    pub(crate) fn try_clone(&self) -> Mem<Cell>
         ensures { IfOk result (λ cell. cell ≡ self.now) }
     {
         Ok(Cell {
             alloc: self.alloc,
-            content: self.content.duplicate()?,
+            content: self.content.try_clone()?,
         })
     }
 }

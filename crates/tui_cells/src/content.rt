@@ -1,9 +1,9 @@
-//! How a cell keeps what it shows.
+//! How a cell stores what it shows.
 
 ghost use Rattle.std.specs.Prelude.{◌≡◌, ◌↔◌, ◌<◌, [], ◌∷◌, IsOk, IsTrue, IfOk, IfSome, None, OnErr, OnOk, length, string_bytes};
 ghost use Rattle.std.specs.Char.{encode_utf8};
 ghost use Rattle.tui_cells.specs.Attributes.{content_look, look_of};
-ghost use Rattle.tui_cells.specs.Cell.{IsLight, dim, dressed, edited, put, space, symbol_of};
+ghost use Rattle.tui_cells.specs.Cell.{IsAllocationFree, dim, restyled, edited, write, space, symbol_of};
 
 use crate::attributes::Attributes;
 use crate::memory::Mem;
@@ -12,17 +12,17 @@ use arrayvec::ArrayString;
 use std::alloc::Global;
 use std::rc::Rc;
 
-/// The bytes of a symbol that stands in its cell.
+/// The greatest number of bytes of a symbol that is stored in its cell.
 pub(crate) const SHORT: usize = 8;
 
-/// Attributes and a symbol: in place up to 8 bytes, else a text that cells share.
+/// Attributes and a symbol. A symbol of at most 8 bytes is stored in place, a longer one in a string that cells share.
 #[derive(Drop)]
 pub(crate) enum Content {
     Short(Attributes, ArrayString<SHORT>),
     Long(Attributes, Rc<String>),
 }
 
-/// One blank in place of the empty text.
+/// Returns the string, or one space if it is empty.
 #[inline]
 pub(crate) fn shown(symbol: &str) -> &str
     ensures { result.now ≡ symbol_of symbol.now }
@@ -48,19 +48,19 @@ pub(crate) fn char_symbol(c: char) -> ArrayString<SHORT>
     symbol
 }
 
-/// A character of one byte.
+/// Returns a symbol of one ASCII character.
 #[inline]
 pub(crate) fn byte_symbol(byte: u8) -> ArrayString<SHORT>
     requires { byte < 128 }
     ensures { result.bytes ≡ byte ∷ [] }
 {
     let mut symbol = ArrayString::new();
-    // The remainder is the byte; it tells the compiler that the character has one byte.
+    // The remainder equals the byte. It shows the compiler that the character has one byte.
     symbol.push((byte % 128) as char);
     symbol
 }
 
-/// A text in place, where it has at most 8 bytes. A single byte needs no copy of memory.
+/// Returns the string stored in place, if it has at most 8 bytes. A single byte is stored without a copy of memory.
 #[inline]
 pub(crate) fn short_symbol(text: &str) -> Option<ArrayString<SHORT>>
     ensures some { IfSome result (λ symbol. symbol.bytes ≡ text.now) }
@@ -77,11 +77,11 @@ pub(crate) fn short_symbol(text: &str) -> Option<ArrayString<SHORT>>
     }
 }
 
-// A text that another cell has, shared where it is long.
+// Returns the content with the symbol of another cell. A long symbol is shared.
 #[inline(never)]
 fn shared(attributes: Attributes, symbol: &Rc<String>) -> Mem<Content>
     ensures same { IfOk result (λ c. content_look c ≡ look_of (string_bytes symbol.now.value) attributes) }
-    ensures light { IsLight (string_bytes symbol.now.value) → IsOk result }
+    ensures allocation_free { IsAllocationFree (string_bytes symbol.now.value) → IsOk result }
 {
     match short_symbol(symbol.as_str()) {
         Some(short) => Ok(Content::Short(attributes, short)),
@@ -89,7 +89,7 @@ fn shared(attributes: Attributes, symbol: &Rc<String>) -> Mem<Content>
     }
 }
 
-// Lengths first: most symbols have one.
+// Compares the lengths first. Most symbols have one byte.
 #[inline]
 fn is_same_text(one: &str, other: &str) -> bool
     ensures { IsTrue result ↔ (one.now ≡ other.now) }
@@ -97,7 +97,7 @@ fn is_same_text(one: &str, other: &str) -> bool
     one.len() == other.len() && are_equal(one, other)
 }
 
-// A comparison of texts is a call, which a single byte needs not.
+// Comparing two strings is a call, which a single byte doesn't need.
 #[inline]
 fn are_equal(one: &str, other: &str) -> bool
     ensures { IsTrue result ↔ (one.now ≡ other.now) }
@@ -109,12 +109,13 @@ fn are_equal(one: &str, other: &str) -> bool
 }
 
 impl Content {
-    /// Sets the symbol; the empty text gives one blank. At NoMemory the content is as before.
+    /// Sets the symbol. An empty string sets one space. Fails with `NoMemory` if memory runs out; the content is then
+    /// unchanged.
     #[inline]
     pub(crate) fn set_symbol(&mut self, alloc: Global, text: &str) -> Mem<()>
-        ensures ok { OnOk result (content_look self.new ≡ edited (put text.now) (content_look self.old)) }
+        ensures ok { OnOk result (content_look self.new ≡ edited (write text.now) (content_look self.old)) }
         ensures err { OnErr result (self.new ≡ self.old) }
-        ensures light { IsLight text.now → IsOk result }
+        ensures allocation_free { IsAllocationFree text.now → IsOk result }
     {
         let text = shown(text);
         match short_symbol(text) {
@@ -126,7 +127,7 @@ impl Content {
         }
     }
 
-    /// Sets a symbol of at most 8 bytes, in its place where the old one is short too.
+    /// Sets a symbol of at most 8 bytes. If the old one is short too, it is overwritten in place.
     #[inline]
     pub(crate) fn set_short(&mut self, symbol: ArrayString<SHORT>)
         ensures { content_look self.new ≡ record (content_look self.old) { symbol = symbol.bytes } }
@@ -169,7 +170,7 @@ impl Content {
 
     #[inline]
     pub(crate) fn set_style(&mut self, style: Style)
-        ensures { content_look self.new ≡ dressed style (content_look self.old) }
+        ensures { content_look self.new ≡ restyled style (content_look self.old) }
     {
         match self {
             Content::Short(attributes, _) => attributes.set_style(style),
@@ -205,12 +206,13 @@ impl Content {
         }
     }
 
-    /// Shows what another content shows, in its place where both are short. At NoMemory the content is as before.
+    /// Makes the content show what another content shows, in place if both symbols are short. Fails with `NoMemory` if
+    /// memory runs out; the content is then unchanged.
     #[inline]
     pub(crate) fn copy_from(&mut self, other: &Content) -> Mem<()>
         ensures ok { OnOk result (content_look self.new ≡ content_look other.now) }
         ensures err { OnErr result (self.new ≡ self.old) }
-        ensures light { IsLight (content_look other.now).symbol → IsOk result }
+        ensures allocation_free { IsAllocationFree (content_look other.now).symbol → IsOk result }
     {
         match (self, other) {
             (Content::Short(attributes, place), Content::Short(others, symbol)) => {
@@ -219,17 +221,17 @@ impl Content {
                 Ok(())
             }
             (content, _) => {
-                *content = other.duplicate()?;
+                *content = other.try_clone()?;
                 Ok(())
             }
         }
     }
 
-    /// The same content; a long symbol is shared. A text of at most 8 bytes takes no memory.
+    /// Returns the same content. A long symbol is shared. A symbol of at most 8 bytes does not allocate.
     #[inline]
-    pub(crate) fn duplicate(&self) -> Mem<Content>
+    pub(crate) fn try_clone(&self) -> Mem<Content>
         ensures same { IfOk result (λ c. content_look c ≡ content_look self.now) }
-        ensures light { IsLight (content_look self.now).symbol → IsOk result }
+        ensures allocation_free { IsAllocationFree (content_look self.now).symbol → IsOk result }
     {
         match self {
             Content::Short(attributes, symbol) => Ok(Content::Short(*attributes, *symbol)),

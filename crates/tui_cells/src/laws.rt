@@ -1,4 +1,4 @@
-//! What holds of all widgets.
+//! Laws of all widgets.
 
 ghost use Rattle.std.specs.Prelude.{◌≡◌, true};
 ghost use Rattle.tui_cells.specs.Buffer.{Screen};
@@ -9,14 +9,14 @@ ghost use Rattle.tui_cells.specs.declared.rect.Rect.{Rect};
 use crate::stateful::StatefulWidget;
 use crate::widget::Widget;
 
-/// Over an empty clip a drawing changes nothing, whatever the widget.
+/// Drawing over an empty clip changes nothing, whatever the widget.
 pub fn empty_clip_law<W: Widget>(widget: &W)
     ensures { (clip : Rect) (old new : Screen) → is_empty clip ≡ true → Painted ((W.drawing widget.now).layers clip) old new → SameCells old new }
 {}
 
-/// The same of a widget with a state, whatever the state; and the state rests.
+/// Drawing a stateful widget over an empty clip changes neither cells nor the state, whatever the state.
 pub fn empty_clip_state_law<W: StatefulWidget>(widget: &W, state: &W::State)
     ensures cells { (clip : Rect) (old new : Screen) → is_empty clip ≡ true
-        → Painted ((W.moving widget.now).layers state.now clip) old new → SameCells old new }
-    ensures state { (clip : Rect) → is_empty clip ≡ true → (W.moving widget.now).after clip state.now ≡ state.now }
+        → Painted ((W.stateful_drawing widget.now).layers state.now clip) old new → SameCells old new }
+    ensures state { (clip : Rect) → is_empty clip ≡ true → (W.stateful_drawing widget.now).after clip state.now ≡ state.now }
 {}

@@ -1,4 +1,4 @@
-//! Cells of a terminal screen: rectangles, styles, cells, buffers of cells, and the traits of what is drawn into them.
+//! Cells of a terminal screen: rectangles, styles, cells, buffers of cells, and the traits of widgets.
 #![tactic(auto)]
 
 mod arms;

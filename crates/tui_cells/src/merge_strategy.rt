@@ -1,8 +1,8 @@
-//! How a border symbol is joined with the one that stands there.
+//! How a border symbol is joined with the one that is already in the cell.
 
 ghost use Rattle.std.specs.Prelude.{◌≡◌, None, Some};
 ghost use Rattle.tui_cells.specs.BoxDrawing.{known_arms};
-ghost use Rattle.tui_cells.specs.Cell.{IsLight, space};
+ghost use Rattle.tui_cells.specs.Cell.{IsAllocationFree, space};
 ghost use Rattle.tui_cells.specs.Merging.{
   EitherOrderJoins,
   EveryJoinExists,
@@ -21,24 +21,26 @@ use crate::error::ParseError;
 use std::fmt;
 use std::str::FromStr;
 
-/// How a border symbol is joined with the one that stands there. `Display` writes the variant's name, and `FromStr` reads it.
+/// How a border symbol is joined with the one that is already in the cell. `Display` writes the variant's name, and
+/// `FromStr` reads it.
 #[derive(Clone, Copy, Debug, PartialEq, Eq, Hash)]
 pub enum MergeStrategy {
     /// The new symbol.
     Replace,
-    /// The plain symbol with the arms of both, if both are plain and there is one; else the new symbol.
+    /// The plain symbol with the arms of both, if both symbols are plain and there is such a symbol. Otherwise the new
+    /// symbol.
     Exact,
-    /// The plain symbol with the arms of both, where dashed and rounded symbols count as plain ones; if there is none, the
-    /// one with light arms for double ones. The new symbol, if one of the two has no arms.
+    /// The plain symbol with the arms of both. Dashed and rounded symbols count as plain ones. If there is no such
+    /// symbol, the one with light arms in place of double ones. If one of the two has no arms, the new symbol.
     Fuzzy,
 }
 
 impl MergeStrategy {
-    /// The symbol that joins an old one and a new one: where they meet in one direction, the new arm. A blank, or any other
-    /// text without arms, leaves the new symbol.
+    /// Returns the symbol that joins an old and a new one. In a direction in which both have an arm, the new arm is
+    /// taken. If either symbol has no arms, as a space has none, the result is the new symbol.
     pub fn merge<'s>(self, old: &str, new: &'s str) -> &'s str
         ensures is { result.now ≡ merged self old.now new.now }
-        ensures light { IsLight new.now → IsLight result.now }
+        ensures allocation_free { IsAllocationFree new.now → IsAllocationFree result.now }
     {
         match self {
             MergeStrategy::Replace => new,
@@ -71,7 +73,7 @@ fn fuzzy<'s>(old: &str, new: &'s str) -> &'s str
     }
 }
 
-/// The plain symbol with these arms, or else with light ones for double ones.
+/// Returns the plain symbol with these arms, or the one with light arms in place of double ones, or the new symbol.
 fn nearest<'s>(arms: Arms, new: &'s str) -> &'s str
     ensures { result.now ≡ fuzzy_for (Some arms) new.now }
 {
@@ -116,7 +118,7 @@ impl FromStr for MergeStrategy {
 
     ghost from_str_gives = { IsParsed name_of };
 
-    /// Answers `VariantNotFound` exactly where the text is no variant's name.
+    /// Fails with `VariantNotFound` exactly if the string is not the name of a variant.
     fn from_str(text: &str) -> Result<MergeStrategy, ParseError> {
         match text {
             "Replace" => Ok(MergeStrategy::Replace),
@@ -127,9 +129,10 @@ impl FromStr for MergeStrategy {
     }
 }
 
-/// Each set of light and heavy arms has a plain symbol, so a join by `Fuzzy` of two symbols that have arms is always a plain
-/// one. A blank has no arms, and a symbol without arms leaves the new symbol. Two plain symbols give the plain one that has
-/// the arms of both, if there is one, and the same in the other order where no direction has two different arms.
+/// Each set of light and heavy arms has a plain symbol, so `Fuzzy` joins any two symbols that have arms to a plain one.
+/// A space has no arms. If either symbol has no arms, the result is the new symbol. Two plain symbols give the plain
+/// symbol with the arms of both, if there is one. In the other order they give the same symbol if no direction has two
+/// different arms.
 pub fn merging_laws()
     ensures every_join { EveryJoinExists }
     ensures fuzzy { FuzzyAlwaysJoins }

@@ -2,7 +2,7 @@
 
 ghost use Rattle.std.specs.Prelude.{◌≡◌};
 
-/// How many columns and rows something is moved: to the right and down, or to the left and up where negative.
+/// A distance in columns and rows: to the right and down, or to the left and up if negative.
 #[derive(Clone, Copy, Debug, PartialEq, Eq, Hash)]
 pub struct Offset {
     pub x: i32,

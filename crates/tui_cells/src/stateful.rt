@@ -1,7 +1,7 @@
-//! What is drawn into a buffer and keeps a state from one drawing to the next.
+//! Widgets that keep a state from one drawing to the next.
 
 ghost use Rattle.std.specs.Prelude.{◌≡◌, IsOk, IsTrue, OnErr, OnOk};
-ghost use Rattle.tui_cells.specs.Drawing.{Moving};
+ghost use Rattle.tui_cells.specs.Drawing.{StatefulDrawing};
 ghost use Rattle.tui_cells.specs.Layers.{KeptOutside, Painted};
 ghost use Rattle.tui_cells.specs.Rect.{intersection_of, is_empty};
 
@@ -10,17 +10,18 @@ use crate::memory::Mem;
 use crate::rect::Rect;
 use std::alloc::Global;
 
-/// What draws itself into its clip by a state, and leaves the state that the next drawing begins with.
+/// A widget that draws itself into its clip by a state, and updates the state for the next drawing.
 pub trait StatefulWidget {
     /// What is kept between two drawings.
     type State;
 
-    /// The words of a widget, by the state, and the state that a drawing leaves.
-    ghost moving: { Self → Moving Self.State };
+    /// Describes what is drawn for each state, and the state after drawing.
+    ghost stateful_drawing: { Self → StatefulDrawing Self.State };
 
-    /// Draws. Ok: each cell is the old one under the strokes by the old state, and the state is the one that they leave.
-    /// NoMemory: the state, the buffer's area and all cells outside the footprint are as before. Where the clip is empty
-    /// nothing changes, the state included, and the answer is Ok. A light widget takes no memory.
+    /// Draws the widget. On `Ok` each cell is the old one under the strokes for the old state, and the state is the one
+    /// after drawing. On `NoMemory` the state, the buffer's area and all cells outside the footprint are unchanged. If
+    /// the clip is empty, nothing changes, the state included, and the result is `Ok`. If `allocation_free` holds, drawing does
+    /// not allocate and so returns `Ok`.
     fn render(
         &self,
         alloc: Global,
@@ -28,11 +29,11 @@ pub trait StatefulWidget {
         buf: &mut Buffer,
         state: &mut Self::State,
     ) -> Mem<()>
-        ensures ok { OnOk result (Painted ((moving self.now).layers state.old (intersection_of area buf.old.area)) buf.old buf.new) }
-        ensures state { OnOk result (state.new ≡ (moving self.now).after (intersection_of area buf.old.area) state.old) }
-        ensures shows { OnOk result ((moving self.now).shows state.old state.new (intersection_of area buf.old.area) buf.old buf.new) }
-        ensures err { OnErr result (KeptOutside ((moving self.now).footprint (intersection_of area buf.old.area)) buf.old buf.new) }
+        ensures ok { OnOk result (Painted ((stateful_drawing self.now).layers state.old (intersection_of area buf.old.area)) buf.old buf.new) }
+        ensures state { OnOk result (state.new ≡ (stateful_drawing self.now).after (intersection_of area buf.old.area) state.old) }
+        ensures shows { OnOk result ((stateful_drawing self.now).shows state.old state.new (intersection_of area buf.old.area) buf.old buf.new) }
+        ensures err { OnErr result (KeptOutside ((stateful_drawing self.now).footprint (intersection_of area buf.old.area)) buf.old buf.new) }
         ensures err_state { OnErr result (state.new ≡ state.old) }
         ensures empty { IsTrue (is_empty (intersection_of area buf.old.area)) → IsOk result }
-        ensures light { (moving self.now).light → IsOk result };
+        ensures allocation_free { (stateful_drawing self.now).allocation_free → IsOk result };
 }

@@ -1,4 +1,4 @@
--- Behind a boundary the clusters of a text are those of the rest alone: no rule looks past it.
+-- After a boundary the clusters of a text are those of the rest alone: no rule looks back past it.
 use Rattle.std.proofs.Common.{◌≡◌, ◌≢◌, ℕ, zero, suc, Bool, true, false, not, ◌&&◌, ◌||◌, List, [], ◌∷◌, ◌++◌, map, take, drop, reverse, unwrap_or, refl, sym, ap, ap₂, ◌∙◌, arith, append-nil, append_assoc}
 use Rattle.std.specs.List.{concat}
 use Rattle.std.specs.Prelude.{if◌then◌else◌, encode_utf8_all}
@@ -17,15 +17,15 @@ use Rattle.unicode_segmentation.specs.Grapheme.{break_by_pair, ends_in_linker, i
 use Rattle.unicode_segmentation.specs.Segments.{prepend, cut, segments}
 use Rattle.tui_clusters.proofs.Controls.{is_control, is_joined, has_kind, conjunct_joined, control_alone}
 
--- no rule joins the character n, or one behind it, by what stands before n, nearest first
+-- no rule joins the character n, or one after it, because of the characters before n, which are listed nearest first
 record Apart (before : List ℕ) (n : ℕ) : Type 0 where
   conjunct : indic_conjunct_break n ≡ kinds.Extend → ends_in_linker (map indic_conjunct_break before) ≡ false
   emoji : is_joined (grapheme_cluster_break n) ≡ true → ends_in_pictograph before ≡ false
   flag : is_regional (grapheme_cluster_break n) ≡ true → ends_in_half_flag before ≡ false
 
--- a boundary before a character that extends others stands behind a control
-behind_control : (g h : GraphemeClusterBreak) (joins : Bool) → unwrap_or (break_by_pair true g h) (not joins) ≡ true → is_joined h ≡ true → is_control g ≡ true
-behind_control g h joins e j = grind arith
+-- a boundary before a character that extends others comes after a control
+after_control : (g h : GraphemeClusterBreak) (joins : Bool) → unwrap_or (break_by_pair true g h) (not joins) ≡ true → is_joined h ≡ true → is_control g ≡ true
+after_control g h joins e j = grind arith
 
 whole_flag : (g h : GraphemeClusterBreak) (others half : Bool) → unwrap_or (break_by_pair true g h) (not (others || (half && is_regional h))) ≡ true
     → is_regional h ≡ true → (is_control g || not half) ≡ true
@@ -57,17 +57,17 @@ not_regional : (c : ℕ) (before : List ℕ) → is_regional (grapheme_cluster_b
 unfolding ends_in_half_flag
 not_regional c before h = rw h refl
 
--- at a boundary no rule looks past it
+-- no rule looks back past a boundary
 apart : (before : List ℕ) (n : ℕ) (after : List ℕ) → is_grapheme_break true before (n ∷ after) ≡ true → Apart before n
 unfolding is_grapheme_break ends_in_linker ends_in_pictograph ends_in_half_flag
 apart [] n after e = record { conjunct = λ _. refl; emoji = λ _. refl; flag = λ _. refl }
 apart (c ∷ before) n after e =
     let g = grapheme_cluster_break c in
     let h = grapheme_cluster_break n in
-    let behind = λ (j : is_joined h ≡ true). behind_control g h _ e j in
+    let following = λ (j : is_joined h ≡ true). after_control g h _ e j in
     record {
-      conjunct = λ x. no_linker _ _ (control_alone c (behind (conjunct_joined n x))).0;
-      emoji = λ j. no_pictograph c before (behind j);
+      conjunct = λ x. no_linker _ _ (control_alone c (following (conjunct_joined n x))).0;
+      emoji = λ j. no_pictograph c before (following j);
       flag = λ r. either (is_control g) _ (whole_flag g h _ (ends_in_half_flag (c ∷ before)) e r) (λ control. not_regional c before (control_no_extend g control).1);
     }
 
@@ -131,7 +131,7 @@ module _ (n : ℕ) (before : List ℕ) (a : Apart before n) where
       first false x y h = refl
   emoji_same (z ∷ zs) next = ap (λ t. is_zwj (grapheme_cluster_break z) && t && is_extended_pictographic next) (pictograph_same zs)
 
-  -- so what stands before n doesn't matter
+  -- so the characters before n don't matter
   break_same : (zs after : List ℕ) → is_grapheme_break true (zs ++ n ∷ before) after ≡ is_grapheme_break true (zs ++ n ∷ []) after
   unfolding is_grapheme_break
   break_same [] [] = refl
@@ -149,7 +149,7 @@ module _ (n : ℕ) (before : List ℕ) (a : Apart before n) where
   cut_same zs (y ∷ ys) =
       ap₂ (λ b rest. if b then (y ∷ []) ∷ rest else prepend (y ∷ []) rest) (break_same (y ∷ zs) (ys ++ [])) (cut_same (y ∷ zs) ys)
 
--- what stands before a boundary doesn't matter to the pieces behind it
+-- the characters before a boundary don't matter to the pieces after it
 pub cut-fresh : (before ys : List ℕ) → is_grapheme_break true before ys ≡ true → cut (is_grapheme_break true) before ys [] ≡ cut (is_grapheme_break true) [] ys []
 unfolding cut
 cut-fresh before [] e = refl
@@ -157,7 +157,7 @@ cut-fresh before (n ∷ ys) e =
     let a = apart before n ys e in
     ap₂ (λ b rest. if b then (n ∷ []) ∷ rest else prepend (n ∷ []) rest) (break_same n before a [] (ys ++ [])) (cut_same n before a [] ys)
 
--- the characters that are read, the last one first
+-- the characters that were read, the last one first
 abbrev onto : List ℕ → List ℕ → List ℕ
 onto [] before = before
 onto (c ∷ cs) before = onto cs (c ∷ before)
@@ -180,7 +180,7 @@ picked-append true part ps qs some = refl
 picked-append false part [] qs some = absurd (some refl)
 picked-append false part (p ∷ ps) qs some = refl
 
--- no rule looks further ahead than at one character
+-- no rule looks further ahead than one character
 one_ahead : (before : List ℕ) (x : ℕ) (ys zs : List ℕ) → is_grapheme_break true before (x ∷ ys) ≡ is_grapheme_break true before (x ∷ zs)
 unfolding is_grapheme_break
 one_ahead [] x ys zs = refl
@@ -190,7 +190,8 @@ last_one : (x : ℕ) (before : List ℕ) → (x ∷ []) ∷ [] ≡ (if is_graphe
 unfolding is_grapheme_break
 last_one x before = refl
 
--- at a boundary the pieces are those on both sides, and those behind it are cut with the characters before it in mind
+-- at a boundary the pieces are those of both sides, where those after it are cut with knowledge of the characters
+-- before it
 cut-seam : (cs before ds : List ℕ) → is_grapheme_break true (onto cs before) ds ≡ true
     → cut (is_grapheme_break true) before (cs ++ ds) [] ≡ cut (is_grapheme_break true) before cs [] ++ cut (is_grapheme_break true) (onto cs before) ds []
 unfolding cut
@@ -201,41 +202,41 @@ cut-seam (x ∷ []) before ds e =
     ∙ ap (λ p. p ++ rest) (last_one x before)
 cut-seam (x ∷ y ∷ xs) before ds e =
     let rule = is_grapheme_break true in
-    let behind = cut rule (onto (y ∷ xs) (x ∷ before)) ds [] in
+    let following = cut rule (onto (y ∷ xs) (x ∷ before)) ds [] in
     ap₂ (λ b rest. if b then (x ∷ []) ∷ rest else prepend (x ∷ []) rest) (one_ahead (x ∷ before) y ((xs ++ ds) ++ []) (xs ++ [])) (cut-seam (y ∷ xs) (x ∷ before) ds e)
-    ∙ picked-append (rule (x ∷ before) ((y ∷ xs) ++ [])) (x ∷ []) (cut rule (x ∷ before) (y ∷ xs) []) behind (cut_some (x ∷ before) y xs)
+    ∙ picked-append (rule (x ∷ before) ((y ∷ xs) ++ [])) (x ∷ []) (cut rule (x ∷ before) (y ∷ xs) []) following (cut_some (x ∷ before) y xs)
 
--- where a text breaks behind a first part of it, its clusters are those of both parts, each by itself
-pub graphemes-boundary : (text behind : List ℕ) → IsUtf8 text → is_grapheme_break true (reverse (chars text)) (chars behind) ≡ true
-    → graphemes true (text ++ behind) ≡ graphemes true text ++ graphemes true behind
+-- if a text breaks after its first part, its clusters are those of both parts, each taken alone
+pub graphemes-boundary : (text following : List ℕ) → IsUtf8 text → is_grapheme_break true (reverse (chars text)) (chars following) ≡ true
+    → graphemes true (text ++ following) ≡ graphemes true text ++ graphemes true following
 unfolding segments
-graphemes-boundary text behind u e =
+graphemes-boundary text following u e =
     let rule = is_grapheme_break true in
     let read : onto (chars text) [] ≡ reverse (chars text) = onto-reverse (chars text) [] ∙ append-nil (reverse (chars text)) in
-    let here : rule (onto (chars text) []) (chars behind) ≡ true = ap (λ before. rule before (chars behind)) read ∙ e in
-    ap (λ cs. map encode_utf8_all (cut rule [] cs [])) (chars-append text behind u)
+    let here : rule (onto (chars text) []) (chars following) ≡ true = ap (λ before. rule before (chars following)) read ∙ e in
+    ap (λ cs. map encode_utf8_all (cut rule [] cs [])) (chars-append text following u)
     ∙ (ap (map encode_utf8_all)
-    (cut-seam (chars text) [] (chars behind) here ∙ ap (λ ps. cut rule [] (chars text) [] ++ ps) (cut-fresh (onto (chars text) []) (chars behind) here))
-    ∙ map-append encode_utf8_all (cut rule [] (chars text) []) (cut rule [] (chars behind) []))
+    (cut-seam (chars text) [] (chars following) here ∙ ap (λ ps. cut rule [] (chars text) [] ++ ps) (cut-fresh (onto (chars text) []) (chars following) here))
+    ∙ map-append encode_utf8_all (cut rule [] (chars text) []) (cut rule [] (chars following) []))
 
--- a boundary behind the first text's last character, whatever stands before that
-pub record IsApart (text behind : List ℕ) : Type 0 where
+-- there is a boundary after the last character of the first text, whatever comes before that character
+pub record IsApart (text following : List ℕ) : Type 0 where
   pub front : List ℕ
   pub last : ℕ
   pub is : chars text ≡ front ++ last ∷ []
-  pub boundary : (before : List ℕ) → is_grapheme_break true (last ∷ before) (chars behind) ≡ true
+  pub boundary : (before : List ℕ) → is_grapheme_break true (last ∷ before) (chars following) ≡ true
 
--- there the clusters are those on both sides
-pub graphemes-apart : (text behind : List ℕ) → IsUtf8 text → IsApart text behind → graphemes true (text ++ behind) ≡ graphemes true text ++ graphemes true behind
-graphemes-apart text behind u a =
-    graphemes-boundary text behind u
-    (ap (λ before. is_grapheme_break true before (chars behind)) (ap reverse a.is ∙ reverse-append a.front (a.last ∷ [])) ∙ a.boundary (reverse a.front))
+-- then the clusters are those of both sides
+pub graphemes-apart : (text following : List ℕ) → IsUtf8 text → IsApart text following → graphemes true (text ++ following) ≡ graphemes true text ++ graphemes true following
+graphemes-apart text following u a =
+    graphemes-boundary text following u
+    (ap (λ before. is_grapheme_break true before (chars following)) (ap reverse a.is ∙ reverse-append a.front (a.last ∷ [])) ∙ a.boundary (reverse a.front))
 
 concat-prepend : (c : ℕ) (rest : List (List ℕ)) → concat (prepend (c ∷ []) rest) ≡ c ∷ concat rest
 concat-prepend c [] = refl
 concat-prepend c (p ∷ rest) = refl
 
--- the pieces make up the characters
+-- the pieces joined together are the characters
 concat-cut : (before cs : List ℕ) → concat (cut (is_grapheme_break true) before cs []) ≡ cs
 unfolding cut
 concat-cut before [] = refl
@@ -250,16 +251,16 @@ drop-prepend c zero [] = refl
 drop-prepend c (suc k) [] = refl
 drop-prepend c k (p ∷ ps) = refl
 
--- cut anew, these pieces are the same
+-- cut again, these pieces are the same
 abbrev IsAsCut : List (List ℕ) → Type 0
 IsAsCut ps = cut (is_grapheme_break true) [] (concat ps) [] ≡ ps
 
-behind_first : (c k : ℕ) (b : Bool) (rest : List (List ℕ)) → (b ≡ true → IsAsCut (drop k rest)) → IsAsCut (drop (suc k) rest)
+following_first : (c k : ℕ) (b : Bool) (rest : List (List ℕ)) → (b ≡ true → IsAsCut (drop k rest)) → IsAsCut (drop (suc k) rest)
     → IsAsCut (drop (suc k) (if b then (c ∷ []) ∷ rest else prepend (c ∷ []) rest))
-behind_first c k true rest h g = h refl
-behind_first c k false rest h g = rw (drop-prepend c k rest) g
+following_first c k true rest h g = h refl
+following_first c k false rest h g = rw (drop-prepend c k rest) g
 
--- behind any of them stand the pieces of the characters that are left
+-- after any piece come the pieces of the remaining characters
 later : (before cs : List ℕ) (k : ℕ) → IsAsCut (drop (suc k) (cut (is_grapheme_break true) before cs []))
 unfolding cut
 later before [] k = refl
@@ -267,8 +268,8 @@ later before (c ∷ cs) zero =
     let rule = is_grapheme_break true in
     let fresh = λ (e : rule (c ∷ before) (cs ++ []) ≡ true).
     ap (λ t. cut rule [] t []) (concat-cut (c ∷ before) cs) ∙ sym (cut-fresh (c ∷ before) cs (ap (rule (c ∷ before)) (sym (append-nil cs)) ∙ e)) in
-    behind_first c zero _ (cut rule (c ∷ before) cs []) fresh (later (c ∷ before) cs zero)
-later before (c ∷ cs) (suc k) = behind_first c (suc k) _ (cut (is_grapheme_break true) (c ∷ before) cs []) (λ e. later (c ∷ before) cs k) (later (c ∷ before) cs (suc k))
+    following_first c zero _ (cut rule (c ∷ before) cs []) fresh (later (c ∷ before) cs zero)
+later before (c ∷ cs) (suc k) = following_first c (suc k) _ (cut (is_grapheme_break true) (c ∷ before) cs []) (λ e. later (c ∷ before) cs k) (later (c ∷ before) cs (suc k))
 
 cut-rest : (cs : List ℕ) (k : ℕ) → IsAsCut (drop k (cut (is_grapheme_break true) [] cs []))
 cut-rest cs zero = ap (λ t. cut (is_grapheme_break true) [] t []) (concat-cut [] cs)
@@ -278,9 +279,9 @@ concat-encoded : (ps : List (List ℕ)) → concat (map encode_utf8_all ps) ≡ 
 concat-encoded [] = refl
 concat-encoded (p ∷ ps) = ap (λ t. encode_utf8_all p ++ t) (concat-encoded ps) ∙ sym (encodes-append p (concat ps))
 
-scalars-behind : (cs ds : List ℕ) → all_scalars (cs ++ ds) ≡ true → all_scalars ds ≡ true
-scalars-behind [] ds h = h
-scalars-behind (c ∷ cs) ds h = scalars-behind cs ds (and_parts _ _ h).1
+scalars-following : (cs ds : List ℕ) → all_scalars (cs ++ ds) ≡ true → all_scalars ds ≡ true
+scalars-following [] ds h = h
+scalars-following (c ∷ cs) ds h = scalars-following cs ds (and_parts _ _ h).1
 
 module _ (text : List ℕ) (u : IsUtf8 text) (k : ℕ) where
   abbrev pieces : List (List ℕ)
@@ -291,9 +292,9 @@ module _ (text : List ℕ) (u : IsUtf8 text) (k : ℕ) where
       let whole : chars text ≡ concat (take k pieces) ++ concat (drop k pieces) =
       sym (concat-cut [] (chars text)) ∙ ap concat (sym (take-append-drop k pieces)) ∙ concat-append (take k pieces) (drop k pieces) in
       ap chars (concat-encoded (drop k pieces))
-      ∙ chars-encodes _ (scalars-behind (concat (take k pieces)) _ (ap all_scalars (sym whole) ∙ scalars-chars text u))
+      ∙ chars-encodes _ (scalars-following (concat (take k pieces)) _ (ap all_scalars (sym whole) ∙ scalars-chars text u))
 
-  -- the clusters behind any of them are the clusters of what is left of the text
+  -- the clusters after any of them are the clusters of the remaining text
   pub graphemes-rest : graphemes true (concat (drop k (graphemes true text))) ≡ drop k (graphemes true text)
   unfolding segments
   graphemes-rest =
@@ -304,7 +305,7 @@ module _ (text : List ℕ) (u : IsUtf8 text) (k : ℕ) where
       ∙ ap (map encode_utf8_all) (cut-rest (chars text) k)
       ∙ sym last
 
--- the clusters make up the text
+-- the clusters joined together are the text
 pub concat-graphemes : (text : List ℕ) → IsUtf8 text → concat (graphemes true text) ≡ text
 unfolding segments
 concat-graphemes text u = concat-encoded (cut (is_grapheme_break true) [] (chars text) []) ∙ ap encode_utf8_all (concat-cut [] (chars text)) ∙ encodes-chars text u

@@ -1,4 +1,4 @@
--- A text's first cluster and what stands behind it.
+-- A text's first cluster, and the text after it.
 use Rattle.std.proofs.Common.{◌≡◌, ℕ, ◌<◌, Bool, true, false, List, [], ◌∷◌, ◌++◌, length, map, drop, length-append, sym, ap, ◌∙◌, subst, arith}
 use Rattle.std.specs.List.{concat, AllByRecursion}
 use Rattle.std.specs.Prelude.{if◌then◌else◌, encode_utf8_all}

@@ -1,4 +1,4 @@
--- A plain character that its first bytes tell, before another one or at the text's end.
+-- A plain character that its first bytes identify, before another one or at the end of the text.
 use Rattle.std.proofs.Common.{◌≡◌, ℕ, ◌+◌, ◌<◌, ◌≤◌, Bool, true, List, [], ◌++◌, length, length-append, length-drop, take, drop, take_at, get_or, get_or-drop, append-nil, ⊎_elim, sym, ap, subst, ◌∙◌, arith}
 use lib.Utf8.{encode}
 use Rattle.std.specs.Str.{IsUtf8, IsCharBoundary}
@@ -6,9 +6,9 @@ use Rattle.std.proofs.lemmas.Bool.{cases_lt}
 use Rattle.std.proofs.lemmas.Str.{IsUtf8-drop, IsUtf8-take, IsCharBoundary-end}
 use Rattle.ucd_table.specs.Rows.{Range}
 use Rattle.unicode_segmentation.specs.Grapheme.{graphemes}
-use Rattle.tui_clusters.specs.Plain.{is_sign_start, plain_len, sign_ranges, told_ranges, IsPlainChar, IsPlainFirst, IsSeam}
+use Rattle.tui_clusters.specs.Plain.{is_sign_start, plain_len, sign_ranges, known_ranges, IsPlainChar, IsPlainFirst, IsSeam}
 use Rattle.tui_clusters.specs.Printable.{is_printable}
-use Rattle.tui_clusters.proofs.Leads.{Begins, no_continuation, printable_lead, sign_first, told_first}
+use Rattle.tui_clusters.proofs.LeadBytes.{Begins, no_continuation, printable_lead, sign_first, known_first}
 use Rattle.tui_clusters.proofs.PlainChars.{graphemes-plain, plain_shown, IsPlainChar-from}
 use Rattle.tui_clusters.proofs.Seams.{graphemes-part}
 
@@ -29,7 +29,7 @@ module _ (ranges : List Range) (text : List ℕ) (u : IsUtf8 text) (n : ℕ) (b 
         shown = plain_shown (take n text) one;
       }
 
-  -- at the text's end
+  -- at the end of the text
   first_alone : length text ≤ n → IsPlainFirst text n
   first_alone ends =
       let is : n ≡ length text = let f = fits in omega arith in
@@ -40,7 +40,7 @@ module _ (ranges : List Range) (text : List ℕ) (u : IsUtf8 text) (n : ℕ) (b 
   seam_of_two less h =
       let cut : IsCharBoundary text n = (fits, λ _ high. no_continuation (get_or text n 0) high h) in
       let here : get_or (drop n text) 0 0 ≡ get_or text n 0 = get_or-drop n text 0 0 ∙ ap (λ i. get_or text i 0) (let e : n + 0 ≡ n = omega arith in e) in
-      let next = told_first (drop n text) (plain_len (get_or text n 0)) (IsUtf8-drop text n u cut) (omega (arith, length-drop n text)) (sym (ap plain_len here)) h in
+      let next = known_first (drop n text) (plain_len (get_or text n 0)) (IsUtf8-drop text n u cut) (omega (arith, length-drop n text)) (sym (ap plain_len here)) h in
       record {
         boundary = cut;
         front = [];
@@ -56,21 +56,21 @@ module _ (ranges : List Range) (text : List ℕ) (u : IsUtf8 text) (n : ℕ) (b 
   first_of_two : n < length text → 0 < plain_len (get_or text n 0) → IsPlainFirst text n
   first_of_two less h = let s = seam_of_two less h in whole s.boundary (λ _. s)
 
--- as a function reads the bytes
+-- likewise for the bytes that a function reads
 module _ (text bytes : List ℕ) (n : ℕ) (u : IsUtf8 text) (some : 0 < length text) (e : bytes ≡ text) (is : n ≡ plain_len (get_or bytes 0 0)) (h : 0 < n) where
-  begun : Begins (told_ranges n) text n
-  begun = told_first text n u some (is ∙ ap (λ t. plain_len (get_or t 0 0)) e) h
+  begun : Begins (known_ranges n) text n
+  begun = known_first text n u some (is ∙ ap (λ t. plain_len (get_or t 0 0)) e) h
 
   pub quick_alone : length bytes ≤ n → IsPlainFirst text n
-  quick_alone ends = first_alone (told_ranges n) text u n begun (let size = ap length e in omega arith)
+  quick_alone ends = first_alone (known_ranges n) text u n begun (let size = ap length e in omega arith)
 
   pub quick_before : (m : ℕ) → n < length bytes → m ≡ plain_len (get_or bytes n 0) → 0 < m → IsPlainFirst text n
   quick_before m less next more =
       let size = ap length e in
-      let behind = next ∙ ap (λ t. plain_len (get_or t n 0)) e in
-      first_of_two (told_ranges n) text u n begun (omega arith) (omega arith)
+      let following = next ∙ ap (λ t. plain_len (get_or t n 0)) e in
+      first_of_two (known_ranges n) text u n begun (omega arith) (omega arith)
 
--- a printable byte before another one, and at the text's end
+-- a printable byte before another one, and at the end of the text
 pub quick_printable : (text bytes : List ℕ) → IsUtf8 text → 0 < length text → bytes ≡ text → is_printable (get_or bytes 0 0) ≡ true
     → (1 < length bytes → is_printable (get_or bytes 1 0) ≡ true) → IsPlainFirst text 1
 quick_printable text bytes u some e first second =
@@ -80,10 +80,10 @@ quick_printable text bytes u some e first second =
     (λ more. quick_before text bytes 1 u some e one (omega arith) 1 (omega arith) (sym (printable_lead (get_or bytes 1 0) (second (omega arith)))) (omega arith))
     (cases_lt (length bytes) 2)
 
--- behind a sign, before a plain character that its first byte tells
+-- after a sign, before a plain character that its first byte identifies
 pub sign_before : (text bytes : List ℕ) (start : Bool) (n : ℕ) → IsUtf8 text → bytes ≡ text → start ≡ is_sign_start (get_or bytes 0 0) (get_or bytes 1 0) → start ≡ true
     → 3 < length text → n ≡ plain_len (get_or bytes 3 0) → 0 < n → IsSeam text 3
-sign_before text bytes start n u e is told less behind some =
-    let next : n ≡ plain_len (get_or text 3 0) = behind ∙ ap (λ t. plain_len (get_or t 3 0)) e in
-    let begin = sign_first text u (omega arith) (ap (λ t. is_sign_start (get_or t 0 0) (get_or t 1 0)) (sym e) ∙ (sym is ∙ told)) in
+sign_before text bytes start n u e is known less following some =
+    let next : n ≡ plain_len (get_or text 3 0) = following ∙ ap (λ t. plain_len (get_or t 3 0)) e in
+    let begin = sign_first text u (omega arith) (ap (λ t. is_sign_start (get_or t 0 0) (get_or t 1 0)) (sym e) ∙ (sym is ∙ known)) in
     seam_of_two sign_ranges text u 3 begin less (omega arith)

@@ -4,7 +4,7 @@ pub mod Controls
 pub mod EmptyText
 pub mod FirstCluster
 pub mod FirstPlain
-pub mod Leads
+pub mod LeadBytes
 pub mod LineEnds
 pub mod LoneChars
 pub mod OneByte

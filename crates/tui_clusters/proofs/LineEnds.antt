@@ -1,4 +1,4 @@
--- The clusters of a text's first line, and of what stands behind it, are those of the text.
+-- The clusters of a text are those of its first line and those of the text after it.
 use Rattle.std.proofs.Common.{◌≡◌, ℕ, Bool, true, false, not, ◌||◌, List, [], ◌∷◌, ◌++◌, map, unwrap_or, refl, sym, ap, ◌∙◌, ⊎_elim, arith, rules}
 use Rattle.std.specs.Prelude.{if◌then◌else◌, encode_utf8_all}
 use Rattle.std.specs.Str.{IsAscii, IsUtf8, chars}
@@ -21,7 +21,7 @@ use Rattle.tui_clusters.proofs.EmptyText.{graphemes-nil}
 abbrev pub EndsInReturn : List ℕ → Type 0
 EndsInReturn line = (front : List ℕ) × (line ≡ front ++ 13 ∷ [])
 
--- the controls of line ends
+-- the controls that end lines
 abbrev is_return : GraphemeClusterBreak → Bool
 is_return Cr = true
 is_return _ = false
@@ -44,8 +44,8 @@ pair_feed g h joins e r = grind arith
 pair_return : (g h : GraphemeClusterBreak) (joins : Bool) → h ≡ Cr → unwrap_or (break_by_pair true g h) joins ≡ true
 pair_return g h joins e = grind arith
 
-behind_pair : (g h : GraphemeClusterBreak) (joins : Bool) → g ≡ Lf → unwrap_or (break_by_pair true g h) joins ≡ true
-behind_pair g h joins e = grind arith
+after_pair : (g h : GraphemeClusterBreak) (joins : Bool) → g ≡ Lf → unwrap_or (break_by_pair true g h) joins ≡ true
+after_pair g h joins e = grind arith
 
 joined_pair : (g h : GraphemeClusterBreak) (joins : Bool) → g ≡ Cr → h ≡ Lf → unwrap_or (break_by_pair true g h) joins ≡ false
 joined_pair g h joins e f = grind arith
@@ -65,16 +65,16 @@ before_return : (x : ℕ) (before ys : List ℕ) → is_grapheme_break true (x �
 unfolding is_grapheme_break
 before_return x before ys = pair_return (grapheme_cluster_break x) (grapheme_cluster_break 13) _ return_is
 
-behind_feed : (before ys : List ℕ) → is_grapheme_break true (10 ∷ before) ys ≡ true
+after_feed : (before ys : List ℕ) → is_grapheme_break true (10 ∷ before) ys ≡ true
 unfolding is_grapheme_break
-behind_feed before [] = refl
-behind_feed before (y ∷ ys) = behind_pair (grapheme_cluster_break 10) (grapheme_cluster_break y) _ feed_is
+after_feed before [] = refl
+after_feed before (y ∷ ys) = after_pair (grapheme_cluster_break 10) (grapheme_cluster_break y) _ feed_is
 
 return_feed : (before ys : List ℕ) → is_grapheme_break true (13 ∷ before) (10 ∷ ys) ≡ false
 unfolding is_grapheme_break
 return_feed before ys = joined_pair (grapheme_cluster_break 13) (grapheme_cluster_break 10) _ return_is feed_is
 
--- a newline is a cluster, with the return before it
+-- a newline is a cluster, together with a carriage return before it
 one_feed : graphemes true (10 ∷ []) ≡ (10 ∷ []) ∷ []
 unfolding segments cut is_grapheme_break
 one_feed =
@@ -88,16 +88,16 @@ one_return =
     let last = cut (is_grapheme_break true) (13 ∷ []) (10 ∷ []) [] in
     ap (λ cs. map encode_utf8_all (cut (is_grapheme_break true) [] cs [])) (chars-IsAscii (13 ∷ 10 ∷ []) ascii)
     ∙ (ap (λ b. map encode_utf8_all (if b then (13 ∷ []) ∷ last else prepend (13 ∷ []) last)) (return_feed [] [])
-    ∙ (ap (λ b. map encode_utf8_all (prepend (13 ∷ []) (if b then (10 ∷ []) ∷ [] else prepend (10 ∷ []) []))) (behind_feed (13 ∷ []) [])
+    ∙ (ap (λ b. map encode_utf8_all (prepend (13 ∷ []) (if b then (10 ∷ []) ∷ [] else prepend (10 ∷ []) []))) (after_feed (13 ∷ []) [])
     ∙ ap (λ t. t ∷ []) (encodes-IsAscii (13 ∷ 10 ∷ []) ascii)))
 
--- an end of a line, and the text behind it
-ended : (front behind : List ℕ) → IsAscii (front ++ 10 ∷ []) → graphemes true (front ++ 10 ∷ []) ≡ (front ++ 10 ∷ []) ∷ []
-    → graphemes true ((front ++ 10 ∷ []) ++ behind) ≡ (front ++ 10 ∷ []) ∷ graphemes true behind
-ended front behind ascii one =
-    graphemes-apart (front ++ 10 ∷ []) behind (IsUtf8-from_ascii (front ++ 10 ∷ []) ascii)
-    (record { front = front; last = 10; is = chars-IsAscii (front ++ 10 ∷ []) ascii; boundary = λ before. behind_feed before (chars behind) })
-    ∙ ap (λ t. t ++ graphemes true behind) one
+-- an end of a line, and the text after it
+ended : (front following : List ℕ) → IsAscii (front ++ 10 ∷ []) → graphemes true (front ++ 10 ∷ []) ≡ (front ++ 10 ∷ []) ∷ []
+    → graphemes true ((front ++ 10 ∷ []) ++ following) ≡ (front ++ 10 ∷ []) ∷ graphemes true following
+ended front following ascii one =
+    graphemes-apart (front ++ 10 ∷ []) following (IsUtf8-from_ascii (front ++ 10 ∷ []) ascii)
+    (record { front = front; last = 10; is = chars-IsAscii (front ++ 10 ∷ []) ascii; boundary = λ before. after_feed before (chars following) })
+    ∙ ap (λ t. t ++ graphemes true following) one
 
 -- a line, and an end that no rule joins to its last character
 last_of : (x : ℕ) (xs : List ℕ) → (front : List ℕ) × (last : ℕ) × (x ∷ xs ≡ front ++ last ∷ [])
@@ -117,26 +117,26 @@ before_end line end u h = from (chars line) refl
         let (front, last, is) = last_of x xs in
         graphemes-apart line end u (record { front = front; last = last; is = e ∙ is; boundary = h front last (e ∙ is) })
 
-ascii_chars : (c : ℕ) (end behind : List ℕ) → IsAscii (c ∷ end) → chars ((c ∷ end) ++ behind) ≡ c ∷ (end ++ chars behind)
-ascii_chars c end behind ascii = chars-append (c ∷ end) behind (IsUtf8-from_ascii (c ∷ end) ascii) ∙ ap (λ t. t ++ chars behind) (chars-IsAscii (c ∷ end) ascii)
+ascii_chars : (c : ℕ) (end following : List ℕ) → IsAscii (c ∷ end) → chars ((c ∷ end) ++ following) ≡ c ∷ (end ++ chars following)
+ascii_chars c end following ascii = chars-append (c ∷ end) following (IsUtf8-from_ascii (c ∷ end) ascii) ∙ ap (λ t. t ++ chars following) (chars-IsAscii (c ∷ end) ascii)
 
 char_return : (line : List ℕ) → IsUtf8 line → EndsInReturn (chars line) → EndsInReturn line
 char_return line u (front, e) =
     let ascii : IsAscii (13 ∷ []) = search (rules, arith) in
     (encode_utf8_all front, sym (encodes-chars line u) ∙ ap encode_utf8_all e ∙ encodes-append front (13 ∷ []) ∙ ap (λ t. encode_utf8_all front ++ t) (encodes-IsAscii (13 ∷ []) ascii))
 
-pub graphemes-feed : (line behind : List ℕ) → IsUtf8 line → (EndsInReturn line → ⊥) → graphemes true (line ++ 10 ∷ behind) ≡ graphemes true line ++ (10 ∷ []) ∷ graphemes true behind
-graphemes-feed line behind u h =
+pub graphemes-feed : (line following : List ℕ) → IsUtf8 line → (EndsInReturn line → ⊥) → graphemes true (line ++ 10 ∷ following) ≡ graphemes true line ++ (10 ∷ []) ∷ graphemes true following
+graphemes-feed line following u h =
     let ascii : IsAscii (10 ∷ []) = search (rules, arith) in
-    before_end line (10 ∷ behind) u
+    before_end line (10 ∷ following) u
     (λ front last is before.
-    ap (is_grapheme_break true (last ∷ before)) (ascii_chars 10 [] behind ascii)
-    ∙ before_feed last before (chars behind) (λ e. h (char_return line u (front, is ∙ ap (λ c. front ++ c ∷ []) e))))
-    ∙ ap (λ t. graphemes true line ++ t) (ended [] behind ascii one_feed)
+    ap (is_grapheme_break true (last ∷ before)) (ascii_chars 10 [] following ascii)
+    ∙ before_feed last before (chars following) (λ e. h (char_return line u (front, is ∙ ap (λ c. front ++ c ∷ []) e))))
+    ∙ ap (λ t. graphemes true line ++ t) (ended [] following ascii one_feed)
 
-pub graphemes-return : (line behind : List ℕ) → IsUtf8 line → graphemes true (line ++ 13 ∷ 10 ∷ behind) ≡ graphemes true line ++ (13 ∷ 10 ∷ []) ∷ graphemes true behind
-graphemes-return line behind u =
+pub graphemes-return : (line following : List ℕ) → IsUtf8 line → graphemes true (line ++ 13 ∷ 10 ∷ following) ≡ graphemes true line ++ (13 ∷ 10 ∷ []) ∷ graphemes true following
+graphemes-return line following u =
     let ascii : IsAscii (13 ∷ 10 ∷ []) = search (rules, arith) in
-    before_end line (13 ∷ 10 ∷ behind) u
-    (λ front last is before. ap (is_grapheme_break true (last ∷ before)) (ascii_chars 13 (10 ∷ []) behind ascii) ∙ before_return last before (10 ∷ chars behind))
-    ∙ ap (λ t. graphemes true line ++ t) (ended (13 ∷ []) behind ascii one_return)
+    before_end line (13 ∷ 10 ∷ following) u
+    (λ front last is before. ap (is_grapheme_break true (last ∷ before)) (ascii_chars 13 (10 ∷ []) following ascii) ∙ before_return last before (10 ∷ chars following))
+    ∙ ap (λ t. graphemes true line ++ t) (ended (13 ∷ []) following ascii one_return)

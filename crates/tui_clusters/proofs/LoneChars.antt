@@ -1,4 +1,4 @@
--- A text of one character: its columns are the character's, and it is a blank only if the character is one.
+-- A text of one character: its width is the character's, and it is a blank only if the character is one.
 use Rattle.std.proofs.Common.{◌≡◌, ◌≢◌, ℕ, ◌+◌, ◌<◌, ◌≤◌, Bool, true, false, nat_eq, nat_lt, min, List, [], ◌∷◌, ◌++◌, length, get_or, Some, None, unwrap_or, zero-add, eqb-true, refl, sym, ap, ap₂, ◌∙◌, arith}
 use Rattle.std.specs.Char.{is_whitespace}
 use Rattle.std.specs.Cmp.Lexicographic.{pointwise}
@@ -7,10 +7,10 @@ use Rattle.std.specs.Str.{chars, IsUtf8}
 use Rattle.std.proofs.lemmas.Bool.{and_parts}
 use Rattle.std.proofs.lemmas.Bool.Decides.{nat_tests}
 use Rattle.std.proofs.lemmas.Str.{chars-nil, chars_past_char}
-use Rattle.tui_clusters.specs.Blank.{is_blank_text, zero_width}
+use Rattle.tui_clusters.specs.Blank.{is_blank_text, zero_width_space}
 use Rattle.unicode_width.specs.Width.{alone, char_width, past_emoji, plain, step, str_width}
 
--- a text that begins with a character and has nothing more
+-- a text that begins with a character and has nothing else
 pub chars-one : (text rest : List ℕ) (c : ℕ) → IsUtf8 text → text ≡ encode_utf8 c ++ rest → length rest ≡ 0 → chars text ≡ c ∷ []
 chars-one text [] c u e none = chars_past_char text [] c u e ∙ ap (λ t. c ∷ t) chars-nil
 chars-one text (b ∷ rest) c u e none = absurd (omega arith)
@@ -45,17 +45,17 @@ same_bytes (x ∷ xs) (y ∷ ys) h =
     let parts = and_parts (nat_eq x y) (pointwise nat_eq xs ys) h in
     ap₂ (λ a b. a ∷ b) (eqb-true x y parts.0) (same_bytes xs ys parts.1)
 
-zero_width_char : chars zero_width ≡ 0x200b ∷ []
+zero_width_char : chars zero_width_space ≡ 0x200b ∷ []
 unfolding chars
 zero_width_char = refl
 
-no_zero_width : (text : List ℕ) (c : ℕ) → chars text ≡ c ∷ [] → c ≢ 0x200b → pointwise nat_eq text zero_width ≡ false
-no_zero_width text c is other = from (pointwise nat_eq text zero_width) (same_bytes text zero_width)
+no_zero_width : (text : List ℕ) (c : ℕ) → chars text ≡ c ∷ [] → c ≢ 0x200b → pointwise nat_eq text zero_width_space ≡ false
+no_zero_width text c is other = from (pointwise nat_eq text zero_width_space) (same_bytes text zero_width_space)
   where
-    from : (b : Bool) → (b ≡ true → text ≡ zero_width) → b ≡ false
+    from : (b : Bool) → (b ≡ true → text ≡ zero_width_space) → b ≡ false
     from false h = refl
     from true h = absurd (other (ap (λ l. get_or l 0 0) (sym is ∙ ap chars (h refl) ∙ zero_width_char)))
 
-pub ink_is_no_blank : (text : List ℕ) (c : ℕ) → chars text ≡ c ∷ [] → is_whitespace c ≡ false → c ≢ 0x200b → is_blank_text text ≡ false
+pub non_blank_text : (text : List ℕ) (c : ℕ) → chars text ≡ c ∷ [] → is_whitespace c ≡ false → c ≢ 0x200b → is_blank_text text ≡ false
 unfolding is_blank_text
-ink_is_no_blank text c is ink other = rw (no_zero_width text c is other, is, ink) refl
+non_blank_text text c is ink other = rw (no_zero_width text c is other, is, ink) refl

@@ -1,4 +1,4 @@
--- No rule on grapheme clusters names a plain character.
+-- No rule for grapheme clusters names a plain character.
 use Rattle.std.proofs.Common.{◌≡◌, ℕ, ◌+◌, ◌<◌, ◌≤◌, Bool, true, false, ◌&&◌, ◌||◌, ◌==◌, nat_le, List, [], ◌∷◌, ◌++◌, length, length-append, map, get_or, append-nil, refl, sym, ap, subst, ◌∙◌, arith}
 use Rattle.std.specs.Prelude.{encode_utf8, encode_utf8_all}
 use Rattle.std.specs.Char.{is_control}
@@ -32,7 +32,7 @@ record IsPlain (c : ℕ) : Type 0 where
   other : grapheme_cluster_break c ≡ Other
   none : indic_conjunct_break c ≡ kinds.None
 
--- what is to be shown of each character, as a test
+-- what must be shown of each character, as a test
 abbrev is_unnamed : GraphemeClusterBreak → IndicConjunctBreak → Bool
 is_unnamed g i = (grapheme_cluster_break_number g == 12) && (indic_conjunct_break_number i == 3)
 
@@ -57,7 +57,7 @@ IsPlain-from c h =
       none = indic_conjunct_break_number_injective _ kinds.None (number_from _ 3 parts.1);
     }
 
--- there is a boundary between two of them
+-- there is a boundary between two plain characters
 pub between : (b : ℕ) (before : List ℕ) (c : ℕ) (after : List ℕ) → is_plain b ≡ true → is_plain c ≡ true → is_grapheme_break true (b ∷ before) (c ∷ after) ≡ true
 unfolding is_grapheme_break ends_in_linker ends_in_half_flag
 between b before c after p q =
@@ -68,7 +68,7 @@ between b before c after p q =
     let f = next.other in
     rw (o, n, f) refl
 
--- the tests of one half of the ranges are those of all: the others fail there
+-- the tests of one half of the ranges decide, since the others fail there
 module _ (c : ℕ) where
   too_low : (low high : ℕ) → c < low → (nat_le low c && nat_le c high) ≡ false
   too_low low high h = grind (arith, nat_tests)
@@ -105,30 +105,30 @@ high_plain c h =
     any_of_five (within c 0x20f1 0x2cee) (within c 0x3001 0x3029) (within c 0x3030 0x3098) (within c 0x309b 0xa66e) (within c 0xff00 0xff9d)
     ∙ sym (rw (too_high c 0x20 0x7e (omega arith), too_high c 0xae 0x2ff (omega arith), too_high c 0x370 0x482 (omega arith), too_high c 0x48a 0x590 (omega arith), too_high c 0x1e00 0x1fff (omega arith), too_high c 0x2010 0x2027 (omega arith)) refl)
 
--- a text that begins with a character of some ranges and has nothing more
+-- a text that begins with a character of some ranges and has nothing else
 pub IsCharIn-from : (ranges : List Range) (text rest : List ℕ) (c : ℕ) → IsUtf8 text → text ≡ encode_utf8 c ++ rest → length rest ≡ 0 → in_ranges ranges c ≡ true → IsCharIn ranges text
 IsCharIn-from ranges text rest c u e none h = record {
   char = c;
-  spelt = spelt rest e none;
+  encoded = encoded rest e none;
   is = chars-one text rest c u e none;
   within = h;
 }
   where
-    spelt : (rest : List ℕ) → text ≡ encode_utf8 c ++ rest → length rest ≡ 0 → text ≡ encode_utf8 c
-    spelt [] e none = e ∙ append-nil (encode_utf8 c)
-    spelt (b ∷ rest) e none = absurd (omega arith)
+    encoded : (rest : List ℕ) → text ≡ encode_utf8 c ++ rest → length rest ≡ 0 → text ≡ encode_utf8 c
+    encoded [] e none = e ∙ append-nil (encode_utf8 c)
+    encoded (b ∷ rest) e none = absurd (omega arith)
 
 pub IsPlainChar-from : (text rest : List ℕ) (c : ℕ) → IsUtf8 text → text ≡ encode_utf8 c ++ rest → length rest ≡ 0 → is_plain c ≡ true → IsPlainChar text
 unfolding is_plain
 IsPlainChar-from text rest c u e none h = IsCharIn-from plain_ranges text rest c u e none h
 
--- where a text of one character is parted behind its first one, nothing is left, and that one is plain
+-- if a text of one plain character is split after its first character, nothing is left, and that character is plain
 pub lone_char_is : (text rest : List ℕ) (c : ℕ) → IsUtf8 text → text ≡ encode_utf8 c ++ rest → IsPlainChar text → (length rest ≡ 0) × (is_plain c ≡ true)
 unfolding is_plain
 lone_char_is text rest c u e p =
     let same : c ≡ p.char = ap (λ l. get_or l 0 0) (sym (chars_past_char text rest c u e) ∙ p.is) in
     let size : length (encode_utf8 c) + length rest ≡ length (encode_utf8 c) =
-    sym (length-append (encode_utf8 c) rest) ∙ (ap length (sym e ∙ p.spelt) ∙ ap (λ d. length (encode_utf8 d)) (sym same)) in
+    sym (length-append (encode_utf8 c) rest) ∙ (ap length (sym e ∙ p.encoded) ∙ ap (λ d. length (encode_utf8 d)) (sym same)) in
     (omega arith, subst (λ d. in_ranges plain_ranges d ≡ true) (sym same) p.within)
 
 pub no_char_in_nothing : (text : List ℕ) → text ≡ [] → IsPlainChar text → ⊥
@@ -137,7 +137,7 @@ no_char_in_nothing text none p = nothing p.char (sym chars-nil ∙ (ap chars (sy
     nothing : (c : ℕ) → [] ≡ c ∷ [] → ⊥
     nothing c e = cc
 
--- a plain character is no control character
+-- a plain character is not a control character
 no_control : (c : ℕ) → in_ranges plain_ranges c ≡ true → list_any is_control (c ∷ []) ≡ false
 unfolding in_ranges
 no_control c h = grind (arith, nat_tests)
@@ -146,9 +146,9 @@ pub plain_shown : (text : List ℕ) → IsPlainChar text → has_control text �
 unfolding has_control
 plain_shown text p = let is = p.is in rw is (no_control p.char p.within)
 
--- and one cluster
+-- and it is one cluster
 pub graphemes-plain : (text : List ℕ) → IsPlainChar text → graphemes true text ≡ text ∷ []
 unfolding segments cut is_grapheme_break
 graphemes-plain text p =
     ap (λ cs. map encode_utf8_all (cut (is_grapheme_break true) [] cs [])) p.is
-    ∙ ap (λ t. t ∷ []) (append-nil (encode_utf8 p.char) ∙ sym p.spelt)
+    ∙ ap (λ t. t ∷ []) (append-nil (encode_utf8 p.char) ∙ sym p.encoded)

@@ -1,4 +1,4 @@
--- The columns of runs of printable bytes: one each.
+-- The widths of runs of printable bytes: one column each.
 use Rattle.std.proofs.Common.{◌≡◌, ℕ, false, ◌+◌, ◌-◌, ◌^◌, ◌<◌, Bool, true, min, nat_lt, List, [], ◌∷◌, ◌++◌, map, length, sum_by, zero-add, sym, ap, ◌∙◌, arith}
 use Rattle.std.specs.List.{list_all}
 use Rattle.std.proofs.lemmas.Bool.{and_parts}
@@ -19,7 +19,7 @@ before cjk (b ∷ bs) cs e =
     let all = sum_by-cons (columns_of cjk) (b ∷ []) (map one_byte bs ++ cs) in
     omega (arith, all, one, rest)
 
--- bytes, and the clusters behind them
+-- printable bytes, and the clusters after them
 pub run_columns : (cjk : Bool) (run : List ℕ) (cs all : List (List ℕ)) → all ≡ map one_byte run ++ cs → list_all is_printable run ≡ true →
     sum_by (columns_of cjk) all ≡ length run + sum_by (columns_of cjk) cs
 run_columns cjk run cs all e printable = ap (sum_by (columns_of cjk)) e ∙ before cjk run cs printable
@@ -30,7 +30,7 @@ run_width cjk run cs all e printable =
     let is = run_columns cjk run cs all e printable in
     omega (arith, is)
 
--- where there is a byte there is a column
+-- if there is a byte, there is a column
 pub some_column : (cjk : Bool) (run : List ℕ) (cs all : List (List ℕ)) → all ≡ map one_byte run ++ cs → list_all is_printable run ≡ true → 0 < length run →
     true ≡ nat_lt 0 (sum_by (columns_of cjk) all)
 some_column cjk run cs all e printable some = above (sum_by (columns_of cjk) all) (let is = run_columns cjk run cs all e printable in omega (arith, is, some))
@@ -38,7 +38,7 @@ some_column cjk run cs all e printable some = above (sum_by (columns_of cjk) all
     above : (n : ℕ) → 0 < n → true ≡ nat_lt 0 n
     above n lt = grind (arith, nat_tests)
 
--- one cluster alone
+-- a single cluster
 pub lone_column : (text : List ℕ) (cs : List (List ℕ)) → cs ≡ text ∷ [] → nat_lt 0 (width_of text) ≡ nat_lt 0 (sum_by (columns_of false) cs)
 unfolding width_of
 lone_column text cs e = rw e (ap (nat_lt 0) (sym (zero-add (columns_of false text))))

@@ -10,14 +10,14 @@ use Rattle.tui_clusters.specs.Printable.{is_printable}
 use Rattle.tui_clusters.specs.Shown.{clusters, one_byte}
 use Rattle.tui_clusters.proofs.EmptyText.{clusters-nil, clusters-none}
 use Rattle.tui_clusters.proofs.FirstPlain.{quick_alone, quick_before}
-use Rattle.tui_clusters.proofs.Leads.{printable_lead}
+use Rattle.tui_clusters.proofs.LeadBytes.{printable_lead}
 use Rattle.tui_clusters.proofs.OneByte.{printable_ascii}
 use Rattle.tui_clusters.proofs.Seams.{shown-next}
 
 printable_plain : (b : ℕ) → is_printable b ≡ true → 1 ≡ plain_len b
 printable_plain b e = sym (printable_lead b e)
 
--- the run that ends before a printable byte behind which nothing is known
+-- the run that ends before a printable byte after which nothing is known
 printable_before : (n : ℕ) (text : List ℕ) → list_all is_printable (take (suc n) text) ≡ true → n < length text →
     (list_all is_printable (take n text) ≡ true) × (is_printable (slice_index text n) ≡ true)
 printable_before n [] e lt = absurd (omega (arith, lt))
@@ -35,7 +35,7 @@ shorter_run text bytes (suc end) n e all lt is =
     let size = ap length e in
     let before : n ≡ end = omega (arith, is) in
     let last = printable_before end text (ap (λ t. list_all is_printable (take (suc end) t)) (sym e) ∙ all) (omega arith) in
-    let told = printable_plain (slice_index text end) last.1 in
+    let known = printable_plain (slice_index text end) last.1 in
     subst (λ k. IsPlainRun text k) (sym before) (record { within = omega arith; printable = last.0; apart = λ some less. omega arith })
 
 -- a printable byte before a plain character, or at the end
@@ -44,7 +44,7 @@ first_of_run b [] u e apart = quick_alone (b ∷ []) (b ∷ []) 1 u (omega arith
 first_of_run b (c ∷ cs) u e apart =
     quick_before (b ∷ c ∷ cs) (b ∷ c ∷ cs) 1 u (omega arith) refl (printable_plain b e) (omega arith) (plain_len c) (omega arith) refl (apart (omega arith))
 
--- the byte behind the first one of a run
+-- the byte after the first one of a run
 next_apart : (n b : ℕ) (bs : List ℕ) → IsPlainRun (b ∷ bs) (suc n) → 0 < length bs → 0 < plain_len (slice_index bs 0)
 next_apart zero b bs r some = r.apart (omega arith) (omega arith)
 next_apart (suc n) b [] r some = absurd (omega arith)
@@ -71,7 +71,7 @@ run_clusters (suc n) (b ∷ bs) u r =
 pub run_boundary : (text : List ℕ) (n : ℕ) → IsUtf8 text → IsPlainRun text n → IsCharBoundary text n
 run_boundary text n u r = IsCharBoundary-from_take text n u r.within (IsUtf8-from_ascii (take n text) (printable_ascii (take n text) r.printable))
 
--- a text of printable bytes alone
+-- a text of only printable bytes
 pub printable_clusters : (text : List ℕ) → list_all is_printable text ≡ true → clusters text ≡ map one_byte text
 printable_clusters text e =
     let n = length text in
@@ -81,9 +81,9 @@ printable_clusters text e =
     ∙ (ap₂ (λ run rest. map one_byte run ++ clusters rest) all (drop_all n text (omega arith))
     ∙ (ap (λ cs. map one_byte text ++ cs) clusters-nil ∙ append-nil (map one_byte text)))
 
-pub fewer_behind : (run : List ℕ) (cs all : List (List ℕ)) → all ≡ map one_byte run ++ cs → length cs ≤ length all
-fewer_behind run cs all e = omega (arith, ap length e, length-append (map one_byte run) cs)
+pub fewer_after : (run : List ℕ) (cs all : List (List ℕ)) → all ≡ map one_byte run ++ cs → length cs ≤ length all
+fewer_after run cs all e = omega (arith, ap length e, length-append (map one_byte run) cs)
 
--- a run with no text behind it
+-- a run with no text after it
 pub run_alone : (run rest : List ℕ) (all : List (List ℕ)) → all ≡ map one_byte run ++ clusters rest → length rest ≡ 0 → all ≡ map one_byte run ++ []
 run_alone run rest all e none = e ∙ ap (λ cs. map one_byte run ++ cs) (clusters-none rest none)

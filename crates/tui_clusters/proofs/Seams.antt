@@ -1,4 +1,4 @@
--- A text is cut between two plain characters, and its clusters are those of the parts.
+-- If a text is cut between two plain characters, its clusters are those of the parts.
 use Rattle.std.proofs.Common.{◌≡◌, ℕ, suc, ◌+◌, ◌-◌, ◌<◌, ◌≤◌, true, List, [], ◌∷◌, ◌++◌, filter, length, take, drop, get_or, take-append-drop, append-nil, not, inl, inr, false, sym, ap, ap₂, ◌∙◌, arith, rules}
 use Rattle.std.specs.Str.{chars, IsAscii, IsUtf8}
 use Rattle.std.proofs.lemmas.Bool.{cases_lt, cond-true}
@@ -11,23 +11,23 @@ use Rattle.tui_clusters.specs.Printable.{is_printable}
 use Rattle.tui_clusters.specs.Shown.{has_control, is_shown}
 use Rattle.tui_clusters.proofs.Boundaries.{graphemes-apart}
 use Rattle.tui_clusters.proofs.EmptyText.{graphemes-nil}
-use Rattle.tui_clusters.proofs.Leads.{in_one}
+use Rattle.tui_clusters.proofs.LeadBytes.{in_one}
 use Rattle.tui_clusters.proofs.OneByte.{printable_range}
 use Rattle.tui_clusters.proofs.PlainChars.{between, graphemes-plain, plain_shown}
 
 pub graphemes-seam : (text : List ℕ) (i : ℕ) → IsUtf8 text → IsSeam text i → graphemes true text ≡ graphemes true (take i text) ++ graphemes true (drop i text)
 graphemes-seam text i u s =
     let front = IsUtf8-take text i u s.boundary in
-    let behind : chars (drop i text) ≡ s.next ∷ chars s.back = chars_past_char (drop i text) s.back s.next (IsUtf8-drop text i u s.boundary) s.after in
+    let following : chars (drop i text) ≡ s.next ∷ chars s.back = chars_past_char (drop i text) s.back s.next (IsUtf8-drop text i u s.boundary) s.after in
     ap (graphemes true) (sym (take-append-drop i text))
     ∙ graphemes-apart (take i text) (drop i text) front (record {
       front = s.front;
       last = s.last;
       is = sym (chars_from_encodes (s.front ++ s.last ∷ []) (take i text) front (sym s.before));
-      boundary = λ before. ap (is_grapheme_break true (s.last ∷ before)) behind ∙ between s.last before s.next (chars s.back) s.last_plain s.next_plain;
+      boundary = λ before. ap (is_grapheme_break true (s.last ∷ before)) following ∙ between s.last before s.next (chars s.back) s.last_plain s.next_plain;
     })
 
--- the same where the part may end with the text
+-- the same if the part may end with the text
 pub graphemes-part : (text : List ℕ) (i : ℕ) → IsUtf8 text → i ≤ length text → (i < length text → IsSeam text i) →
     graphemes true text ≡ graphemes true (take i text) ++ graphemes true (drop i text)
 graphemes-part text i u within s =
@@ -38,7 +38,7 @@ graphemes-part text i u within s =
           sym (ap₂ (λ a b. graphemes true a ++ b) (take_all i text all) none ∙ append-nil (graphemes true text))
     ]
 
--- between two printable characters of one byte
+-- between two printable ASCII characters
 pub printable_seam : (text : List ℕ) (i : ℕ) → IsUtf8 text → 0 < i → i < length text → is_printable (get_or text (i - 1) 0) ≡ true → is_printable (get_or text i 0) ≡ true → IsSeam text i
 printable_seam text i u some within before after =
     let b = get_or text (i - 1) 0 in
@@ -66,21 +66,21 @@ printable_seam text i u some within before after =
     one_ascii : (b : ℕ) → b < 128 → IsAscii (b ∷ [])
     one_ascii b low = search (rules, arith)
 
--- what a list of clusters shows where it has none before a text, and the text has nothing
+-- the shown clusters if none come before a text and the text is empty
 pub shown-end : (none : List (List ℕ)) (text : List ℕ) → none ≡ [] → length text ≡ 0 → filter is_shown (none ++ graphemes true text) ≡ []
 shown-end none [] e l = ap (λ cs. filter is_shown (cs ++ graphemes true [])) e ∙ ap (filter is_shown) graphemes-nil
 shown-end none (b ∷ text) e l = absurd (omega (arith, e))
 
--- and where it begins with a cluster that is shown
+-- the shown clusters if the text begins with a cluster that is shown
 pub shown-next : (none left : List (List ℕ)) (text cluster rest : List ℕ) → none ≡ [] → left ≡ [] → graphemes true text ≡ cluster ∷ graphemes true rest → has_control cluster ≡ false
     → filter is_shown (none ++ graphemes true text) ≡ cluster ∷ filter is_shown (left ++ graphemes true rest)
 shown-next none left text cluster rest e f first shown =
-    let behind = filter is_shown (graphemes true rest) in
+    let following = filter is_shown (graphemes true rest) in
     ap (λ cs. filter is_shown (cs ++ graphemes true text)) e
     ∙ (ap (filter is_shown) first
-    ∙ (cond-true (is_shown cluster) (cluster ∷ behind) behind (ap not shown) ∙ ap (λ cs. cluster ∷ filter is_shown (cs ++ graphemes true rest)) (sym f)))
+    ∙ (cond-true (is_shown cluster) (cluster ∷ following) following (ap not shown) ∙ ap (λ cs. cluster ∷ filter is_shown (cs ++ graphemes true rest)) (sym f)))
 
--- a plain character, and the text behind it
+-- a plain character, and the text after it
 pub shown-plain : (none left : List (List ℕ)) (text part rest : List ℕ) → none ≡ [] → left ≡ [] → graphemes true text ≡ graphemes true part ++ graphemes true rest → IsPlainChar part
     → filter is_shown (none ++ graphemes true text) ≡ part ∷ filter is_shown (left ++ graphemes true rest)
 shown-plain none left text part rest e f parts p =

@@ -1,4 +1,4 @@
--- What holds of each character of some ranges, by a computation over the steps of the tables.
+-- What holds of each character of some ranges, computed over the steps of the tables.
 use Rattle.std.proofs.Common.{◌≡◌, ℕ, Bool, true, false, not, ◌&&◌, ◌||◌, List}
 use Rattle.ucd_table.specs.Rows.{Range, in_ranges}
 use Rattle.ucd_table.proofs.StepsLemmas.{range_rows, rises_from}

@@ -6,10 +6,10 @@ use Rattle.tui_clusters.specs.declared.clusters.Clusters.{Clusters}
 use Rattle.unicode_segmentation.specs.Grapheme.{graphemes}
 use Rattle.unicode_segmentation.specs.Iter.{graphemes_left}
 
--- of the part under way
+-- those of the current part
 abbrev pub part_left : Clusters → List (List ℕ)
 part_left s = option_map_or graphemes_left s.inner []
 
--- and of the text behind it as well
+-- those of the current part and of the text after it
 abbrev pub clusters_left : Clusters → List (List ℕ)
 clusters_left s = filter is_shown (part_left s ++ graphemes true s.rest.now)

@@ -1,4 +1,4 @@
--- Characters that no rule on grapheme clusters joins with one another.
+-- Characters that no rule for grapheme clusters joins with one another.
 use Rattle.std.specs.Prelude.{
   ◌≡◌,
   ℕ,
@@ -31,8 +31,8 @@ use Rattle.tui_clusters.specs.Shown.{has_control}
 use Rattle.ucd_table.specs.Rows.{Range, in_ranges}
 use Rattle.unicode_segmentation.specs.Grapheme.{graphemes}
 
--- ranges without controls, marks, jamo, prepended characters, flags, and consonants and linkers of conjuncts, and with no white
--- space but U+0020: most of Latin, Greek, Cyrillic and CJK, their punctuation, and symbols
+-- ranges without controls, marks, jamo, prepended characters, flags, and consonants and linkers of conjuncts, and with
+-- no white space but U+0020: most of Latin, Greek, Cyrillic and CJK, their punctuation, and symbols
 abbrev pub plain_ranges : List Range
 plain_ranges =
     (0x0020, 0x007E)
@@ -54,7 +54,7 @@ is_plain c = in_ranges plain_ranges c
 -- the text is one character of these ranges
 pub record IsCharIn (ranges : List Range) (text : List ℕ) : Type 0 where
   pub char : ℕ
-  pub spelt : text ≡ encode_utf8 char
+  pub encoded : text ≡ encode_utf8 char
   pub is : chars text ≡ char ∷ []
   pub within : in_ranges ranges char ≡ true
 
@@ -62,10 +62,10 @@ pub record IsCharIn (ranges : List Range) (text : List ℕ) : Type 0 where
 abbrev pub IsPlainChar : List ℕ → Type 0
 IsPlainChar text = IsCharIn plain_ranges text
 
--- the plain characters of n bytes that their first byte tells: U+0020 to U+007E, letters and signs of U+00C0 to U+02FF and U+0380 to
--- U+047F, and ideographs, U+4000 to U+9FFF
-abbrev pub told_ranges : ℕ → List Range
-told_ranges n =
+-- the plain characters of n bytes that their first byte identifies: U+0020 to U+007E, letters and signs of U+00C0 to
+-- U+02FF and U+0380 to U+047F, and ideographs, U+4000 to U+9FFF
+abbrev pub known_ranges : ℕ → List Range
+known_ranges n =
     if n == 1 then (0x0020, 0x007E) ∷ []
     else if n == 2 then (0x00C0, 0x02FF) ∷ (0x0380, 0x047F) ∷ []
     else if n == 3 then (0x4000, 0x9FFF) ∷ []
@@ -73,25 +73,25 @@ told_ranges n =
 
 -- one letter or sign of two bytes
 abbrev pub IsLetter : List ℕ → Type 0
-IsLetter text = IsCharIn (told_ranges 2) text
+IsLetter text = IsCharIn (known_ranges 2) text
 
 -- one ideograph
 abbrev pub IsIdeograph : List ℕ → Type 0
-IsIdeograph text = IsCharIn (told_ranges 3) text
+IsIdeograph text = IsCharIn (known_ranges 3) text
 
--- signs of lines, blocks or shapes
+-- signs for lines, blocks or shapes
 abbrev pub sign_ranges : List Range
 sign_ranges = (0x2500, 0x25BF) ∷ []
 
--- one of these
+-- one of these signs
 abbrev pub IsSign : List ℕ → Type 0
 IsSign text = IsCharIn sign_ranges text
 
--- whether two bytes tell that they begin one
+-- whether two bytes begin such a sign
 abbrev pub is_sign_start : ℕ → ℕ → Bool
 is_sign_start first second = (first == 0xE2) && (nat_le 0x94 second && nat_le second 0x96)
 
--- of a character's first byte: how many bytes the character has, where that byte tells a plain one, and else 0
+-- for the first byte of a character: the length of the character in bytes if that byte identifies a plain one, else 0
 unfoldable pub plain_len : ℕ → ℕ
 plain_len b =
     if nat_le 0x20 b && nat_le b 0x7E then 1
@@ -99,7 +99,7 @@ plain_len b =
     else if (nat_le 0xC3 b && nat_le b 0xCB) || (nat_le 0xCE b && nat_le b 0xD1) then 2
     else 0
 
--- a plain character stands on either side of the place
+-- the characters before and after the index are plain
 pub record IsSeam (text : List ℕ) (place : ℕ) : Type 0 where
   pub boundary : IsCharBoundary text place
   pub front : List ℕ
@@ -111,12 +111,12 @@ pub record IsSeam (text : List ℕ) (place : ℕ) : Type 0 where
   pub last_plain : is_plain last ≡ true
   pub next_plain : is_plain next ≡ true
 
--- the text begins with a printable byte, and then ends, or goes on with another one
+-- the text begins with a printable byte and then ends, or continues with another one
 abbrev pub BeginsPrintable : List ℕ → Type 0
 BeginsPrintable text = (is_printable (slice_index text 0) ≡ true) × (1 < length text → is_printable (slice_index text 1) ≡ true)
 
--- the text begins with n printable bytes, each of which is a cluster by itself: past the last one the text ends, or a byte tells
--- that a plain character begins
+-- the text begins with n printable bytes, each of which is a cluster by itself: after the last one the text ends, or a
+-- byte identifies a plain character
 pub record IsPlainRun (text : List ℕ) (n : ℕ) : Type 0 where
   pub within : n ≤ length text
   pub printable : list_all is_printable (take n text) ≡ true

@@ -1,4 +1,4 @@
--- Printable characters of one byte.
+-- Printable ASCII characters.
 use Rattle.std.specs.Prelude.{ℕ, Bool, ◌&&◌, nat_le}
 
 -- U+0020 to U+007E

@@ -10,7 +10,7 @@ ghost use Rattle.unicode_segmentation.specs.Grapheme.{graphemes};
 
 use crate::blank::has_control;
 use crate::plain::{
-    is_plain, is_plain_char, is_printable_first, is_sign_first, run_len, split_first, told_len,
+    is_plain, is_plain_char, is_printable_first, is_sign_first, known_len, run_len, split_first,
 };
 use crate::printable::starts_printable;
 use unicode_segmentation::{Graphemes, UnicodeSegmentation};
@@ -19,9 +19,9 @@ use unicode_segmentation::{Graphemes, UnicodeSegmentation};
 /// plain characters there is always a boundary, so a text of such characters needs no tables.
 #[derive(Drop)]
 pub struct Clusters<'a> {
-    /// The clusters of the part under way, if there is one.
+    /// The clusters of the current part, if there is one.
     inner: Option<Graphemes<'a>>,
-    /// The text behind that part.
+    /// The text after that part.
     rest: &'a str,
 }
 
@@ -43,7 +43,8 @@ impl<'a> Clusters<'a> {
         }
     }
 
-    /// The printable bytes that come next, `room` at most, each of them a cluster. None of them while a part is under way.
+    /// Returns the printable bytes that come next, at most `room`. Each of them is a cluster. Returns none while the
+    /// current part has clusters left.
     #[inline]
     pub fn next_run(&mut self, room: usize) -> &'a [u8]
         ensures clusters { clusters_left self.old ≡ map one_byte result.now ++ clusters_left self.new }
@@ -58,7 +59,7 @@ impl<'a> Clusters<'a> {
         run
     }
 
-    /// Whether clusters of the part under way are left. Never inlined, as few texts have such parts.
+    /// Whether the current part has clusters left. Never inlined, since few texts have such parts.
     #[inline(never)]
     fn is_in_part(&self) -> bool
         ensures { result ≡ false → part_left self.now ≡ [] }
@@ -72,7 +73,7 @@ impl<'a> Clusters<'a> {
         }
     }
 
-    /// The next cluster of the part under way, which is let go where it has none.
+    /// Returns the next cluster of the current part, and drops the part if it has none.
     #[inline(always)]
     fn next_in_part(&mut self) -> Option<&'a str>
         ensures found { YieldsFirstBy (λ piece. piece.now) part_left self.old result self.new }
@@ -88,19 +89,19 @@ impl<'a> Clusters<'a> {
         found
     }
 
-    /// Takes the cluster at the front of the text behind, where no part is under way.
+    /// Takes the first cluster of the text after the current part, if that part has no clusters left.
     #[inline(always)]
     fn take_first(&mut self, len: usize) -> &'a str
         requires apart { part_left self.old ≡ [] }
         requires first { IsPlainFirst self.old.rest.now len }
         ensures { clusters_left self.old ≡ result.now ∷ clusters_left self.new }
     {
-        let (cluster, behind) = self.rest.split_at(len);
-        self.rest = behind;
+        let (cluster, following) = self.rest.split_at(len);
+        self.rest = following;
         cluster
     }
 
-    /// The next cluster, whatever it is.
+    /// Returns the next cluster, whatever it is.
     #[inline(always)]
     fn next_any(&mut self) -> Option<&'a str>
         ensures { YieldsFirstBy (λ piece. piece.now) clusters_left self.old result self.new }
@@ -113,7 +114,7 @@ impl<'a> Clusters<'a> {
             } else if self.rest.is_empty() {
                 return None;
             } else {
-                // Behind a part that has ended most texts go on with printable bytes.
+                // After a part has ended, most texts continue with printable bytes.
                 if is_printable_first(self.rest) {
                     return Some(self.take_first(1));
                 }
@@ -143,16 +144,17 @@ impl<'a> Iterator for Clusters<'a> {
             if is_printable_first(self.rest) {
                 return Some(self.take_first(1));
             }
-            let told = told_len(self.rest);
-            if told > 0 {
-                return Some(self.take_first(told));
+            let known = known_len(self.rest);
+            if known > 0 {
+                return Some(self.take_first(known));
             }
         }
         self.next_any()
     }
 }
 
-/// The printable bytes that a text begins with, `room` at most, each of them a cluster, and the text behind them.
+/// Splits a text into the printable bytes that it begins with, at most `room`, and the rest. Each of these bytes is a
+/// cluster.
 #[inline]
 pub fn split_run(text: &str, room: usize) -> (&[u8], &str)
     ensures clusters { clusters text.now ≡ map one_byte result.0.now ++ clusters result.1.now }
@@ -163,7 +165,7 @@ pub fn split_run(text: &str, room: usize) -> (&[u8], &str)
     (run.as_bytes(), rest)
 }
 
-/// A text's first part, whose clusters are not joined with those of what is left.
+/// Splits off a text's first part, whose clusters are not joined with those of the rest.
 #[inline]
 fn first_part(text: &str) -> (&str, &str)
     requires { 0 < length text.now }
@@ -174,8 +176,8 @@ fn first_part(text: &str) -> (&str, &str)
     text.split_at(part_len(text))
 }
 
-/// Where the text's first part ends: between two plain characters, or else with the text. Never inlined, so that what first bytes
-/// tell costs no call.
+/// Returns where the text's first part ends: between two plain characters, or else at the end of the text. Never
+/// inlined, so that characters that their first bytes identify cost no call.
 #[inline(never)]
 fn part_len(text: &str) -> usize
     requires { 0 < length text.now }
@@ -188,13 +190,13 @@ fn part_len(text: &str) -> usize
     }
     let mut rest = text;
     let mut plain = false;
-    'chars: while let Some((c, behind)) = split_first(rest) {
+    'chars: while let Some((c, following)) = split_first(rest) {
         let is_next = is_plain(c);
         if plain && is_next {
             return text.len() - rest.len();
         }
         plain = is_next;
-        rest = behind;
+        rest = following;
     }
     text.len()
 }

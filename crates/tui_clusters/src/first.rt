@@ -7,8 +7,8 @@ ghost use Rattle.unicode_segmentation.specs.Grapheme.{graphemes};
 use crate::plain::is_printable_first;
 use unicode_segmentation::UnicodeSegmentation;
 
-/// The first cluster of a text and the text behind it, None where there is none. Between two printable characters of one byte
-/// there is always a boundary, so such a character needs no tables.
+/// Splits a text into its first cluster and the rest. Returns `None` if the text is empty. Between two printable ASCII
+/// characters there is always a boundary, so such a character needs no tables.
 #[inline]
 pub fn first_cluster(text: &str) -> Option<(&str, &str)>
     ensures none { result ≡ None → (graphemes true text.now ≡ []) × (text.now ≡ []) }

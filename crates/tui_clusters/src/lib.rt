@@ -1,4 +1,4 @@
-//! What is known of texts: their grapheme clusters, the columns that these take, and which of them are blanks.
+//! Grapheme clusters of texts, their widths in columns, and which of them are blanks.
 #![tactic(auto)]
 
 pub mod blank;
@@ -12,7 +12,7 @@ pub mod width;
 pub use blank::{has_control, is_blank};
 pub use clusters::{Clusters, split_run};
 pub use first::first_cluster;
-pub use laws::clusters_go_on;
+pub use laws::cluster_suffix_law;
 pub use plain::{is_letter, is_plain_char, is_printable_first};
 pub use printable::{is_printable, printable_byte};
 pub use width::{cell_width, has_column, text_width};

@@ -1,4 +1,4 @@
-//! Plain characters: no rule on grapheme clusters joins one with another.
+//! Plain characters: no rule for grapheme clusters joins one with another.
 
 ghost use Rattle.std.specs.Prelude.{◌≡◌, ◌<◌, ◌≤◌, ◌↔◌, ◌&&◌, nat_le, [], ◌∷◌, ◌++◌, chars, length, encode_utf8, None, IfSome, IsTrue};
 ghost use Rattle.std.specs.Str.{IsUtf8};
@@ -18,7 +18,7 @@ ghost use Rattle.tui_clusters.specs.Plain.{
 
 use crate::printable::{is_printable, printable_len};
 
-/// Whether the character is a plain one.
+/// Whether the character is plain.
 #[inline]
 pub(crate) fn is_plain(c: char) -> bool
     ensures { result ≡ is_plain c }
@@ -63,7 +63,8 @@ fn is_within(code: u32, low: u32, high: u32) -> bool
     low <= code && code <= high
 }
 
-/// How many bytes a plain character has that begins with this byte, as far as the byte alone tells one, and else 0.
+/// Returns the length in bytes of the plain character that begins with this byte, or 0 if the byte alone doesn't
+/// identify one.
 #[inline]
 #[tactic(auto, unfolding(crate::specs::Plain::plain_len))]
 fn plain_len(byte: u8) -> usize
@@ -81,7 +82,7 @@ fn plain_len(byte: u8) -> usize
     }
 }
 
-/// Whether a text begins with a printable character of one byte and then ends, or goes on with another one.
+/// Whether a text begins with a printable ASCII character and then ends, or continues with another one.
 #[inline(always)]
 pub fn is_printable_first(text: &str) -> bool
     requires { 0 < length text.now }
@@ -91,7 +92,7 @@ pub fn is_printable_first(text: &str) -> bool
     begins_printable(text.as_bytes())
 }
 
-/// The same of bytes.
+/// The same for bytes.
 #[inline(always)]
 fn begins_printable(bytes: &[u8]) -> bool
     requires { 0 < length bytes.now }
@@ -100,10 +101,11 @@ fn begins_printable(bytes: &[u8]) -> bool
     is_printable(bytes[0]) && (bytes.len() == 1 || is_printable(bytes[1]))
 }
 
-/// The length of the plain character at a text's start, where first bytes alone tell it and one behind it, if there is one. Else 0.
-/// Never inlined, so that printable bytes, which are told before, cost no call.
+/// Returns the length in bytes of the plain character at the start of a text, if its first byte identifies it and the
+/// text then ends or another byte identifies a plain character. Otherwise returns 0. Never inlined, so that printable
+/// bytes, which are handled earlier, cost no call.
 #[inline(never)]
-pub(crate) fn told_len(text: &str) -> usize
+pub(crate) fn known_len(text: &str) -> usize
     requires { 0 < length text.now }
     ensures { 0 < result → IsPlainFirst text.now result }
 {
@@ -115,7 +117,7 @@ pub(crate) fn told_len(text: &str) -> usize
     if plain_len(bytes[len]) > 0 { len } else { 0 }
 }
 
-/// How many printable bytes a text begins with, `room` at most, each of them a cluster by itself.
+/// Returns how many printable bytes a text begins with, at most `room`, each of them a cluster by itself.
 #[inline]
 pub(crate) fn run_len(text: &str, room: usize) -> usize
     ensures run { IsPlainRun text.now result }
@@ -130,7 +132,7 @@ pub(crate) fn run_len(text: &str, room: usize) -> usize
     }
 }
 
-/// Whether two bytes begin a sign of lines, blocks or shapes.
+/// Whether two bytes begin a sign for lines, blocks or shapes, U+2500 to U+25BF.
 #[inline]
 fn is_sign_start(first: u8, second: u8) -> bool
     ensures { result ≡ is_sign_start first second }
@@ -138,7 +140,7 @@ fn is_sign_start(first: u8, second: u8) -> bool
     first == 0xe2 && is_within(second as u32, 0x94, 0x96)
 }
 
-/// Whether the text begins with such a sign, and then ends, or a byte tells that another plain character follows.
+/// Whether the text begins with such a sign and then ends, or a byte identifies another plain character after it.
 #[inline]
 pub(crate) fn is_sign_first(text: &str) -> bool
     ensures within { IsTrue result → 3 ≤ length text.now }
@@ -157,7 +159,7 @@ pub(crate) fn is_sign_first(text: &str) -> bool
     plain_len(bytes[3]) > 0
 }
 
-/// A text's first character, and the text behind it.
+/// Splits a text into its first character and the rest.
 #[inline]
 pub(crate) fn split_first(text: &str) -> Option<(char, &str)>
     ensures none { result ≡ None → text.now ≡ [] }
@@ -172,7 +174,8 @@ pub(crate) fn split_first(text: &str) -> Option<(char, &str)>
     }
 }
 
-/// Whether the text is one plain character. Never inlined, so that printable bytes, which are told before, cost no call.
+/// Whether the text is one plain character. Never inlined, so that printable bytes, which are handled earlier, cost no
+/// call.
 #[inline(never)]
 pub fn is_plain_char(text: &str) -> bool
     ensures { IsTrue result ↔ IsPlainChar text.now }
@@ -186,7 +189,7 @@ pub fn is_plain_char(text: &str) -> bool
     }
 }
 
-/// The character of a text that is a single one above U+00A0.
+/// Returns the character of a text that is a single character above U+00A0.
 #[inline]
 pub(crate) fn high_char(text: &str) -> Option<char>
     ensures { IfSome result (λ c. (chars text.now ≡ c ∷ []) × (0xA0 < c)) }
@@ -197,7 +200,7 @@ pub(crate) fn high_char(text: &str) -> Option<char>
     }
 }
 
-/// Whether the text is one ideograph, which its length and its first byte tell.
+/// Whether the text is one ideograph, identified by its length and its first byte.
 #[inline(always)]
 pub(crate) fn is_ideograph(text: &str) -> bool
     ensures { IsTrue result → IsIdeograph text.now }
@@ -209,7 +212,7 @@ pub(crate) fn is_ideograph(text: &str) -> bool
     is_within(bytes[0] as u32, 0xe4, 0xe9)
 }
 
-/// Whether the text is one letter or sign of two bytes that the first of them tells.
+/// Whether the text is one letter or sign of two bytes that its first byte identifies.
 #[inline(always)]
 pub fn is_letter(text: &str) -> bool
     ensures { IsTrue result ↔ IsLetter text.now }
@@ -222,7 +225,7 @@ pub fn is_letter(text: &str) -> bool
     is_within(first, 0xc3, 0xcb) | is_within(first, 0xce, 0xd1)
 }
 
-/// Whether the text is one sign of lines, blocks or shapes, which its first two bytes tell.
+/// Whether the text is one sign for lines, blocks or shapes, identified by its first two bytes.
 #[inline]
 pub(crate) fn is_sign(text: &str) -> bool
     ensures { IsTrue result → IsSign text.now }

@@ -1,4 +1,4 @@
-//! Printable characters of one byte, which need no tables.
+//! Printable ASCII characters, which need no tables.
 
 ghost use Rattle.std.specs.Prelude.{◌≡◌, ◌≤◌, ◌&&◌, [], ◌∷◌, ℕ, IfSome, None, false, length, nat_lt, slice_index, take, true};
 ghost use Rattle.std.specs.List.{list_all};
@@ -21,7 +21,7 @@ pub(crate) fn starts_printable(text: &str) -> bool
     !bytes.is_empty() && is_printable(bytes[0])
 }
 
-/// How many such characters bytes begin with, counted up to `most`.
+/// Returns how many of them the bytes begin with, counted up to `most`.
 #[inline]
 pub(crate) fn printable_len(bytes: &[u8], most: usize) -> usize
     ensures within { (result ≤ length bytes.now) × (result ≤ most) }
@@ -36,7 +36,8 @@ pub(crate) fn printable_len(bytes: &[u8], most: usize) -> usize
     end
 }
 
-/// The byte of a text that is a single character from U+0020 to U+007E, which has one column; None for any other text.
+/// Returns the byte of a text that is a single character from U+0020 to U+007E, which is one column wide. Returns
+/// `None` for any other text.
 #[inline]
 pub fn printable_byte(text: &str) -> Option<u8>
     ensures some { IfSome result (λ byte. (text.now ≡ byte ∷ []) × (32 ≤ byte) × (byte ≤ 126)) }

@@ -1,4 +1,4 @@
-//! The columns of texts.
+//! The widths of texts, in columns.
 
 ghost use Rattle.std.specs.Prelude.{◌≡◌, ◌<◌, ◌≤◌, [], ◌∷◌, false, map, min, nat_lt, sum_by, IfSome};
 ghost use Rattle.tui_clusters.specs.Shown.{clusters};
@@ -10,7 +10,7 @@ use crate::plain::{high_char, is_ideograph, is_letter, is_plain_char, is_sign};
 use crate::printable::printable_byte;
 use unicode_width::{UnicodeWidthChar, UnicodeWidthStr};
 
-/// The columns of a text, cut at 65535.
+/// Returns the width of a text in columns, cut at 65535.
 #[inline(always)]
 #[tactic(auto, unfolding(crate::specs::Width::width_of, crate::specs::Width::columns_of))]
 pub fn cell_width(text: &str) -> u16
@@ -40,7 +40,7 @@ fn looked_up_width(text: &str) -> u16
     looked_up_columns(text, false)
 }
 
-/// The columns of a text, cut at 65535. In a CJK context ambiguous characters are wide.
+/// Returns the width of a text in columns, cut at 65535. If `cjk` is set, ambiguous characters are wide.
 #[inline]
 #[tactic(auto, unfolding(crate::specs::Width::columns_of))]
 fn columns(text: &str, cjk: bool) -> u16
@@ -65,7 +65,7 @@ fn looked_up_columns(text: &str, cjk: bool) -> u16
     width.min(u16::MAX as usize) as u16
 }
 
-/// The columns of a text of one character above U+00A0, which joins nothing.
+/// Returns the width of a text that is one character above U+00A0.
 #[inline]
 fn char_columns(c: char, cjk: bool) -> u16
     requires { 0xA0 < c }
@@ -85,7 +85,7 @@ fn char_width(c: char, cjk: bool) -> Option<usize>
     if cjk { c.width_cjk() } else { c.width() }
 }
 
-/// The columns of a text's graphemes together, cut at the greatest number of 64 bits.
+/// Returns the total width of a text's graphemes in columns, cut at 2^64 - 1.
 #[inline]
 pub fn text_width(text: &str, cjk: bool) -> usize
     ensures { result ≡ saturated (sum_by (columns_of cjk) (clusters text.now)) }
@@ -118,7 +118,8 @@ pub fn has_column(text: &str) -> bool
     !first.is_empty() || has_other_column(text)
 }
 
-/// The same for what does not begin with a printable byte. Never inlined, so that a text of these takes few steps.
+/// The same for a text that does not begin with a printable byte. Never inlined, so that a text that does takes few
+/// steps.
 #[inline(never)]
 fn has_other_column(text: &str) -> bool
     ensures { result ≡ nat_lt 0 (sum_by (columns_of false) (clusters text.now)) }

@@ -4,7 +4,7 @@ use Rattle.std.proofs.lemmas.List.Splits.{length-slice_split, slice_split-cons_n
 use Rattle.std.specs.List.{count_by, onto_first, slice_split}
 use Rattle.tui_display.specs.Lines.{IsCut}
 
--- parts of which the last one goes on
+-- parts, with a byte appended to the last one
 abbrev onto_last : ℕ → List (List ℕ) → List (List ℕ)
 onto_last y [] = (y ∷ []) ∷ []
 onto_last y (part ∷ []) = (part ++ y ∷ []) ∷ []
@@ -15,7 +15,7 @@ onto_last-append y [] line = refl
 onto_last-append y (l ∷ []) line = refl
 onto_last-append y (l ∷ m ∷ ls) line = ap (λ (k : List (List ℕ)). l ∷ k) (onto_last-append y (m ∷ ls) line)
 
--- of some parts, whose number is not 0
+-- for at least one part
 onto_last-cons : (y n : ℕ) (part : List ℕ) (parts : List (List ℕ)) → length parts ≡ n + 1 → onto_last y (part ∷ parts) ≡ part ∷ onto_last y parts
 onto_last-cons y n part [] e = absurd (omega (arith, e))
 onto_last-cons y n part (l ∷ ls) e = refl
@@ -29,7 +29,7 @@ onto_first-append : (x n : ℕ) (parts more : List (List ℕ)) → length parts 
 onto_first-append x n [] more e = absurd (omega (arith, e))
 onto_first-append x n (l ∷ ls) more e = refl
 
--- one byte more, which goes on with the last part
+-- one more byte, which is appended to the last part
 added_at : (p : ℕ → Bool) (x y : ℕ) (xs : List ℕ) (b : Bool) → p x ≡ b → slice_split p (xs ++ y ∷ []) ≡ onto_last y (slice_split p xs) →
     slice_split p (x ∷ (xs ++ y ∷ [])) ≡ onto_last y (slice_split p (x ∷ xs))
 added_at p x y xs true e more =
@@ -45,7 +45,7 @@ split_added : (p : ℕ → Bool) (y : ℕ) (xs : List ℕ) → p y ≡ false →
 split_added p y [] f = slice_split-cons_no p y [] f
 split_added p y (x ∷ xs) f = added_at p x y xs (p x) refl (split_added p y xs f)
 
--- one byte more, which ends the last part
+-- one more byte, which ends the last part
 ended_at : (p : ℕ → Bool) (x y : ℕ) (xs : List ℕ) (b : Bool) → p x ≡ b → slice_split p (xs ++ y ∷ []) ≡ slice_split p xs ++ [] ∷ [] →
     slice_split p (x ∷ (xs ++ y ∷ [])) ≡ slice_split p (x ∷ xs) ++ [] ∷ []
 ended_at p x y xs true e more =

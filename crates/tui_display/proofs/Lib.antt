@@ -1,5 +1,5 @@
 pub mod Cutting
 pub mod Taking
-pub mod Puts
+pub mod Writing
 pub mod Stopping
 pub mod Present

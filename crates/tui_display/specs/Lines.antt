@@ -2,10 +2,10 @@
 use Rattle.std.specs.Prelude.{◌≡◌, ℕ, ◌==◌, List, [], ◌∷◌, ◌++◌}
 use Rattle.std.specs.List.{slice_split}
 
--- what stands between its newlines, before the first and behind the last
+-- the parts between its newlines, before the first one and after the last one
 abbrev pub pieces : List ℕ → List (List ℕ)
 pieces input = slice_split (λ b. b == 10) input
 
--- these lines have ended, and this has begun behind the last of them
+-- these lines have ended, and this is the line that has begun after them
 abbrev pub IsCut : List ℕ → List (List ℕ) → List ℕ → Type 0
 IsCut input lines begun = pieces input ≡ lines ++ begun ∷ []

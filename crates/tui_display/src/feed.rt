@@ -1,33 +1,31 @@
-//! The bytes of a read.
+//! Handling the bytes of a read.
 
 ghost use Rattle.std.specs.Prelude.{[], ◌∷◌};
 ghost use Rattle.tui_display.specs.Parts.{Feeds, IsAdded};
 
-use crate::display::Display;
-use crate::ending::DisplayEnd;
+use crate::display::DisplayState;
+use crate::outcome::DisplayEnd;
 use crate::painter::Painter;
+use crate::setup::DisplaySetup;
 use crate::showing::show_line;
-use std::alloc::Global;
-use tui_outside::{LIMIT, Sink};
-use tui_tty::Output;
+use tui_io::{LIMIT, Sink};
 
 /// What ends a line.
 const NEWLINE: u8 = 10;
 
-/// Takes the bytes of a read, and shows each line that ends in them. None: the session goes on.
+/// Handles the bytes of a read, and shows each line that ends in them. Returns `None` if the session goes on.
 pub(crate) fn take_bytes<P: Painter, K: Sink>(
-    alloc: Global,
+    setup: DisplaySetup,
     painter: &P,
-    output: Output,
-    display: &mut Display,
+    display: &mut DisplayState,
     bytes: &[u8],
     sink: &mut K,
 ) -> Option<DisplayEnd>
-    ensures { Feeds (P.calls_for painter.now) output bytes.now display.old.line.items display.old.shown display.new.line.items display.new.shown
-        (K.told sink.old) (K.told sink.new) result }
+    ensures { Feeds (P.calls_for painter.now) setup.output bytes.now display.old.line.items display.old.shown display.new.line.items display.new.shown
+        (K.observed sink.old) (K.observed sink.new) result }
 {
     'bytes: for i in 0..bytes.len() {
-        if let Some(end) = take_byte(alloc, painter, output, display, bytes[i], sink) {
+        if let Some(end) = take_byte(setup, painter, display, bytes[i], sink) {
             return Some(end);
         }
     }
@@ -35,34 +33,32 @@ pub(crate) fn take_bytes<P: Painter, K: Sink>(
 }
 
 fn take_byte<P: Painter, K: Sink>(
-    alloc: Global,
+    setup: DisplaySetup,
     painter: &P,
-    output: Output,
-    display: &mut Display,
+    display: &mut DisplayState,
     byte: u8,
     sink: &mut K,
 ) -> Option<DisplayEnd>
-    ensures { Feeds (P.calls_for painter.now) output (byte ∷ []) display.old.line.items display.old.shown display.new.line.items display.new.shown
-        (K.told sink.old) (K.told sink.new) result }
+    ensures { Feeds (P.calls_for painter.now) setup.output (byte ∷ []) display.old.line.items display.old.shown display.new.line.items display.new.shown
+        (K.observed sink.old) (K.observed sink.new) result }
 {
     if byte == NEWLINE {
-        end_line(alloc, painter, output, display, sink)
+        end_line(setup, painter, display, sink)
     } else {
         add_byte(&mut display.line, byte)
     }
 }
 
 fn end_line<P: Painter, K: Sink>(
-    alloc: Global,
+    setup: DisplaySetup,
     painter: &P,
-    output: Output,
-    display: &mut Display,
+    display: &mut DisplayState,
     sink: &mut K,
 ) -> Option<DisplayEnd>
-    ensures { Feeds (P.calls_for painter.now) output (NEWLINE ∷ []) display.old.line.items display.old.shown display.new.line.items display.new.shown
-        (K.told sink.old) (K.told sink.new) result }
+    ensures { Feeds (P.calls_for painter.now) setup.output (NEWLINE ∷ []) display.old.line.items display.old.shown display.new.line.items display.new.shown
+        (K.observed sink.old) (K.observed sink.new) result }
 {
-    let end = show_line(alloc, painter, output, display, sink);
+    let end = show_line(setup, painter, display, sink);
     display.line.clear();
     end
 }

@@ -1,13 +1,15 @@
-//! Laws of displays, each a function that does nothing.
+//! Laws of displays. Each is a function with an empty body.
 
 ghost use Rattle.tui_display.specs.Showing.{LinesShow};
 
 use crate::painter::Painter;
-use tui_tty::Output;
+use tui_terminal_model::Output;
 
-/// Behind each line any terminal that has read what was put shows the screen that this line calls for behind the one before, whatever it showed before,
-/// and hides the cursor. What was put is commands, also where one text follows another: no text of a cell begins one. What leaves it then gives the main
-/// screen back.
+/// After each line, any terminal that has read what was written shows the screen that this line calls for
+/// after the one before. It does so whatever it showed earlier, and its cursor is hidden. Leaving then gives
+/// the main screen back.
+///
+/// The bytes written are commands throughout, and no text of a cell begins one.
 pub fn showing_law<P: Painter>(painter: &P, output: Output)
     ensures { LinesShow (P.calls_for painter.now) output }
 {}

@@ -1,17 +1,18 @@
-//! A terminal that shows what lines call for: each line that is read makes the next screen.
+//! Shows on a terminal what the lines of the input call for: each line that is read yields the next screen.
 #![tactic(auto)]
 
 mod display;
-mod ending;
 mod feed;
+mod iteration;
 mod laws;
+mod outcome;
 mod painter;
 mod runs;
 mod sending;
+mod setup;
 mod showing;
-mod turn;
 
-pub use ending::DisplayEnd;
 pub use laws::showing_law;
+pub use outcome::DisplayEnd;
 pub use painter::Painter;
 pub use runs::show_lines;

@@ -1,16 +1,16 @@
-//! What is put for a screen.
+//! Sending screens.
 
 ghost use Rattle.std.specs.Prelude.{◌≡◌, ◌≢◌, ℕ, List};
 ghost use Rattle.tui_cells.specs.Buffer.{Screen};
-ghost use Rattle.tui_display.specs.Session.{IsAnew, IsNext, shown_by};
-ghost use Rattle.tui_outside.specs.Causes.{Writes};
-ghost use Rattle.tui_tty.specs.Calls.{IsFull};
-ghost use Rattle.tui_tty.specs.Shows.{IsPlace};
+ghost use Rattle.tui_display.specs.Session.{IsInFull, IsNext, with_hidden_cursor};
+ghost use Rattle.tui_io.specs.Causes.{Writes};
+ghost use Rattle.tui_terminal_model.specs.Calls.{IsFull};
+ghost use Rattle.tui_terminal_model.specs.Shows.{IsCursorInside};
 
 use tui_cells::Buffer;
-use tui_outside::{Sink, WriteFault};
+use tui_io::{Sink, WriteFault};
 use tui_terminal::{write_changes, write_full};
-use tui_tty::{Cursor, Output};
+use tui_terminal_model::{Cursor, Output};
 
 /// Sends a screen in full.
 pub(crate) fn send_full<K: Sink>(
@@ -18,54 +18,55 @@ pub(crate) fn send_full<K: Sink>(
     buf: &Buffer,
     sink: &mut K,
 ) -> Result<(), WriteFault>
-    ensures { (text : List ℕ) × IsFull (shown_by output) buf.now text × Writes (K.told sink.old) (K.told sink.new) result text }
+    ensures { (text : List ℕ) × IsFull (with_hidden_cursor output) buf.now text × Writes (K.observed sink.old) (K.observed sink.new) result text }
 {
     write_full(buf, hidden(output), sink)
 }
 
-/// Sends what makes a terminal that shows the old screen show the new one: what has changed, or where its size is another, all. Nothing is said of
-/// the old buffer then.
+/// Sends what changes a terminal that shows the old screen into one that shows the new one: the changes, or
+/// the whole screen if the size differs. The content of the old buffer is unspecified afterwards.
 pub(crate) fn send_next<K: Sink>(
     output: Output,
     old: &mut Buffer,
     new: &Buffer,
     sink: &mut K,
 ) -> Result<(), WriteFault>
-    ensures { (text : List ℕ) × IsNext output old.old new.now text × Writes (K.told sink.old) (K.told sink.new) result text }
+    ensures { (text : List ℕ) × IsNext output old.old new.now text × Writes (K.observed sink.old) (K.observed sink.new) result text }
 {
     if old.area() == new.area() {
         write_changes(old, new, hidden(output), sink)
     } else {
-        send_anew(output, old, new, sink)
+        send_in_full(output, old, new, sink)
     }
 }
 
-// Nothing of the old screen is to stand beside the new one.
-fn send_anew<K: Sink>(
+// No part of the old screen may stay visible beside the new one.
+fn send_in_full<K: Sink>(
     output: Output,
     old: &mut Buffer,
     new: &Buffer,
     sink: &mut K,
 ) -> Result<(), WriteFault>
     requires { new.now.area ≢ old.old.area }
-    ensures { (text : List ℕ) × IsAnew output old.old new.now text × Writes (K.told sink.old) (K.told sink.new) result text }
+    ensures { (text : List ℕ) × IsInFull output old.old new.now text × Writes (K.observed sink.old) (K.observed sink.new) result text }
 {
-    // Its height tells its shape, so that there is a text for it also where the first put fails.
+    // Calling `height` gives the prover the shape of the buffer, so that its encoding exists even if the
+    // first write fails.
     let _height = new.height();
     old.reset(old.area());
     send_full(output, old, sink)?;
     send_full(output, new, sink)
 }
 
-// The cursor is hidden.
+// The output with a hidden cursor.
 fn hidden(output: Output) -> Output
-    ensures is { result ≡ shown_by output }
-    ensures inside { (b : Screen) → IsPlace result.cursor b }
+    ensures is { result ≡ with_hidden_cursor output }
+    ensures inside { (b : Screen) → IsCursorInside result.cursor b }
 {
     Output {
         depth: output.depth,
-        trust: output.trust,
+        widths: output.widths,
         cursor: Cursor::Hidden,
-        hold: output.hold,
+        synchronized: output.synchronized,
     }
 }

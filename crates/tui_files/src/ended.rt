@@ -3,22 +3,22 @@
 use std::process::ExitCode;
 use tui_app::AppEnd;
 
-/// How a run ends. At `Usage` one line says so, and the terminal was not entered.
+/// How a run ends. `Usage` has written one line that says so, without entering the terminal.
 #[derive(Clone, Copy, Debug, PartialEq, Eq)]
 pub(crate) enum FilesEnded {
     /// The user quit.
     Quit,
-    /// No byte is left of the keys.
+    /// The input has ended.
     Ended,
-    /// There are more than two words.
+    /// There are more than two arguments, or the system rejected one.
     Usage,
-    /// The first folder could not be read, or a read of the keys failed.
+    /// The first folder could not be read, or reading the keys failed.
     ReadFault,
-    /// A put failed, or the file for the path that is chosen could not be written.
+    /// A write failed, or the file for the chosen path could not be written.
     WriteFault,
-    /// The memory was not there.
+    /// Memory ran out.
     NoMemory,
-    /// The session had as many reads as one may have.
+    /// The session has made the most reads that it may make, 4,294,967,296.
     ManyReads,
 }
 
@@ -36,7 +36,7 @@ impl From<AppEnd> for FilesEnded {
 }
 
 impl FilesEnded {
-    /// The exit status of the program.
+    /// Returns the exit status of the program.
     pub(crate) fn status(&self) -> u8 {
         match self {
             FilesEnded::Quit | FilesEnded::Ended => 0,
@@ -47,7 +47,7 @@ impl FilesEnded {
         }
     }
 
-    /// The exit status, as `main` answers it.
+    /// Returns the exit status as `main` returns it.
     pub(crate) fn exit_code(&self) -> ExitCode {
         ExitCode::from(self.status())
     }

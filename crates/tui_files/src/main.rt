@@ -1,4 +1,4 @@
-//! The program `tui_files`: a browser of a folder, on the terminal that `./live` gives it.
+//! The program `tui_files`: a browser of a folder, on the terminal that `./live` provides.
 #![tactic(auto)]
 
 mod command;
@@ -8,13 +8,13 @@ mod system;
 
 use crate::command::command_of;
 use crate::ended::FilesEnded;
-use crate::program::{browse, refuse_usage};
+use crate::program::{browse, reject_usage};
 use std::io;
 use std::process::ExitCode;
-use tui_app::Port;
+use tui_app::IoTerminal;
 use tui_cells::{Mem, NoMemory};
-use tui_outside::{StdSink, StdSource};
-use tui_system::{setting, words};
+use tui_io::{StdSink, StdSource};
+use tui_system::{arguments, setting};
 
 fn main(rt: HostRuntime) -> ExitCode {
     match run_files(&rt) {
@@ -23,13 +23,14 @@ fn main(rt: HostRuntime) -> ExitCode {
     }
 }
 
-/// Runs over what the system gives. `NoMemory` where it had none for what it says, before anything is read or written.
+/// Runs the program with what the system gives. Fails with `NoMemory` if the system has no memory for that, before
+/// anything is read or written.
 fn run_files(rt: &HostRuntime) -> Mem<FilesEnded> {
     let setting = setting(rt)?;
-    let command = command_of(rt.alloc(), words(rt)?);
-    let mut terminal = Port::new(StdSource::new(rt.reader()), StdSink::new(io::writer(rt)));
+    let command = command_of(rt.alloc(), arguments(rt)?);
+    let mut terminal = IoTerminal::new(StdSource::new(rt.reader()), StdSink::new(io::writer(rt)));
     match command {
         Some(command) => browse(rt, setting, &command, &mut terminal),
-        None => Ok(refuse_usage(&mut terminal)),
+        None => Ok(reject_usage(&mut terminal)),
     }
 }

@@ -1,4 +1,4 @@
-//! The folders of the system.
+//! The folders of the file system.
 
 ghost use Rattle.std.specs.Bool.{⊤};
 
@@ -7,37 +7,37 @@ use std::fs::{DirEntry, File};
 use std::io::{ErrorKind, Read};
 use std::{fs, io};
 use tui_cells::Mem;
-use tui_files_lib::{Folders, HEAD_BYTES, Kind, Listing, MOST_NAMES, Name};
-use tui_system::unless_memory;
+use tui_files_lib::{EntryKind, Folders, HEAD_BYTES, Listing, MOST_NAMES, Name};
+use tui_system::or_out_of_memory;
 
-/// The folders of the system that `rt` stands for.
+/// The folders of the file system that `rt` gives access to.
 #[derive(Drop)]
 pub(crate) struct SystemFolders<'r> {
     pub(crate) rt: &'r HostRuntime,
 }
 
 impl<'r> Folders for SystemFolders<'r> {
-    // What a folder of the system holds nothing here tells.
+    // No statement about what a folder of the file system holds.
     ghost lists = { λ _ _ _. ⊤ };
 
     fn list(&self, alloc: Global, folder: &str) -> Mem<Option<Listing>> {
         let mut listing = Listing {
             names: Vec::new(alloc),
-            beyond: 0,
-            odd: 0,
+            omitted: 0,
+            not_utf8: 0,
         };
-        let Ok(entries) = unless_memory(fs::read_dir(self.rt, folder))? else {
+        let Ok(entries) = or_out_of_memory(fs::read_dir(self.rt, folder))? else {
             return Ok(None);
         };
         for entry in entries {
-            match unless_memory(entry)? {
+            match or_out_of_memory(entry)? {
                 Ok(entry) if listing.names.len() < MOST_NAMES => {
                     let name = self.name_of(alloc, &entry)?;
                     listing.names.push(name)?;
                 }
-                Ok(_) => listing.beyond = listing.beyond.saturating_add(1),
+                Ok(_) => listing.omitted = listing.omitted.saturating_add(1),
                 Err(error) if error.kind() == ErrorKind::InvalidFilename => {
-                    listing.odd = listing.odd.saturating_add(1);
+                    listing.not_utf8 = listing.not_utf8.saturating_add(1);
                 }
                 Err(_) => return Ok(None),
             }
@@ -46,7 +46,7 @@ impl<'r> Folders for SystemFolders<'r> {
     }
 
     fn head(&self, alloc: Global, file: &str) -> Mem<Option<Vec<u8>>> {
-        match unless_memory(self.read_head(alloc, file))? {
+        match or_out_of_memory(self.read_head(alloc, file))? {
             Ok(head) => Ok(head),
             Err(_) => Ok(None),
         }
@@ -54,17 +54,17 @@ impl<'r> Folders for SystemFolders<'r> {
 }
 
 impl<'r> SystemFolders<'r> {
-    /// A name, with what it leads to. A link to a folder counts as one.
+    /// Returns a name, with what it leads to. A link to a folder counts as a folder.
     fn name_of(&self, alloc: Global, entry: &DirEntry<HostRuntime>) -> Mem<Name> {
-        let kind = match unless_memory(fs::metadata(self.rt, entry.path()))? {
-            Ok(metadata) if metadata.is_dir() => Kind::Folder,
-            _ => Kind::File,
+        let kind = match or_out_of_memory(fs::metadata(self.rt, entry.path()))? {
+            Ok(metadata) if metadata.is_dir() => EntryKind::Folder,
+            _ => EntryKind::File,
         };
         let text = String::from_str(alloc, entry.file_name())?;
         Ok(Name { kind, text })
     }
 
-    /// The first bytes of a file; None for what is no file, as a pipe, of which a read might wait.
+    /// Returns the first bytes of a file; None if it is not a regular file, since reading a pipe might block.
     fn read_head(&self, alloc: Global, file: &str) -> io::Result<Option<Vec<u8>>> {
         if !fs::metadata(self.rt, file)?.is_file() {
             return Ok(None);

@@ -1,4 +1,4 @@
-pub mod Heeding
+pub mod Handling
 pub mod Listed
 pub mod Reading
 pub mod Selected

@@ -5,11 +5,11 @@ use Rattle.tui_files_lib.specs.Naming.{without_controls}
 use Rattle.tui_files_lib.specs.declared.browser.Browser.{Browser}
 use Rattle.tui_files_lib.specs.declared.folders.Listing.{Listing}
 
--- what was read of a path
-read_as : (lists : Lists) (folder path : List ℕ) (answer told : Option Listing) → path ≡ folder → lists path answer → answer ≡ told → lists folder told
-read_as lists folder path answer told same read is = subst (λ (p : List ℕ). lists p told) same (subst (λ (o : Option Listing). lists path o) is read)
+-- a path is read as a listing
+read_as : (lists : Lists) (folder path : List ℕ) (answer reported : Option Listing) → path ≡ folder → lists path answer → answer ≡ reported → lists folder reported
+read_as lists folder path answer reported same read is = subst (λ (p : List ℕ). lists p reported) same (subst (λ (o : Option Listing). lists path o) is read)
 
--- the beginning of a file stands beside it
+-- the head of a file is shown beside it
 head_beside : (listing : Listing) (folder : List ℕ) (name : Option (List ℕ)) (old shown new : Browser) → ShowsListing listing folder name old shown →
     new ≡ record shown { head = new.head } → ShowsListing listing folder name old new
 head_beside listing folder name old shown new shows stays = subst (λ (b : Browser). ShowsListing listing folder name old b) (sym stays) (record {
@@ -38,7 +38,7 @@ pub opens_unread : (lists : Lists) (folder path again : List ℕ) (answer : Opti
 opens_unread lists folder path again answer name old before notice same read is same_again shown longer = inr (record {
   read = read_as lists folder path answer None same read is;
   stays = refl;
-  told = longer ∙ ap (λ (bs : List ℕ). bs ++ codes " cannot be read") (shown ∙ ap without_controls same_again);
+  reported = longer ∙ ap (λ (bs : List ℕ). bs ++ codes " cannot be read") (shown ∙ ap without_controls same_again);
 })
 
 pub begins_read : (lists : Lists) (folder path : List ℕ) (answer : Option Listing) (listing : Listing) (shown new : Browser) → lists folder answer →
@@ -54,8 +54,8 @@ begins_read lists folder path answer listing shown new read is same begun stays 
     listed = begun.listed;
     page = begun.page;
     hidden = begun.hidden;
-    part = begun.part;
-    types = begun.types;
+    filter_text = begun.filter_text;
+    is_typing = begun.is_typing;
     silent = begun.silent;
   }));
 }

@@ -1,10 +1,10 @@
--- The selected name is seen.
+-- The selected name is visible.
 use Rattle.std.proofs.Common.{◌≡◌, ℕ, ◌-◌, ◌/◌, ◌<◌, ◌≤◌, min, zero, suc, true, false, List, [], ◌∷◌, length, map, Some, refl, sym, ap, ◌∙◌, arith}
 use Rattle.std.specs.Prelude.{slice_index}
 use Rattle.std.proofs.lemmas.Bool.Decides.{nat_tests}
 use Rattle.std.proofs.lemmas.List.{length-map}
 use Rattle.std.proofs.lemmas.Nat.{le-div}
-use Rattle.tui_app.specs.Lives.{Lives, Stand, drew, lived}
+use Rattle.tui_app.specs.EventLoop.{EventLoop, LoopState, drew, iterated}
 use Rattle.tui_app_laws.specs.Showing.{WaitingShows}
 use Rattle.tui_cells.specs.Buffer.{Screen}
 use Rattle.tui_cells.specs.Rect.{is_empty}
@@ -17,7 +17,7 @@ use Rattle.tui_files_lib.specs.declared.browser.Browser.{Browser}
 use Rattle.tui_files_lib.specs.declared.files.FilesApp.{FilesApp}
 use Rattle.tui_frames.specs.InBlock.{inner_of}
 use Rattle.tui_lists.specs.ListItem.{heights_of}
-use Rattle.tui_tty.specs.declared.output.Output.{Output}
+use Rattle.tui_terminal_model.specs.declared.output.Output.{Output}
 
 -- a row has one line
 low : (labels : List (List ℕ)) (place : ℕ) → slice_index (heights_of (map row_item labels)) place ≤ 1
@@ -57,18 +57,18 @@ names_seen old new screen room shows =
           (place, at, shows.moves.seen some items place at (omega (arith, low (map row_label new.rows.items) place)));
     }
 
-lives_drawn : (F : Type 0) (lists : F → Lists) (begin : FilesApp F) (area : Rect) (reads : List (List ℕ)) (stand : Stand (FilesApp F)) → Lives (files F lists) begin area reads stand →
-    (old : Browser) × BrowserDraws old stand.screen stand.place stand.app.browser
-lives_drawn F lists begin area _ _ (drew stand is) = (begin.browser, is.draws.draws)
-lives_drawn F lists begin area _ _ (lived reads bytes flow old new lives turn) = (turn.moved.browser, turn.draws.draws)
+lives_drawn : (F : Type 0) (lists : F → Lists) (begin : FilesApp F) (area : Rect) (reads : List (List ℕ)) (state : LoopState (FilesApp F)) → EventLoop (files F lists) begin area reads state →
+    (old : Browser) × BrowserDraws old state.screen state.place state.app.browser
+lives_drawn F lists begin area _ _ (drew state is) = (begin.browser, is.draws.draws)
+lives_drawn F lists begin area _ _ (iterated reads bytes flow old new event_loop iteration) = (iteration.moved.browser, iteration.draws.draws)
 
 pub names_are_shown : (F : Type 0) (lists : F → Lists) (o : Output) → WaitingShows (files F lists) o → NamesAreShown F lists o
-names_are_shown F lists o waits begin area stand reads tape sent session =
-    let present = waits begin area stand reads tape sent session in
-    let drawn = lives_drawn F lists begin area reads stand present.lives in
+names_are_shown F lists o waits begin area state reads trace sent session =
+    let present = waits begin area state reads trace sent session in
+    let drawn = lives_drawn F lists begin area reads state present.event_loop in
     record {
       present = present;
-      names = λ room. names_seen drawn.0 stand.app.browser stand.screen room (drawn.1.names room);
-      cursor = λ room types. ((drawn.1.part room).typed (sym (ap (λ (b : Browser). b.types) drawn.1.stays) ∙ types)).0;
+      names = λ room. names_seen drawn.0 state.app.browser state.screen room (drawn.1.names room);
+      cursor = λ room is_typing. ((drawn.1.filter_text room).typed (sym (ap (λ (b : Browser). b.is_typing) drawn.1.stays) ∙ is_typing)).0;
       other = λ small. (drawn.1.other small).0;
     }

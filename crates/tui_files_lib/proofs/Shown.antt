@@ -13,7 +13,7 @@ use Rattle.tui_frames.specs.Block.{BlockData}
 use Rattle.tui_frames.specs.Footprint.{footprint_if, footprint_of}
 use Rattle.tui_frames.specs.InBlock.{inner_of}
 use Rattle.tui_frames.specs.Shadow.{ShadowData}
-use Rattle.tui_lists.proofs.ListShown.{strokes_stay}
+use Rattle.tui_lists.proofs.ListShown.{redraw_keeps_strokes}
 use Rattle.tui_lists.specs.List.{ListData, ListMoves, list_after}
 use Rattle.tui_lists.specs.ListStrokes.{list_layers}
 use Rattle.tui_lists.specs.declared.list.state.ListState.{ListState}
@@ -21,7 +21,7 @@ use Rattle.tui_para.specs.Paragraph.{ParagraphData}
 use Rattle.tui_para.specs.Rendering.{paragraph_layers}
 use Rattle.tui_para.specs.Stays.{paragraph_stays}
 
--- a paragraph whose block has no shadow, or without a block, keeps all outside its area
+-- a paragraph without a block, or whose block has no shadow, changes nothing outside its area
 within : (area : Rect) (a b : Screen) → KeptOutside (covers (intersection_of area a.area)) a b → KeptOutside (covers area) a b
 within area a b kept = KeptOutside-weaker (λ x y out. outside_both area a.area x y out) kept
 
@@ -39,19 +39,19 @@ plain_kept p area a b is painted =
     let clip = intersection_of area a.area in
     within area a b (subst (λ (o : Option BlockData). KeptOutside (footprint_if o clip) a b) is (Painted-kept (paragraph_stays p clip) painted))
 
--- a list by the state that it leaves
+-- a list, drawn with the state that the drawing leaves
 pub list_drawn : (l m : ListData) (was is : ListState) (clip : Rect) (a b : Screen) → l ≡ m → is ≡ list_after l (inner_of l.block clip) was →
     Painted (list_layers l was clip) a b → Painted (list_layers m is clip) a b
 list_drawn l m was is clip a b same left painted =
-    let stays : list_layers l is clip ≡ list_layers l was clip = ap (λ (s : ListState). list_layers l s clip) left ∙ strokes_stay l was clip in
+    let stays : list_layers l is clip ≡ list_layers l was clip = ap (λ (s : ListState). list_layers l s clip) left ∙ redraw_keeps_strokes l was clip in
     subst (λ (k : ListData). Painted (list_layers k is clip) a b) same (subst (λ (ls : List Layer). Painted ls a b) (sym stays) painted)
 
--- ---- the three parts
+-- ---- the three areas
 
 rect_at : ℕ → ℕ → ℕ → ℕ → Rect
 rect_at x y w h = record { x = x; y = y; width = w; height = h }
 
--- the names' area lies in the screen's
+-- the names' area is within the screen's
 clip_is : (area : Rect) → area.x + area.width ≤ 65535 → area.y + area.height ≤ 65535 → intersection_of (names_area area) area ≡ names_area area
 unfolding rect_at
 clip_is area wide high =
@@ -72,7 +72,7 @@ head_out area x y here = grind (arith, nat_tests)
 status_out : (area : Rect) (x y : ℕ) → covers (names_area area) x y ≡ true → covers (status_area area) x y ≡ false
 status_out area x y here = grind (arith, nat_tests)
 
--- a list that is drawn on blank cells stays there, where the head and the status are drawn beside and below it
+-- a list drawn on blank cells stays visible when the head and the status are drawn beside and below it
 pub shows_names : (l m : ListData) (before was is : ListState) (area names head status : Rect) (a b c d : Screen) → l ≡ m → before ≡ was →
     area ≡ a.area → names ≡ names_area area →
     head ≡ head_area area → status ≡ status_area area → IsScreen a → IsFilled a.area blank a →

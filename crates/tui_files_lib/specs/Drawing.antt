@@ -1,6 +1,6 @@
 -- What a browser draws.
 use Rattle.std.specs.Prelude.{◌≡◌, ℕ, ◌-◌, ◌/◌, ◌&&◌, Bool, true, false, nat_lt, List, [], ◌∷◌, map, Option, None, Some, IsSome, codes, string_bytes, unwrap_or}
-use Rattle.tui_app.specs.TooSmall.{SaysTooSmall}
+use Rattle.tui_app.specs.TooSmall.{DrawsTooSmall}
 use Rattle.tui_cells.specs.Buffer.{Screen, cell_at}
 use Rattle.tui_cells.specs.Cell.{blank}
 use Rattle.tui_cells.specs.Layers.{layers_at}
@@ -42,26 +42,26 @@ list_over items title = record (list_of items) {
 abbrev pub names_list : Browser → ListData
 names_list b = list_over (map row_item (map row_label b.rows.items)) (string_bytes b.title)
 
--- where it stands: in the left half of all rows but the last
+-- its area: the left half of all rows but the last
 abbrev pub names_area : Rect → Rect
 names_area area = columns_from (rows_from area 0 (area.height - 1)) 0 (area.width / 2)
 
--- the beginning of a file stands in the other half, and what is told of the names in the last row
+-- the beginning of a file is shown in the right half, and the status in the last row
 abbrev pub head_area : Rect → Rect
 head_area area = columns_from (rows_from area 0 (area.height - 1)) (area.width / 2) (area.width - area.width / 2)
 
 abbrev pub status_area : Rect → Rect
 status_area area = rows_from area (area.height - 1) 1
 
--- the part that is typed behind a slash there
-abbrev pub part_area : Rect → Rect
-part_area area = columns_from (status_area area) 1 (area.width - 1)
+-- the filter is typed there, after a slash
+abbrev pub filter_area : Rect → Rect
+filter_area area = columns_from (status_area area) 1 (area.width - 1)
 
 -- whether a screen has room for a browser
 abbrev pub has_room : Rect → Bool
 has_room area = nat_lt 11 area.width && nat_lt 4 area.height
 
--- the selected row, the first one where none is
+-- the selected row; 0 if none is selected
 abbrev pub selected_row : ListState → ℕ
 selected_row s = unwrap_or s.selected 0
 
@@ -69,33 +69,36 @@ selected_row s = unwrap_or s.selected 0
 abbrev pub selecting : ListState → ListState
 selecting s = record s { selected = Some (selected_row s) }
 
--- On a screen stands a list, drawn on blank cells by the state that it has: the one that moved least from the state before for the selected name to be seen.
+-- A list is drawn on blank cells, with the state `is`. That state has moved least from `was` for the selected name to
+-- be visible.
 pub record ShowsNames (l : ListData) (was is : ListState) (screen : Screen) : Type 0 where
   pub moves : ListMoves l (inner_of l.block (names_area screen.area)) was is
   pub cells : (x y : ℕ) → covers (names_area screen.area) x y ≡ true →
       cell_at screen x y ≡ Some (layers_at (list_layers l is (names_area screen.area)) x y blank)
 
--- A text with a cursor is drawn in an area of a screen, by the state that the drawing leaves, and this is where its cursor is shown.
+-- A text input is drawn in an area of a screen. `is` is its state after the drawing, and `place` is where its cursor is
+-- shown.
 pub record TypesIn (area screen : Rect) (was is : TypedText) (place : Option Position) : Type 0 where
   pub state : is ≡ input_after bare_input (intersection_of area screen) was
   pub cursor : place ≡ cursor_in bare_input area is
   pub moves : InputMoves bare_input (intersection_of area screen) was is
 
--- the cursor of the part is seen, where it is typed
-pub record ShowsCursor (part : TypedText) (screen : Screen) (place : Option Position) : Type 0 where
-  pub cursor : place ≡ cursor_in bare_input (part_area screen.area) part
+-- the cursor of the filter is visible
+pub record ShowsCursor (filter_text : TypedText) (screen : Screen) (place : Option Position) : Type 0 where
+  pub cursor : place ≡ cursor_in bare_input (filter_area screen.area) filter_text
   pub seen : IsSome place
 
--- while the part is typed; else there is no cursor, and the part stays
-pub record DrawsPart (old : Browser) (screen : Screen) (place : Option Position) (new : Browser) : Type 0 where
-  pub typed : old.types ≡ true → ShowsCursor new.part screen place × (new.part ≡ input_after bare_input (part_area screen.area) old.part)
-  pub other : old.types ≡ false → (place ≡ None) × (new.part ≡ old.part)
+-- while the filter is typed; otherwise there is no cursor, and the filter is unchanged
+pub record DrawsFilter (old : Browser) (screen : Screen) (place : Option Position) (new : Browser) : Type 0 where
+  pub typed : old.is_typing ≡ true → ShowsCursor new.filter_text screen place × (new.filter_text ≡ input_after bare_input (filter_area screen.area) old.filter_text)
+  pub other : old.is_typing ≡ false → (place ≡ None) × (new.filter_text ≡ old.filter_text)
 
--- The names and the part, where there is room. Of the browser the list's state alone changes, how far a page goes, which is as many names as the list has rows,
--- and from where on the part is shown. Else it is said that the screen is too small, and the browser stays.
+-- The names and the filter are drawn if there is room. Of the browser only these change: the list's state; the length
+-- of a page, which is the number of the list's rows; and how far the filter is scrolled. If there is no room the screen
+-- shows `too small`, and the browser stays the same.
 pub record BrowserDraws (old : Browser) (screen : Screen) (place : Option Position) (new : Browser) : Type 0 where
-  pub stays : new ≡ record old { state = new.state; page = new.page; part = new.part }
+  pub stays : new ≡ record old { state = new.state; page = new.page; filter_text = new.filter_text }
   pub names : has_room screen.area ≡ true → ShowsNames (names_list new) (selecting old.state) new.state screen
   pub page : has_room screen.area ≡ true → new.page ≡ screen.area.height - 3
-  pub part : has_room screen.area ≡ true → DrawsPart old screen place new
-  pub other : has_room screen.area ≡ false → SaysTooSmall screen × (place ≡ None) × (new ≡ old)
+  pub filter_text : has_room screen.area ≡ true → DrawsFilter old screen place new
+  pub other : has_room screen.area ≡ false → DrawsTooSmall screen × (place ≡ None) × (new ≡ old)

@@ -1,4 +1,4 @@
-pub mod Asked
+pub mod BrowserAction
 pub mod Naming
 pub mod Rows
 pub mod Drawing

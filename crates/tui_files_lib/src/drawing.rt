@@ -7,7 +7,7 @@ ghost use Rattle.tui_cells.specs.Layers.{KeptOutside, Painted};
 ghost use Rattle.tui_cells.specs.Rect.{covers, intersection_of};
 ghost use Rattle.tui_files_lib.specs.Drawing.{
   BrowserDraws,
-  DrawsPart,
+  DrawsFilter,
   ShowsNames,
   TypesIn,
   has_room,
@@ -15,7 +15,7 @@ ghost use Rattle.tui_files_lib.specs.Drawing.{
   list_over,
   names_area,
   names_list,
-  part_area,
+  filter_area,
   row_item,
   selecting,
   status_area,
@@ -31,9 +31,9 @@ ghost use Rattle.tui_lists.specs.Tabs.{reversed};
 
 use crate::browser::Browser;
 use crate::naming::label_of;
-use crate::rows::Row;
+use crate::rows::NameRow;
 use std::alloc::Global;
-use tui_app::say_too_small;
+use tui_app::draw_too_small;
 use tui_cells::{Buffer, Mem, Modifier, Position, Rect, StatefulWidget, Style, Widget};
 use tui_frames::Block;
 use tui_input::{Input, InputState};
@@ -46,9 +46,17 @@ const LEAST_WIDTH: u16 = 12;
 
 const LEAST_HEIGHT: u16 = 5;
 
+/// The rows of the list of names, and the title above them.
+#[derive(Clone, Copy)]
+struct NameList<'a> {
+    rows: &'a [NameRow],
+    title: &'a str,
+}
+
 impl Browser {
-    /// Draws into a blank buffer: the names in the left half, the beginning of the selected file beside them, and below both how many names there
-    /// are, or the part that is typed. Answers where its cursor is shown. Where there is no room for that it says so.
+    /// Draws into a blank buffer, and returns where the cursor is shown. The names are in the left half, and the
+    /// beginning of the selected file is beside them. The last row shows the filter while it is typed, and the status
+    /// otherwise. A screen without room for that shows `too small`.
     pub(crate) fn draw(&mut self, alloc: Global, buf: &mut Buffer) -> Mem<Option<Position>>
         requires { IsFilled buf.old.area blank buf.old }
         ensures draws { IfOk result (λ place. BrowserDraws self.old buf.new place self.new) }
@@ -57,7 +65,7 @@ impl Browser {
         if has_room(buf.area()) {
             self.draw_in_room(alloc, buf)
         } else {
-            say_too_small(buf)?;
+            draw_too_small(buf)?;
             Ok(None)
         }
     }
@@ -67,30 +75,27 @@ impl Browser {
         requires room { has_room buf.old.area ≡ true }
         ensures names { OnOk result (ShowsNames (names_list self.new) (selecting self.old.state) self.new.state buf.new) }
         ensures page { OnOk result (self.new.page ≡ buf.old.area.height - 3) }
-        ensures part { IfOk result (λ place. DrawsPart self.old buf.new place self.new) }
-        ensures stays { OnOk result (self.new ≡ record self.old { state = self.new.state; page = self.new.page; part = self.new.part }) }
+        ensures filter_text { IfOk result (λ place. DrawsFilter self.old buf.new place self.new) }
+        ensures stays { OnOk result (self.new ≡ record self.old { state = self.new.state; page = self.new.page; filter_text = self.new.filter_text }) }
         ensures area { OnOk result (buf.new.area ≡ buf.old.area) }
     {
-        // The shape of the rows is told by their count.
+        // This call gives the proofs the shape of the buffer's rows.
         let _height = buf.height();
         let area = buf.area();
         self.page = usize::from(area.height.saturating_sub(3));
         self.state = self.state.with_selected(Some(self.row()));
         let title = self.title.as_str();
-        draw_names(
-            alloc,
-            &self.rows,
+        let names = NameList {
+            rows: &self.rows,
             title,
-            &mut self.state,
-            names_area(area),
-            buf,
-        )?;
+        };
+        draw_names(alloc, names, &mut self.state, names_area(area), buf)?;
         self.draw_head(alloc, head_area(area), buf)?;
         let place = self.draw_below(alloc, area, buf)?;
         Ok(place)
     }
 
-    /// The beginning of the selected file, under its name.
+    /// Draws the beginning of the selected file, under its name.
     fn draw_head(&self, alloc: Global, area: Rect, buf: &mut Buffer) -> Mem<()>
         ensures { OnOk result (KeptOutside (covers area) buf.old buf.new) }
     {
@@ -101,22 +106,24 @@ impl Browser {
         draw_text(alloc, title.as_str(), self.head.as_str(), area, buf)
     }
 
-    /// The last row of a screen's area: the part while it is typed, and else what is told of the names.
+    /// Draws the last row of a screen's area: the filter while it is typed, and the status otherwise.
     fn draw_below(&mut self, alloc: Global, area: Rect, buf: &mut Buffer) -> Mem<Option<Position>>
         ensures kept { OnOk result (KeptOutside (covers (status_area area)) buf.old buf.new) }
-        ensures stays { OnOk result (self.new ≡ record self.old { part = self.new.part }) }
-        ensures typed { IfOk result (λ place. self.old.types ≡ true → TypesIn (part_area area) buf.old.area self.old.part self.new.part place) }
-        ensures other { IfOk result (λ place. self.old.types ≡ false → (place ≡ None) × (self.new.part ≡ self.old.part)) }
+        ensures stays { OnOk result (self.new ≡ record self.old { filter_text = self.new.filter_text }) }
+        ensures typed { IfOk result (λ place. self.old.is_typing ≡ true → TypesIn (filter_area area) buf.old.area self.old.filter_text self.new.filter_text place) }
+        ensures other { IfOk result (λ place. self.old.is_typing ≡ false → (place ≡ None) × (self.new.filter_text ≡ self.old.filter_text)) }
     {
-        if self.types {
-            return draw_part(alloc, &mut self.part, area, buf);
+        if self.is_typing {
+            return draw_filter(alloc, &mut self.filter_text, area, buf);
         }
         let status = self.status(alloc)?;
         draw_line(alloc, status.as_str(), status_area(area), buf)?;
         Ok(None)
     }
 
-    /// What was refused, or the selected row from 1, how many rows there are, and what is not among them.
+    /// Returns the message about a folder that could not be read, if there is one. Otherwise returns the selected row,
+    /// from 1, and the number of rows. Then follow the number of names left out, the number of those that are not
+    /// UTF-8, and the filter.
     fn status(&self, alloc: Global) -> Mem<String> {
         if !self.notice.is_empty() {
             return Ok(String::from_str(alloc, self.notice.as_str())?);
@@ -124,17 +131,17 @@ impl Browser {
         let count = self.rows.len();
         let number = self.row().saturating_add(1).min(count);
         let mut status = format!(in alloc; "{number}/{count}")?;
-        let beyond = self.listing.beyond;
-        if beyond > 0 {
-            status.push_str(format!(in alloc; ", {beyond} more")?.as_str())?;
+        let omitted = self.listing.omitted;
+        if omitted > 0 {
+            status.push_str(format!(in alloc; ", {omitted} more")?.as_str())?;
         }
-        let odd = self.listing.odd;
-        if odd > 0 {
-            status.push_str(format!(in alloc; ", {odd} not UTF-8")?.as_str())?;
+        let not_utf8 = self.listing.not_utf8;
+        if not_utf8 > 0 {
+            status.push_str(format!(in alloc; ", {not_utf8} not UTF-8")?.as_str())?;
         }
-        let part = self.part.text();
-        if !part.is_empty() {
-            status.push_str(format!(in alloc; " /{part}")?.as_str())?;
+        let filter_text = self.filter_text.text();
+        if !filter_text.is_empty() {
+            status.push_str(format!(in alloc; " /{filter_text}")?.as_str())?;
         }
         Ok(status)
     }
@@ -166,31 +173,31 @@ fn status_area(area: Rect) -> Rect
     area.rows_from(area.height.saturating_sub(1), 1)
 }
 
-/// Where the part is typed: in the last row, behind a slash.
-fn part_area(area: Rect) -> Rect
-    ensures { result ≡ part_area area }
+/// Returns the area in which the filter is typed: the last row, after a slash.
+fn filter_area(area: Rect) -> Rect
+    ensures { result ≡ filter_area area }
 {
     status_area(area).columns_from(1, area.width.saturating_sub(1))
 }
 
-/// A slash and the part in the last row of a screen's area. Answers where the cursor is shown.
-fn draw_part(
+/// Draws a slash and the filter in the last row of a screen's area. Returns where the cursor is shown.
+fn draw_filter(
     alloc: Global,
-    part: &mut InputState,
+    filter_text: &mut InputState,
     area: Rect,
     buf: &mut Buffer,
 ) -> Mem<Option<Position>>
     ensures kept { OnOk result (KeptOutside (covers (status_area area)) buf.old buf.new) }
-    ensures typed { IfOk result (λ place. TypesIn (part_area area) buf.old.area part.old part.new place) }
+    ensures typed { IfOk result (λ place. TypesIn (filter_area area) buf.old.area filter_text.old filter_text.new place) }
 {
     draw_line(alloc, "/", status_area(area), buf)?;
     let input = Input::new();
-    let inside = part_area(area);
-    StatefulWidget::render(&input, alloc, inside, buf, part)?;
-    Ok(input.cursor(inside, part))
+    let inside = filter_area(area);
+    StatefulWidget::render(&input, alloc, inside, buf, filter_text)?;
+    Ok(input.cursor(inside, filter_text))
 }
 
-/// A text, wrapped, in borders with a title.
+/// Draws wrapped text in borders with a title.
 fn draw_text(alloc: Global, title: &str, text: &str, area: Rect, buf: &mut Buffer) -> Mem<()>
     ensures { OnOk result (KeptOutside (covers area) buf.old buf.new) }
 {
@@ -206,7 +213,7 @@ fn draw_text(alloc: Global, title: &str, text: &str, area: Rect, buf: &mut Buffe
     Ok(())
 }
 
-/// A text without borders.
+/// Draws text without borders.
 fn draw_line(alloc: Global, text: &str, area: Rect, buf: &mut Buffer) -> Mem<()>
     ensures { OnOk result (KeptOutside (covers area) buf.old buf.new) }
 {
@@ -214,28 +221,27 @@ fn draw_line(alloc: Global, text: &str, area: Rect, buf: &mut Buffer) -> Mem<()>
     Ok(())
 }
 
-/// The list of rows in borders with a title.
+/// Draws the list of names in borders with its title.
 fn draw_names(
     alloc: Global,
-    rows: &[Row],
-    title: &str,
+    names: NameList<'_>,
     state: &mut ListState,
     area: Rect,
     buf: &mut Buffer,
 ) -> Mem<()>
-    ensures ok { let l = list_over (map row_item (map row_label rows.now)) title.now in
+    ensures ok { let l = list_over (map row_item (map row_label names.entry.rows.now)) names.entry.title.now in
         OnOk result (Painted (list_layers l state.new (intersection_of area buf.old.area)) buf.old buf.new) }
-    ensures moves { let l = list_over (map row_item (map row_label rows.now)) title.now in
+    ensures moves { let l = list_over (map row_item (map row_label names.entry.rows.now)) names.entry.title.now in
         OnOk result (ListMoves l (inner_of l.block (intersection_of area buf.old.area)) state.old state.new) }
 {
-    let items = row_items(alloc, rows)?;
-    let list = list_over(alloc, items, title)?;
+    let items = row_items(alloc, names.rows)?;
+    let list = list_over(alloc, items, names.title)?;
     StatefulWidget::render(&list, alloc, area, buf, state)?;
     Ok(())
 }
 
-/// The rows as items, of one line each.
-fn row_items<'r>(alloc: Global, rows: &'r [Row]) -> Mem<Vec<ListItem<'r>>>
+/// Returns the rows as items of one line each.
+fn row_items<'r>(alloc: Global, rows: &'r [NameRow]) -> Mem<Vec<ListItem<'r>>>
     ensures { IfOk result (λ items. map list_item_data items.items ≡ map row_item (map row_label rows.now)) }
 {
     let mut items = Vec::with_capacity(alloc, rows.len())?;
@@ -245,7 +251,7 @@ fn row_items<'r>(alloc: Global, rows: &'r [Row]) -> Mem<Vec<ListItem<'r>>>
     Ok(items)
 }
 
-fn row_item<'r>(alloc: Global, row: &'r Row) -> Mem<ListItem<'r>>
+fn row_item<'r>(alloc: Global, row: &'r NameRow) -> Mem<ListItem<'r>>
     ensures { IfOk result (λ item. list_item_data item ≡ row_item (row_label row.now)) }
 {
     let mut text = Text::new(alloc);
@@ -253,7 +259,7 @@ fn row_item<'r>(alloc: Global, row: &'r Row) -> Mem<ListItem<'r>>
     Ok(ListItem::new(text))
 }
 
-/// Borders on all sides, and a title.
+/// Returns a block with borders on all sides and a title.
 fn titled_block<'t>(alloc: Global, title: &'t str) -> Mem<Block<'t>>
     ensures { IfOk result (λ block. block_data block ≡ titled_block title.now) }
 {
@@ -268,7 +274,7 @@ fn reversed() -> Style
     Style::new().add_modifier(Modifier::REVERSED)
 }
 
-/// The list of these items in a block with a title.
+/// Returns the list of these items in a block with a title.
 fn list_over<'t>(alloc: Global, items: Vec<ListItem<'t>>, title: &'t str) -> Mem<List<'t>>
     ensures { IfOk result (λ list. list_data list ≡ list_over (map list_item_data items.entry.items) title.now) }
 {

@@ -3,12 +3,12 @@
 ghost use Rattle.std.specs.Option.{option_copied};
 ghost use Rattle.std.specs.Path.{path_file_name, path_parent};
 ghost use Rattle.std.specs.Prelude.{◌≡◌, None, IfOk, IfSome, MatchOption, OnOk, false, not, string_bytes, true};
-ghost use Rattle.tui_files_lib.specs.Asked.{idle};
+ghost use Rattle.tui_files_lib.specs.BrowserAction.{flow_if_ignored};
 ghost use Rattle.tui_files_lib.specs.Browsing.{
   Begins,
-  Does,
+  Performs,
   GoesOut,
-  Heeds,
+  Handles,
   Narrows,
   Opens,
   Takes,
@@ -17,12 +17,12 @@ ghost use Rattle.tui_files_lib.specs.Browsing.{
   moved,
   selected_place,
   takes_event,
-  without_part,
+  without_filter,
 };
 
-use crate::asking::{Asked, Motion, flow_after, idle};
+use crate::actions::{BrowserAction, ListMotion, flow_after, flow_if_ignored};
 use crate::browser::Browser;
-use crate::folders::{Folders, Kind};
+use crate::folders::{EntryKind, Folders};
 use crate::naming::{head_text, path_of, without_controls};
 use std::alloc::Global;
 use std::path::Path;
@@ -30,7 +30,7 @@ use tui_app::{App, Flow};
 use tui_cells::{Buffer, Mem, Position};
 use tui_keys::Event;
 
-/// A browser of folders that events move.
+/// A browser of folders, driven by events.
 #[derive(Drop)]
 pub struct FilesApp<F> {
     folders: F,
@@ -38,7 +38,7 @@ pub struct FilesApp<F> {
 }
 
 impl<F: Folders + Drop> FilesApp<F> {
-    /// A browser of a folder by its path from the root; None where it can't be read.
+    /// Returns a browser of the folder at an absolute path; None if the folder can't be read.
     pub fn new(alloc: Global, folders: F, folder: &str) -> Mem<Option<FilesApp<F>>>
         ensures begins { IfOk result (λ opened. MatchOption opened (F.lists folders folder.now None)
             (λ app. Begins (F.lists folders) folder.now app.browser)) }
@@ -55,7 +55,7 @@ impl<F: Folders + Drop> FilesApp<F> {
         }
     }
 
-    /// The path that is selected; that of the folder where no name is.
+    /// Returns the selected path; the path of the folder if no name is selected.
     pub fn chosen(&self, alloc: Global) -> Mem<String>
         ensures { IfOk result (λ path. string_bytes path ≡ chosen_path self.now.browser) }
     {
@@ -74,10 +74,10 @@ impl<F: Folders + Drop> FilesApp<F> {
         Ok(())
     }
 
-    /// The beginning of the selected file as it is shown; nothing of a folder.
+    /// Returns the beginning of the selected file, as displayed. It is empty for a folder.
     fn head(&self, alloc: Global) -> Mem<String> {
         match self.browser.kind() {
-            Some(Kind::File) => {}
+            Some(EntryKind::File) => {}
             _ => return Ok(String::new(alloc)),
         }
         let path = self.chosen(alloc)?;
@@ -87,7 +87,7 @@ impl<F: Folders + Drop> FilesApp<F> {
         }
     }
 
-    /// Shows a folder, with this name selected, unless it can't be read.
+    /// Shows a folder with this name selected. If it can't be read, sets a message that says so.
     fn open(&mut self, alloc: Global, folder: String, name: Option<&str>) -> Mem<()>
         ensures opens { OnOk result (Opens (F.lists self.old.folders) (string_bytes folder) (option_copied name.entry) self.old.browser self.new.browser) }
         ensures folders { OnOk result (self.new.folders ≡ self.old.folders) }
@@ -115,7 +115,7 @@ impl<F: Folders + Drop> FilesApp<F> {
         self.open(alloc, folder, None)
     }
 
-    /// Goes out of the folder, which is selected then.
+    /// Goes to the parent folder, and selects the folder that was left.
     fn go_out(&mut self, alloc: Global) -> Mem<()>
         ensures goes { let folder = string_bytes self.old.browser.folder in
             OnOk result (GoesOut (F.lists self.old.folders) (path_parent folder) (path_file_name folder) self.old.browser self.new.browser) }
@@ -132,7 +132,7 @@ impl<F: Folders + Drop> FilesApp<F> {
         }
     }
 
-    /// Shows the names that are wanted now. The selected one stays, if it is among them.
+    /// Lists the names that pass the filter now. The selected one stays selected if it is among them.
     fn narrow(&mut self, alloc: Global) -> Mem<()>
         ensures narrows { OnOk result (Narrows (selected_place self.old.browser) self.old.browser self.new.browser) }
         ensures folders { OnOk result (self.new.folders ≡ self.old.folders) }
@@ -142,8 +142,8 @@ impl<F: Folders + Drop> FilesApp<F> {
         self.read_head(alloc)
     }
 
-    /// Shows the names that begin with a dot, or hides them.
-    fn turn_hidden(&mut self, alloc: Global) -> Mem<()>
+    /// Shows the names that begin with a dot, or hides them again.
+    fn toggle_hidden(&mut self, alloc: Global) -> Mem<()>
         ensures narrows { OnOk result
             (Narrows (selected_place self.old.browser) (record self.old.browser { hidden = not self.old.browser.hidden }) self.new.browser) }
         ensures folders { OnOk result (self.new.folders ≡ self.old.folders) }
@@ -152,17 +152,17 @@ impl<F: Folders + Drop> FilesApp<F> {
         self.narrow(alloc)
     }
 
-    /// Drops the part that names are wanted with.
-    fn drop_part(&mut self, alloc: Global) -> Mem<()>
-        ensures narrows { OnOk result (Narrows (selected_place self.old.browser) (without_part self.old.browser) self.new.browser) }
+    /// Clears the filter.
+    fn drop_filter(&mut self, alloc: Global) -> Mem<()>
+        ensures narrows { OnOk result (Narrows (selected_place self.old.browser) (without_filter self.old.browser) self.new.browser) }
         ensures folders { OnOk result (self.new.folders ≡ self.old.folders) }
     {
-        self.browser.drop_part(alloc);
+        self.browser.drop_filter(alloc);
         self.narrow(alloc)
     }
 
     /// Moves the selection.
-    fn move_by(&mut self, alloc: Global, motion: Motion) -> Mem<()>
+    fn move_by(&mut self, alloc: Global, motion: ListMotion) -> Mem<()>
         ensures moves { OnOk result (self.new.browser ≡ record self.old.browser { state = moved motion self.old.browser; head = self.new.browser.head }) }
         ensures folders { OnOk result (self.new.folders ≡ self.old.folders) }
     {
@@ -171,65 +171,65 @@ impl<F: Folders + Drop> FilesApp<F> {
         self.read_head(alloc)
     }
 
-    /// Gives an event to the part, where keys make it up, and answers whether it is one of its own.
+    /// Gives an event to the filter if it is being typed. Returns whether the filter has used the event.
     fn take(&mut self, alloc: Global, event: Event) -> Mem<bool>
         ensures used { IfOk result (λ used. used ≡ takes_event self.old.browser event) }
         ensures takes { OnOk result (takes_event self.old.browser event ≡ true → Takes event self.old.browser self.new.browser) }
         ensures stays { OnOk result (takes_event self.old.browser event ≡ false → self.new.browser ≡ self.old.browser) }
         ensures folders { OnOk result (self.new.folders ≡ self.old.folders) }
     {
-        if !self.browser.types {
+        if !self.browser.is_typing {
             return Ok(false);
         }
-        let before = self.browser.part.text().len();
-        if !self.browser.part.take(event)? {
+        let before = self.browser.filter_text.text().len();
+        if !self.browser.filter_text.take(event)? {
             return Ok(false);
         }
-        // One event makes a text longer or shorter, or it leaves it as it is.
-        if self.browser.part.text().len() == before {
+        // An event that changes the text also changes its length.
+        if self.browser.filter_text.text().len() == before {
             return Ok(true);
         }
         self.narrow(alloc)?;
         Ok(true)
     }
 
-    /// Does what is asked.
-    fn follow(&mut self, alloc: Global, asked: Asked) -> Mem<()>
-        ensures does { OnOk result (Does (F.lists self.old.folders) asked self.old.browser self.new.browser) }
+    /// Performs an action.
+    fn perform(&mut self, alloc: Global, action: BrowserAction) -> Mem<()>
+        ensures performs { OnOk result (Performs (F.lists self.old.folders) action self.old.browser self.new.browser) }
         ensures folders { OnOk result (self.new.folders ≡ self.old.folders) }
     {
-        match asked {
-            Asked::GoIn => self.go_in(alloc),
-            Asked::GoOut => self.go_out(alloc),
-            Asked::TurnHidden => self.turn_hidden(alloc),
-            Asked::BeginPart => {
-                self.browser.types = true;
+        match action {
+            BrowserAction::GoIn => self.go_in(alloc),
+            BrowserAction::GoOut => self.go_out(alloc),
+            BrowserAction::ToggleHidden => self.toggle_hidden(alloc),
+            BrowserAction::BeginFilter => {
+                self.browser.is_typing = true;
                 Ok(())
             }
-            Asked::KeepPart => {
-                self.browser.types = false;
+            BrowserAction::KeepFilter => {
+                self.browser.is_typing = false;
                 Ok(())
             }
-            Asked::DropPart => self.drop_part(alloc),
-            Asked::Move(motion) => self.move_by(alloc, motion),
-            Asked::Nothing | Asked::Quit | Asked::Choose => Ok(()),
+            BrowserAction::DropFilter => self.drop_filter(alloc),
+            BrowserAction::Move(motion) => self.move_by(alloc, motion),
+            BrowserAction::Nothing | BrowserAction::Quit | BrowserAction::Choose => Ok(()),
         }
     }
 
-    /// What an event makes of a browser, of which it asks something. What was refused is told no longer.
-    fn heed(&mut self, alloc: Global, event: Event) -> Mem<Flow>
-        requires { idle event ≡ None }
+    /// Handles an event that concerns the browser. Clears the message about a folder that could not be read.
+    fn handle(&mut self, alloc: Global, event: Event) -> Mem<Flow>
+        requires { flow_if_ignored event ≡ None }
         ensures flow { IfOk result (λ flow. flow ≡ flow_of self.old.browser event) }
-        ensures heeds { OnOk result (Heeds (F.lists self.old.folders) self.old.browser event self.new.browser) }
+        ensures handles { OnOk result (Handles (F.lists self.old.folders) self.old.browser event self.new.browser) }
         ensures folders { OnOk result (self.new.folders ≡ self.old.folders) }
     {
         self.browser.notice.clear();
         if self.take(alloc, event)? {
             return Ok(Flow::Go);
         }
-        let asked = self.browser.asked_by(event);
-        self.follow(alloc, asked)?;
-        Ok(flow_after(asked))
+        let action = self.browser.action_for(event);
+        self.perform(alloc, action)?;
+        Ok(flow_after(action))
     }
 }
 
@@ -239,9 +239,9 @@ impl<F: Folders + Drop> App for FilesApp<F> {
     ghost behaviour = { files F F.lists };
 
     fn step(&mut self, alloc: Global, event: Event) -> Mem<Flow> {
-        match idle(event) {
+        match flow_if_ignored(event) {
             Some(flow) => Ok(flow),
-            None => self.heed(alloc, event),
+            None => self.handle(alloc, event),
         }
     }
 

@@ -1,7 +1,7 @@
-//! A browser of folders as an app, which keys and sizes move.
+//! A browser of folders as an app, driven by keys and screen sizes.
 #![tactic(auto)]
 
-mod asking;
+mod actions;
 mod browser;
 mod drawing;
 mod files;
@@ -11,5 +11,5 @@ mod naming;
 mod rows;
 
 pub use files::FilesApp;
-pub use folders::{Folders, HEAD_BYTES, Kind, Listing, MOST_NAMES, Name};
+pub use folders::{EntryKind, Folders, HEAD_BYTES, Listing, MOST_NAMES, Name};
 pub use laws::{files_law, kind_laws};

@@ -1,35 +1,35 @@
-//! Paths, and texts as they are shown.
+//! Paths, and texts as they are displayed.
 
 ghost use Rattle.std.specs.Prelude.{◌≡◌, IfOk, string_bytes};
-ghost use Rattle.tui_files_lib.specs.Browsing.{path_of, slash_behind};
-ghost use Rattle.tui_files_lib.specs.Naming.{label_of, mark_behind, shown_char, without_controls};
+ghost use Rattle.tui_files_lib.specs.Browsing.{path_of, separator_after};
+ghost use Rattle.tui_files_lib.specs.Naming.{label_of, kind_suffix, shown_char, without_controls};
 
-use crate::folders::{HEAD_BYTES, Kind, Name};
+use crate::folders::{EntryKind, HEAD_BYTES, Name};
 use std::alloc::Global;
 use tui_cells::Mem;
 
-/// What stands for a control character.
+/// Replaces a control character.
 const REPLACEMENT: char = '\u{FFFD}';
 
-/// A name in a list: a slash stands behind a folder's.
+/// Returns a name as the list displays it: a slash follows the name of a folder.
 pub(crate) fn label_of(alloc: Global, name: &Name) -> Mem<String>
     ensures { IfOk result (λ label. string_bytes label ≡ label_of name.now) }
 {
     let mut label = without_controls(alloc, name.text.as_str())?;
-    label.push_str(mark_behind(name.kind))?;
+    label.push_str(kind_suffix(name.kind))?;
     Ok(label)
 }
 
-fn mark_behind(kind: Kind) -> &'static str
-    ensures { result.now ≡ mark_behind kind }
+fn kind_suffix(kind: EntryKind) -> &'static str
+    ensures { result.now ≡ kind_suffix kind }
 {
     match kind {
-        Kind::Folder => "/",
-        Kind::File => "",
+        EntryKind::Folder => "/",
+        EntryKind::File => "",
     }
 }
 
-/// A text with U+FFFD for each control character.
+/// Returns a text with U+FFFD in place of each control character.
 pub(crate) fn without_controls(alloc: Global, text: &str) -> Mem<String>
     ensures { IfOk result (λ shown. string_bytes shown ≡ without_controls text.now) }
 {
@@ -50,23 +50,24 @@ fn shown_char(character: char) -> char
     }
 }
 
-/// The path of a name in a folder.
+/// Returns the path of a name in a folder.
 pub(crate) fn path_of(alloc: Global, folder: &str, name: &str) -> Mem<String>
     ensures { IfOk result (λ path. string_bytes path ≡ path_of folder.now name.now) }
 {
     let mut path = String::from_str(alloc, folder)?;
-    path.push_str(slash_behind(folder))?;
+    path.push_str(separator_after(folder))?;
     path.push_str(name)?;
     Ok(path)
 }
 
-fn slash_behind(folder: &str) -> &str
-    ensures { result.now ≡ slash_behind folder.now }
+fn separator_after(folder: &str) -> &str
+    ensures { result.now ≡ separator_after folder.now }
 {
     if folder.ends_with('/') { "" } else { "/" }
 }
 
-/// What is shown of a file that begins with these bytes. The last character may have been cut.
+/// Returns how a file that begins with these bytes is displayed. The last character may be cut if there are
+/// `HEAD_BYTES` bytes.
 pub(crate) fn head_text(alloc: Global, bytes: &[u8]) -> Mem<String> {
     match str::from_utf8(bytes) {
         Ok(text) => shown_text(alloc, text),
@@ -80,7 +81,8 @@ pub(crate) fn head_text(alloc: Global, bytes: &[u8]) -> Mem<String> {
     }
 }
 
-/// The lines of a text: four blanks for a tab, no carriage returns, and U+FFFD for any other control character.
+/// Returns the lines of a text as they are displayed: four spaces for a tab, no carriage returns, and U+FFFD for any
+/// other control character.
 fn shown_text(alloc: Global, text: &str) -> Mem<String> {
     let mut shown = String::with_capacity(alloc, text.len())?;
     for character in text.chars() {

@@ -1,14 +1,15 @@
-//! The program `tui_form`: a form on the terminal that `./live` gives it, whose answers go to a file, or to standard error.
+//! The program `tui_form`: it shows a form on the terminal that `./live` provides, and writes its answers to a file or
+//! to standard error.
 #![tactic(auto)]
 
 use std::io;
 use std::process::ExitCode;
-use tui_app::Port;
+use tui_app::IoTerminal;
 use tui_cells::{Mem, NoMemory};
-use tui_form_run::{FilePlace, FormEnded, FormFiles, Place, files_named, run_program};
-use tui_outside::{StdSink, StdSource};
+use tui_form_run::{Destination, FileDestination, FormEnded, FormFiles, files_named, run_program};
+use tui_io::{StdSink, StdSource};
 use tui_program::FileSource;
-use tui_system::{opened, setting, words};
+use tui_system::{arguments, open_file, setting};
 
 fn main(rt: HostRuntime) -> ExitCode {
     match ask(&rt) {
@@ -17,11 +18,12 @@ fn main(rt: HostRuntime) -> ExitCode {
     }
 }
 
-/// Runs over what the system gives. `NoMemory` where it had none for what it says, before anything is read or written.
+/// Runs the program with what the system gives. Fails with `NoMemory` if the system has no memory for that, before
+/// anything is read or written.
 fn ask(rt: &HostRuntime) -> Mem<FormEnded> {
     let alloc = rt.alloc();
-    // Where the words name no form nothing is read of the one without a name, which can't be opened.
-    let FormFiles { form, answers } = match files_named(alloc, words(rt)?) {
+    // If the arguments name no form, the empty name is opened. That fails, and nothing is read.
+    let FormFiles { form, answers } = match files_named(alloc, arguments(rt)?) {
         Some(files) => files,
         None => FormFiles {
             form: String::new(alloc),
@@ -29,19 +31,19 @@ fn ask(rt: &HostRuntime) -> Mem<FormEnded> {
         },
     };
     match answers {
-        Some(name) => ask_by(rt, form.as_str(), &mut FilePlace::new(rt, name)),
+        Some(name) => ask_by(rt, form.as_str(), &mut FileDestination::new(rt, name)),
         None => ask_by(rt, form.as_str(), &mut StdSink::new(rt.stderr())),
     }
 }
 
-fn ask_by<A: Place>(rt: &HostRuntime, form: &str, answers: &mut A) -> Mem<FormEnded> {
+fn ask_by<A: Destination>(rt: &HostRuntime, form: &str, answers: &mut A) -> Mem<FormEnded> {
     let setting = setting(rt)?;
-    let mut source = FileSource::new(opened(rt, form)?);
-    let mut terminal = Port::new(StdSource::new(rt.reader()), StdSink::new(io::writer(rt)));
+    let mut source = FileSource::new(open_file(rt, form)?);
+    let mut terminal = IoTerminal::new(StdSource::new(rt.reader()), StdSink::new(io::writer(rt)));
     Ok(run_program(
         rt.alloc(),
         setting,
-        words(rt)?,
+        arguments(rt)?,
         &mut source,
         &mut terminal,
         answers,

@@ -21,7 +21,7 @@ use Rattle.tui_lists.specs.declared.list.state.ListState.{ListState}
 rect_at : ℕ → ℕ → ℕ → ℕ → Rect
 rect_at x y w h = record { x = x; y = y; width = w; height = h }
 
--- an area within another one is what both have
+-- an area within another one is their intersection
 pub clip_same : (r area : Rect) → area.x ≤ r.x → r.x + r.width ≤ area.x + area.width → area.y ≤ r.y → r.y + r.height ≤ area.y + area.height →
     area.x + area.width ≤ 65535 → area.y + area.height ≤ 65535 → intersection_of r area ≡ r
 unfolding rect_at
@@ -42,7 +42,7 @@ wide_of area room = grind (arith, nat_tests)
 pub high_of : (area : Rect) → has_room area ≡ true → 3 < area.height
 high_of area room = grind (arith, nat_tests)
 
--- the inside of the borders
+-- the area inside the borders
 pub record IsInside (r area : Rect) : Type 0 where
   pub x : r.x ≡ area.x + 1
   pub y : r.y ≡ area.y + 1
@@ -53,7 +53,7 @@ pub is_inside : (title : List ℕ) (area : Rect) → 11 < area.width → 3 < are
     IsInside (inner (titled_block title) area) area
 is_inside title area w h wide high = record { x = omega arith; y = omega arith; width = omega arith; height = omega arith }
 
--- the row of the focused value lies there
+-- the row of the focused value is within it
 pub row_clip : (r area : Rect) (offset focus : ℕ) → IsInside r area → 11 < area.width → 3 < area.height → area.x + area.width ≤ 65535 →
     area.y + area.height ≤ 65535 → intersection_of (value_row r offset focus) area ≡ value_row r offset focus
 row_clip r area offset focus is w h wide high =
@@ -68,7 +68,7 @@ row_clip r area offset focus is w h wide high =
     let bottom : row.y + row.height ≤ r.y + r.height = omega arith in
     clip_same row area (omega arith) (omega arith) (omega arith) (omega arith) wide high
 
--- ---- both drawn
+-- ---- both
 
 pub shows_form : (f mid new : FormData) (s t : ListState) (in_ row : Rect) (place : Option Position) (a b c : Screen) →
     has_room a.area ≡ true → IsScreen a → IsFilled a.area blank a → s ≡ list_state f →

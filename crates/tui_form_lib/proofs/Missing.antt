@@ -1,10 +1,10 @@
--- The first place at which a test passes.
+-- The first index at which a test passes.
 use Rattle.std.proofs.Common.{◌≡◌, ℕ, ◌+◌, ◌<◌, ◌≤◌, zero, suc, Bool, true, false, List, [], ◌∷◌, ◌++◌, length, get_or, map, take, Option, None, Some, cond, refl, sym, ap, subst, ◌∙◌, arith}
 use Rattle.std.proofs.lemmas.Iterator.Adapters.{position_from-zero}
 use Rattle.std.proofs.lemmas.List.{map-append, take_all, take_more}
 use Rattle.std.specs.List.{position, position_from}
 
--- none passes among one more, if that does not
+-- none passes with one more element that does not
 none_more_if : (b : Bool) (o p : Option ℕ) (k : ℕ) → cond b (Some k) o ≡ None → (o ≡ None → p ≡ None) → cond b (Some k) p ≡ None
 none_more_if true o p k none more = cc
 none_more_if false o p k none more = more none
@@ -19,7 +19,7 @@ found_if : (b : Bool) (o p : Option ℕ) (k place : ℕ) → cond b (Some k) o �
 found_if true o p k place none more = cc
 found_if false o p k place none more = more none
 
--- one passes, and none before it
+-- one passes, and none before it does
 pub found : {A B : Type 0} (test : B → Bool) (f : A → B) (k : ℕ) (xs : List A) (i : ℕ) (x : A) → i < length xs → x ≡ get_or xs i x
     → position_from test k (map f (take i xs)) ≡ None → test (f x) ≡ true → position_from test k (map f xs) ≡ Some (k + i)
 found test f k [] i x lt is none passes = absurd (omega arith)

@@ -1,4 +1,4 @@
--- An event that is not a value's own changes nothing.
+-- An event that a value does not use changes nothing.
 use Rattle.std.proofs.Common.{◌≡◌, ℕ, Bool, true, false, length, Option, None, Some, refl, ap, arith}
 use Rattle.std.specs.Prelude.{◌||◌, is_some, if◌then◌else◌}
 use Rattle.std.proofs.lemmas.Bool.Decides.{nat_tests}

@@ -1,10 +1,10 @@
--- The focused field is seen, whatever led to a form.
+-- The focused field is visible, whatever events led to the form.
 use Rattle.std.proofs.Common.{◌≡◌, ℕ, ◌+◌, ◌-◌, ◌*◌, ◌<◌, ◌≤◌, zero, suc, Bool, true, false, List, [], ◌∷◌, Option, None, Some, option_map, length, refl, sym, ap, subst, ◌∙◌, arith}
 use Rattle.std.proofs.lemmas.Bool.Decides.{nat_tests}
 use Rattle.std.proofs.lemmas.List.{length-map}
 use Rattle.std.specs.List.{position_or_len, slice_get}
 use Rattle.std.specs.Prelude.{IsSome, nat_lt, if◌then◌else◌}
-use Rattle.tui_app.specs.Lives.{Lives, Stand, Takes, drew, heard, joined, lived}
+use Rattle.tui_app.specs.EventLoop.{EventLoop, LoopState, Takes, drew, events_of_read, joined, iterated}
 use Rattle.tui_app.specs.declared.app.Flow.{Flow}
 use Rattle.tui_app.specs.declared.app.Flow.TheVariants.{Go, Redraw, Quit}
 use Rattle.tui_app_laws.specs.Showing.{WaitingShows}
@@ -18,7 +18,7 @@ use Rattle.tui_form_lib.proofs.Changed.{length-changed_at}
 use Rattle.tui_form_lib.proofs.Drawn.{high_of, is_inside, wide_of}
 use Rattle.tui_form_lib.proofs.Listed.{length-items, low, rows_of}
 use Rattle.tui_form_lib.proofs.Settled.{layers_settle, selected_at}
-use Rattle.tui_form_lib.specs.Asked.{asked}
+use Rattle.tui_form_lib.specs.FormAction.{action}
 use Rattle.tui_form_lib.specs.Drawing.{
   FormDraws,
   ShowsForm,
@@ -42,10 +42,10 @@ use Rattle.tui_form_lib.specs.Field.{FieldData, is_missing}
 use Rattle.tui_form_lib.specs.Form.{FormData, form_data}
 use Rattle.tui_form_lib.specs.Laws.{FocusIsSeen, FormIsShown, IsShownIn, focused_value, form_behaviour}
 use Rattle.tui_form_lib.specs.Lines.{items_from}
-use Rattle.tui_form_lib.specs.Steps.{IsFocused, accepting, after_event, changed_at, field_after, first_missing, obeyed, skipped, taken, takes}
-use Rattle.tui_form_lib.specs.Value.{ValueData, check, choice, place_before, place_behind, typed_value}
-use Rattle.tui_form_lib.specs.declared.asking.Asked.{Asked}
-use Rattle.tui_form_lib.specs.declared.asking.Asked.TheVariants as asks
+use Rattle.tui_form_lib.specs.Steps.{IsFocused, accepting, after_event, changed_at, field_after, first_missing, performed, skipped, taken, takes}
+use Rattle.tui_form_lib.specs.Value.{ValueData, check, choice, place_before, place_after, typed_value}
+use Rattle.tui_form_lib.specs.declared.actions.FormAction.{FormAction}
+use Rattle.tui_form_lib.specs.declared.actions.FormAction.TheVariants as actions
 use Rattle.tui_form_lib.specs.declared.form.Form.{Form}
 use Rattle.tui_input.proofs.InputMoved.{input_moves}
 use Rattle.tui_input.specs.Input.{has_cell, input_after}
@@ -56,12 +56,12 @@ use Rattle.tui_layout.specs.Sums.{total}
 use Rattle.tui_lists.proofs.ListMoved.{list_moves}
 use Rattle.tui_lists.specs.List.{IsSeen, list_after}
 use Rattle.tui_lists.specs.ListItem.{heights_of, item_height}
-use Rattle.tui_tty.specs.declared.output.Output.{Output}
+use Rattle.tui_terminal_model.specs.declared.output.Output.{Output}
 
 -- ---- a field has the focus, from event to event and from read to read
 
-behind_within : (n place : ℕ) → 0 < n → place_behind n (Some place) < n
-behind_within n place some = grind (arith, nat_tests)
+after_within : (n place : ℕ) → 0 < n → place_after n (Some place) < n
+after_within n place some = grind (arith, nat_tests)
 
 before_within : (n place : ℕ) → 0 < n → place_before n (Some place) < n
 before_within n place some = grind (arith, nat_tests)
@@ -81,14 +81,14 @@ first_within : (fields : List FieldData) (place : ℕ) → first_missing fields 
 first_within fields place is =
     first_within_if (nat_lt (position_or_len is_missing fields) (length fields)) (position_or_len is_missing fields) (length fields) place refl is
 
-obeyed_focused : (f : FormData) (a : Asked) → IsFocused f → IsFocused (obeyed f a)
-obeyed_focused f asks.Nothing focused = focused
-obeyed_focused f asks.Next focused = λ some. behind_within (length f.fields) f.focus some
-obeyed_focused f asks.Previous focused = λ some. before_within (length f.fields) f.focus some
-obeyed_focused f asks.Accept focused = accepting_focused f (first_missing f.fields) (first_within f.fields) focused
-obeyed_focused f asks.Leave focused = focused
-obeyed_focused f asks.Redraw focused = focused
-obeyed_focused f asks.Skip focused = focused
+obeyed_focused : (f : FormData) (a : FormAction) → IsFocused f → IsFocused (performed f a)
+obeyed_focused f actions.Nothing focused = focused
+obeyed_focused f actions.Next focused = λ some. after_within (length f.fields) f.focus some
+obeyed_focused f actions.Previous focused = λ some. before_within (length f.fields) f.focus some
+obeyed_focused f actions.Accept focused = accepting_focused f (first_missing f.fields) (first_within f.fields) focused
+obeyed_focused f actions.Leave focused = focused
+obeyed_focused f actions.Redraw focused = focused
+obeyed_focused f actions.Skip focused = focused
 
 changed_focused : (f : FormData) (change : FieldData → FieldData) → IsFocused f → 0 < length (changed_at change f.focus f.fields) →
     f.focus < length (changed_at change f.focus f.fields)
@@ -103,9 +103,9 @@ chosen_focused false x y fx fy = fy
 
 after_focused : (f : FormData) (e : Event) → IsFocused f → IsFocused (after_event f e)
 after_focused f e focused =
-    chosen_focused f.is_skipping (skipped f e) (if takes f e then taken f e else obeyed f (asked f.is_escaped e)) focused
-    (chosen_focused (takes f e) (taken f e) (obeyed f (asked f.is_escaped e)) (changed_focused f (field_after e) focused)
-    (obeyed_focused f (asked f.is_escaped e) focused))
+    chosen_focused f.is_skipping (skipped f e) (if takes f e then taken f e else performed f (action f.is_escaped e)) focused
+    (chosen_focused (takes f e) (taken f e) (performed f (action f.is_escaped e)) (changed_focused f (field_after e) focused)
+    (obeyed_focused f (action f.is_escaped e) focused))
 
 takes_focused : (es : List Event) (flow last : Flow) (old new : Form) → IsFocused (form_data old) → Takes form_behaviour old flow es new last → IsFocused (form_data new)
 takes_focused es Quit last old new focused h = subst (λ (a : Form). IsFocused (form_data a)) (sym h.0) focused
@@ -116,30 +116,30 @@ takes_focused (e ∷ es) Go last old new focused h =
 takes_focused (e ∷ es) Redraw last old new focused h =
     takes_focused es (joined Redraw h.1) last h.0 new (subst IsFocused (sym h.2.0) (after_focused (form_data old) e focused)) h.3
 
--- what is drawn has the focus of what draws it
+-- a drawing keeps a field focused
 drawn_if : (f new : FormData) (screen : Screen) (place : Option Position) (room : Bool) → has_room screen.area ≡ room → FormDraws f screen place new → IsFocused f → IsFocused new
 drawn_if f new screen place true room drawn focused =
     subst IsFocused (sym (drawn.shows room).new_is) (changed_focused f (field_drawn (row_in f screen.area)) focused)
 drawn_if f new screen place false room drawn focused = subst IsFocused (sym (drawn.stays room)) focused
 
--- a form that was drawn last, and where the focus is
-record WasDrawn (stand : Stand Form) : Type 0 where
+-- a form that was drawn last, and its focus
+record WasDrawn (state : LoopState Form) : Type 0 where
   before : FormData
   had_focus : IsFocused before
-  draws : FormDraws before stand.screen stand.place (form_data stand.app)
-  focused : IsFocused (form_data stand.app)
+  draws : FormDraws before state.screen state.place (form_data state.app)
+  focused : IsFocused (form_data state.app)
 
-was_drawn : (begin : Form) (area : Rect) (reads : List (List ℕ)) (stand : Stand Form) → IsFocused (form_data begin) →
-    Lives form_behaviour begin area reads stand → WasDrawn stand
-was_drawn begin area _ _ focused (drew stand is) = record {
+was_drawn : (begin : Form) (area : Rect) (reads : List (List ℕ)) (state : LoopState Form) → IsFocused (form_data begin) →
+    EventLoop form_behaviour begin area reads state → WasDrawn state
+was_drawn begin area _ _ focused (drew state is) = record {
   before = form_data begin;
   had_focus = focused;
   draws = is.draws;
-  focused = drawn_if (form_data begin) (form_data stand.app) stand.screen stand.place (has_room stand.screen.area) refl is.draws focused;
+  focused = drawn_if (form_data begin) (form_data state.app) state.screen state.place (has_room state.screen.area) refl is.draws focused;
 }
-was_drawn begin area _ _ focused (lived reads bytes flow old new lives turn) =
-    let earlier = was_drawn begin area reads old focused lives in
-    let moved = takes_focused (heard old.keys bytes) Go flow old.app turn.moved earlier.focused turn.takes in
+was_drawn begin area _ _ focused (iterated reads bytes flow old new event_loop turn) =
+    let earlier = was_drawn begin area reads old focused event_loop in
+    let moved = takes_focused (events_of_read old.keys bytes) Go flow old.app turn.moved earlier.focused turn.takes in
     record {
       before = form_data turn.moved;
       had_focus = moved;
@@ -147,7 +147,7 @@ was_drawn begin area _ _ focused (lived reads bytes flow old new lives turn) =
       focused = drawn_if (form_data turn.moved) (form_data new.app) new.screen new.place (has_room new.screen.area) refl turn.draws moved;
     }
 
--- ---- what is seen of it
+-- ---- what is visible
 
 not_empty : (r : Rect) → 0 < r.width → 0 < r.height → is_empty r ≡ false
 not_empty r some high = grind (arith, nat_tests)
@@ -167,14 +167,14 @@ list_seen f area w h wide high focused =
     let l = form_list f in
     let r = inside f area in
     let some = inside_some f area w h wide high in
-    let count : length l.items ≡ length f.fields = length-items f.told f.focus 0 f.fields in
+    let count : length l.items ≡ length f.fields = length-items f.reported f.focus 0 f.fields in
     let items : 0 < length l.items = omega arith in
     let fits = is_inside f.title area w h wide high in
     let high_ = fits.height in
     let moves = list_moves l r (list_state f) (list_after l r (list_state f)) refl in
-    moves.seen some items f.focus (selected_at f area some focused) (omega (arith, low f.told f.focus 0 f.fields f.focus))
+    moves.seen some items f.focus (selected_at f area some focused) (omega (arith, low f.reported f.focus 0 f.fields f.focus))
 
--- a cell of the row of the focused value
+-- the row of the focused value has a cell
 row_has_cell : (f : FormData) (area : Rect) (offset : ℕ) → 11 < area.width → 3 < area.height → area.x + area.width ≤ 65535 → area.y + area.height ≤ 65535 →
     IsSeen (heights_of (form_list f).items) (inside f area).height offset f.focus → has_cell (value_row (inside f area) offset f.focus) ≡ true
 row_has_cell f area offset w h wide high seen =
@@ -188,8 +188,8 @@ row_has_cell f area offset w h wide high seen =
     let from = seen.from_offset in
     let to = seen.before_last in
     let last = seen.last in
-    let within : last ≤ length f.fields = omega (arith, seen.within, length-map (form_list f).items item_height, length-items f.told f.focus 0 f.fields) in
-    let rows : 2 * offset + total (heights_of (form_list f).items) offset last ≡ 2 * last = rows_of f.told f.focus f.fields offset last (omega arith) within in
+    let within : last ≤ length f.fields = omega (arith, seen.within, length-map (form_list f).items item_height, length-items f.reported f.focus 0 f.fields) in
+    let rows : 2 * offset + total (heights_of (form_list f).items) offset last ≡ 2 * last = rows_of f.reported f.focus f.fields offset last (omega arith) within in
     let below : 2 * (f.focus - offset) + 1 < r.height = omega (arith, seen.fits) in
     let x : row.x ≡ r.x + 4 = omega arith in
     let width : row.width + 4 ≡ r.width = omega arith in
@@ -216,7 +216,7 @@ text_shown row s is_masked place some is =
     let x = row.x + cursor_column i.mask t in
     shown_if row x place (covers row x row.y) refl is (moves.seen some)
 
--- a value of which a drawing makes a text was a text
+-- a value that is a text after drawing was a text before
 value_shown : (row : Rect) (v : ValueData) (text : TypedText) (is_masked : Bool) (place : Option Position) → has_cell row ≡ true →
     value_drawn row v ≡ typed_value text is_masked → place ≡ value_cursor row (value_drawn row v) → IsShownIn row place
 value_shown row (typed_value s m) text is_masked place some is cursor = text_shown row s m place some cursor
@@ -231,11 +231,11 @@ fields_shown row (f ∷ fs) zero text is_masked place some is cursor = value_sho
 fields_shown row (f ∷ fs) (suc i) text is_masked place some is cursor = fields_shown row fs i text is_masked place some is cursor
 
 -- a drawing keeps the heights of the items
-same_heights : (told : Option ℕ) (focus k : ℕ) (change : FieldData → FieldData) (i : ℕ) (fs : List FieldData) →
-    heights_of (items_from told focus k (changed_at change i fs)) ≡ heights_of (items_from told focus k fs)
-same_heights told focus k change i [] = refl
-same_heights told focus k change zero (f ∷ fs) = refl
-same_heights told focus k change (suc i) (f ∷ fs) = ap (λ (hs : List ℕ). 2 ∷ hs) (same_heights told focus (k + 1) change i fs)
+same_heights : (reported : Option ℕ) (focus k : ℕ) (change : FieldData → FieldData) (i : ℕ) (fs : List FieldData) →
+    heights_of (items_from reported focus k (changed_at change i fs)) ≡ heights_of (items_from reported focus k fs)
+same_heights reported focus k change i [] = refl
+same_heights reported focus k change zero (f ∷ fs) = refl
+same_heights reported focus k change (suc i) (f ∷ fs) = ap (λ (hs : List ℕ). 2 ∷ hs) (same_heights reported focus (k + 1) change i fs)
 
 has_within : (fs : List FieldData) (i : ℕ) (v : ValueData) → option_map (λ (f : FieldData). f.value) (slice_get fs i) ≡ Some v → i < length fs
 has_within [] i v is = cc
@@ -268,7 +268,7 @@ focus_seen before f screen place room focused shows =
     list_seen before area w h shows.right shows.bottom in
     let listed : IsListed area drawn = λ some.
     subst (λ (hs : List ℕ). IsSeen hs (inside before area).height (offset_in before area) before.focus)
-    (sym (same_heights before.told before.focus 0 (field_drawn row) before.focus before.fields)) (seen (focused (omega arith))) in
+    (sym (same_heights before.reported before.focus 0 (field_drawn row) before.focus before.fields)) (seen (focused (omega arith))) in
     let cursor : place ≡ cursor_over row drawn.fields before.focus = shows.cursor ∙ ap (λ (x : FormData). cursor_over row x.fields x.focus) shows.new_is in
     let shown : HasItsCursor area place drawn = λ text is_masked is.
     let within = has_within drawn.fields before.focus (typed_value text is_masked) is in
@@ -282,12 +282,12 @@ focus_seen before f screen place room focused shows =
     }
 
 pub form_is_shown : (o : Output) → WaitingShows form_behaviour o → FormIsShown o
-form_is_shown o waits begin area stand reads tape sent focused session =
-    let present = waits begin area stand reads tape sent session in
-    let drawn = was_drawn begin area reads stand focused present.lives in
+form_is_shown o waits begin area state reads trace sent focused session =
+    let present = waits begin area state reads trace sent session in
+    let drawn = was_drawn begin area reads state focused present.event_loop in
     record {
       present = present;
       focused = drawn.focused;
-      seen = λ room. focus_seen drawn.before (form_data stand.app) stand.screen stand.place room drawn.had_focus (drawn.draws.shows room);
+      seen = λ room. focus_seen drawn.before (form_data state.app) state.screen state.place room drawn.had_focus (drawn.draws.shows room);
       other = drawn.draws.other;
     }

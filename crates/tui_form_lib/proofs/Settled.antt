@@ -1,9 +1,9 @@
--- A form that was drawn draws the same again.
+-- Drawing a form twice gives the same screen.
 use Rattle.std.proofs.Common.{◌≡◌, ℕ, ◌+◌, ◌-◌, ◌<◌, min, zero, suc, Bool, true, false, List, [], ◌∷◌, ◌++◌, Option, Some, length, refl, sym, ap, ap₂, ◌∙◌, arith}
 use Rattle.std.proofs.lemmas.Bool.Decides.{nat_tests}
 use Rattle.std.proofs.lemmas.List.{length-map}
 use Rattle.std.specs.Prelude.{◌==◌, if◌then◌else◌}
-use Rattle.tui_cells.specs.Cell.{dress}
+use Rattle.tui_cells.specs.Cell.{set_style}
 use Rattle.tui_cells.specs.Layers.{Layer, stroke}
 use Rattle.tui_cells.specs.Rect.{covers, is_empty}
 use Rattle.tui_cells.specs.declared.rect.Rect.{Rect}
@@ -27,7 +27,7 @@ use Rattle.tui_form_lib.specs.Drawing.{
 }
 use Rattle.tui_form_lib.specs.Field.{FieldData}
 use Rattle.tui_form_lib.specs.Form.{FormData}
-use Rattle.tui_form_lib.specs.Lines.{field_item, is_told, items_from, label_line, value_line}
+use Rattle.tui_form_lib.specs.Lines.{field_item, is_reported, items_from, label_line, value_line}
 use Rattle.tui_form_lib.specs.Steps.{IsFocused, changed_at}
 use Rattle.tui_form_lib.specs.Value.{ValueData, check, choice, typed_value}
 use Rattle.tui_frames.specs.InBlock.{block_layers_if}
@@ -36,45 +36,45 @@ use Rattle.tui_input.specs.InputSettles.{input_settles}
 use Rattle.tui_input.specs.Scroll.{scrolled}
 use Rattle.tui_input.specs.State.{TypedText}
 use Rattle.tui_lists.proofs.ListMoved.{list_moves}
-use Rattle.tui_lists.proofs.ListShown.{strokes_stay}
+use Rattle.tui_lists.proofs.ListShown.{redraw_keeps_strokes}
 use Rattle.tui_lists.specs.List.{ListData, list_after}
 use Rattle.tui_lists.specs.ListItem.{ListItemData, heights_of, item_height}
-use Rattle.tui_lists.specs.ListSettles.{list_settles}
+use Rattle.tui_lists.specs.ListIdempotence.{list_is_idempotent}
 use Rattle.tui_lists.specs.ListStrokes.{content_layers, list_layers}
 use Rattle.tui_lists.specs.declared.list.state.ListState.{ListState}
 use Rattle.tui_text.specs.Line.{LineData}
 
 -- ---- the list
 
--- of the focused text the list shows nothing
+-- the list shows nothing of the focused text
 line_same : (row : Rect) (v : ValueData) → value_line true (value_drawn row v) ≡ value_line true v
 line_same row (typed_value s m) = refl
 line_same row (choice texts chosen) = refl
 line_same row (check is_on) = refl
 
 item_with : Bool → FieldData → LineData → ListItemData
-item_with told f line = let item = field_item told true f in record item { content = record item.content { lines = label_line told f ∷ line ∷ [] } }
+item_with reported f line = let item = field_item reported true f in record item { content = record item.content { lines = label_line reported f ∷ line ∷ [] } }
 
-item_same : (row : Rect) (told is_focused : Bool) (f : FieldData) → is_focused ≡ true → field_item told is_focused (field_drawn row f) ≡ field_item told is_focused f
+item_same : (row : Rect) (reported is_focused : Bool) (f : FieldData) → is_focused ≡ true → field_item reported is_focused (field_drawn row f) ≡ field_item reported is_focused f
 unfolding item_with
-item_same row told true f e = ap (item_with told f) (line_same row f.value)
-item_same row told false f e = cc
+item_same row reported true f e = ap (item_with reported f) (line_same row f.value)
+item_same row reported false f e = cc
 
-items_same : (row : Rect) (told : Option ℕ) (focus k i : ℕ) (fs : List FieldData) → k + i ≡ focus →
-    items_from told focus k (changed_at (field_drawn row) i fs) ≡ items_from told focus k fs
-items_same row told focus k i [] e = refl
-items_same row told focus k zero (f ∷ fs) e =
+items_same : (row : Rect) (reported : Option ℕ) (focus k i : ℕ) (fs : List FieldData) → k + i ≡ focus →
+    items_from reported focus k (changed_at (field_drawn row) i fs) ≡ items_from reported focus k fs
+items_same row reported focus k i [] e = refl
+items_same row reported focus k zero (f ∷ fs) e =
     let here : (k == focus) ≡ true = grind (arith, nat_tests) in
-    ap (λ (item : ListItemData). item ∷ items_from told focus (k + 1) fs) (item_same row (is_told told k) (k == focus) f here)
-items_same row told focus k (suc i) (f ∷ fs) e =
-    ap (λ (is : List ListItemData). field_item (is_told told k) (k == focus) f ∷ is) (items_same row told focus (k + 1) i fs (omega arith))
+    ap (λ (item : ListItemData). item ∷ items_from reported focus (k + 1) fs) (item_same row (is_reported reported k) (k == focus) f here)
+items_same row reported focus k (suc i) (f ∷ fs) e =
+    ap (λ (is : List ListItemData). field_item (is_reported reported k) (k == focus) f ∷ is) (items_same row reported focus (k + 1) i fs (omega arith))
 
 list_of_items : FormData → List ListItemData → ListData
 list_of_items f items = record (form_list f) { items = items }
 
 list_same : (f : FormData) (area : Rect) → form_list (form_drawn f area) ≡ form_list f
 unfolding list_of_items
-list_same f area = ap (list_of_items f) (items_same (row_in f area) f.told f.focus 0 f.focus f.fields (omega arith))
+list_same f area = ap (list_of_items f) (items_same (row_in f area) f.reported f.focus 0 f.focus f.fields (omega arith))
 
 state_at : ℕ → Option ℕ → ListState
 state_at offset selected = record { offset = offset; selected = selected }
@@ -82,12 +82,12 @@ state_at offset selected = record { offset = offset; selected = selected }
 not_empty : (r : Rect) → 0 < r.width → 0 < r.height → is_empty r ≡ false
 not_empty r some high = grind (arith, nat_tests)
 
--- the state that the drawing of the list leaves
+-- the list's state after its drawing
 pub selected_at : (f : FormData) (area : Rect) → is_empty (inside f area) ≡ false → f.focus < length f.fields →
     (list_after (form_list f) (inside f area) (list_state f)).selected ≡ Some f.focus
 selected_at f area some focused =
     let l = form_list f in
-    let count : length l.items ≡ length f.fields = length-items f.told f.focus 0 f.fields in
+    let count : length l.items ≡ length f.fields = length-items f.reported f.focus 0 f.fields in
     let items : 0 < length l.items = omega arith in
     let moves = list_moves l (inside f area) (list_state f) (list_after l (inside f area) (list_state f)) refl in
     let cut : min f.focus (length (heights_of l.items) - 1) ≡ f.focus = omega (arith, length-map l.items item_height) in
@@ -104,13 +104,13 @@ offset_stays f area some focused =
     let l = form_list f in
     let r = inside f area in
     ap (λ (s : ListState). s.offset) (ap₂ (λ (m : ListData) (s : ListState). list_after m r s) (list_same f area) (sym (state_is f area some focused))
-    ∙ list_settles l (list_state f) r)
+    ∙ list_is_idempotent l (list_state f) r)
 
 strokes_same : (f : FormData) (area : Rect) → is_empty (inside f area) ≡ false → f.focus < length f.fields →
     list_layers (form_list (form_drawn f area)) (list_state (form_drawn f area)) area ≡ list_layers (form_list f) (list_state f) area
 strokes_same f area some focused =
     ap₂ (λ (l : ListData) (s : ListState). list_layers l s area) (list_same f area) (sym (state_is f area some focused))
-    ∙ strokes_stay (form_list f) (list_state f) area
+    ∙ redraw_keeps_strokes (form_list f) (list_state f) area
 
 -- ---- the text over it
 
@@ -125,7 +125,7 @@ content_by i inner s false e = refl
 typed_same : (row : Rect) (v : ValueData) → typed_layers row (value_drawn row v) ≡ typed_layers row v
 typed_same row (typed_value s m) =
     let i = text_input m in
-    ap (λ (ls : List Layer). stroke (covers row) (dress i.style) ++ (block_layers_if i.block row ++ ls))
+    ap (λ (ls : List Layer). stroke (covers row) (set_style i.style) ++ (block_layers_if i.block row ++ ls))
     (content_by i row s (has_cell row) (input_settles i s row))
 typed_same row (choice texts chosen) = refl
 typed_same row (check is_on) = refl
@@ -154,10 +154,10 @@ empty_same : (f : FormData) (area : Rect) → length f.fields ≡ 0 → form_lay
 empty_same f area none =
     let g = form_drawn f area in
     let fewer : length g.fields ≡ 0 = length-changed_at (field_drawn (row_in f area)) f.focus f.fields ∙ none in
-    let items_f : length (form_list f).items ≡ 0 = length-items f.told f.focus 0 f.fields ∙ none in
-    let items_g : length (form_list g).items ≡ 0 = length-items f.told f.focus 0 g.fields ∙ fewer in
+    let items_f : length (form_list f).items ≡ 0 = length-items f.reported f.focus 0 f.fields ∙ none in
+    let items_g : length (form_list g).items ≡ 0 = length-items f.reported f.focus 0 g.fields ∙ fewer in
     let content = content_empty (form_list g) (inside f area) (list_state g) items_g ∙ sym (content_empty (form_list f) (inside f area) (list_state f) items_f) in
-    let list = ap (λ (ls : List Layer). stroke (covers area) (dress (form_list f).style) ++ (block_layers_if (Some (titled_block f.title)) area ++ ls)) content in
+    let list = ap (λ (ls : List Layer). stroke (covers area) (set_style (form_list f).style) ++ (block_layers_if (Some (titled_block f.title)) area ++ ls)) content in
     let over_g = read_past (λ (x : FieldData). typed_layers (row_in g area) x.value) [] g.fields g.focus (omega arith) in
     let over_f = read_past (λ (x : FieldData). typed_layers (row_in f area) x.value) [] f.fields f.focus (omega arith) in
     ap₂ (λ (a b : List Layer). a ++ b) list (over_g ∙ sym over_f)
@@ -167,6 +167,6 @@ by_count : (f : FormData) (area : Rect) (n : ℕ) → length f.fields ≡ n → 
 by_count f area zero count some focused = empty_same f area count
 by_count f area (suc n) count some focused = focused_same f area some (focused (omega arith))
 
--- the strokes of a form that was drawn are those of the form before
+-- a form draws the same strokes after a drawing as before it
 pub layers_settle : (f : FormData) (area : Rect) → is_empty (inside f area) ≡ false → IsFocused f → form_layers (form_drawn f area) area ≡ form_layers f area
 layers_settle f area some focused = by_count f area (length f.fields) refl some focused

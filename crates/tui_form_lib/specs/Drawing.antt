@@ -24,7 +24,7 @@ use Rattle.std.specs.Prelude.{
   if◌then◌else◌,
 }
 use Rattle.std.specs.Option.{option_map_or}
-use Rattle.tui_app.specs.TooSmall.{SaysTooSmall}
+use Rattle.tui_app.specs.TooSmall.{DrawsTooSmall}
 use Rattle.tui_cells.specs.Buffer.{Screen, cell_at}
 use Rattle.tui_cells.specs.Cell.{blank}
 use Rattle.tui_cells.specs.Layers.{Layer, layers_at}
@@ -54,9 +54,9 @@ has_room area = nat_lt 11 area.width && nat_lt 3 area.height
 abbrev pub titled_block : List ℕ → BlockData
 titled_block title = record (block_of 15) { titles = record { line = raw_line title; position = None } ∷ [] }
 
--- the fields in a block with the title, of which the focused one is marked
+-- the fields in a block with the title; the focused one is marked
 abbrev pub form_list : FormData → ListData
-form_list f = record (list_of (items_from f.told f.focus 0 f.fields)) { block = Some (titled_block f.title); symbol = Some (raw_line (codes "> ")) }
+form_list f = record (list_of (items_from f.reported f.focus 0 f.fields)) { block = Some (titled_block f.title); symbol = Some (raw_line (codes "> ")) }
 
 -- it selects the focused field
 abbrev pub list_state : FormData → ListState
@@ -71,7 +71,8 @@ offset_in f area = (list_after (form_list f) (inside f area) (list_state f)).off
 
 -- ---- the text that is typed
 
--- the row of the focused field's value, in a list from an offset on: below its label, beside the mark and two columns in
+-- the row of the focused field's value, in a list that begins with field `offset`: below its label, beside the
+-- highlight symbol and indented by two columns
 abbrev pub value_row : Rect → ℕ → ℕ → Rect
 value_row inside offset focus = columns_from (rows_from inside (min (2 * (focus - offset) + 1) inside.height) 1) 4 inside.width
 
@@ -86,7 +87,8 @@ focused_row f area = value_row (inside f area) f.offset f.focus
 abbrev pub text_input : Bool → InputData
 text_input is_masked = record bare_input { mask = if is_masked then Some (codes "*") else None }
 
--- Over its row a text is drawn as an input, which scrolls it for its cursor to be seen. Other values have been drawn by the list.
+-- A text is drawn over its row as an input, which scrolls so that its cursor is visible. Other values have been drawn
+-- by the list.
 abbrev pub typed_layers : Rect → ValueData → List Layer
 typed_layers row (typed_value text is_masked) = input_layers (text_input is_masked) text row
 typed_layers row _ = []
@@ -104,7 +106,7 @@ value_cursor row _ = None
 abbrev pub field_drawn : Rect → FieldData → FieldData
 field_drawn row f = record f { value = value_drawn row f.value }
 
--- the strokes over the row of the field at a place
+-- the strokes over the row of the field at an index
 abbrev pub layers_over : Rect → List FieldData → ℕ → List Layer
 layers_over row fields place = option_map_or (λ f. typed_layers row f.value) (slice_get fields place) []
 
@@ -116,7 +118,7 @@ cursor_over row fields place = option_map_or (λ f. value_cursor row f.value) (s
 abbrev pub form_layers : FormData → Rect → List Layer
 form_layers f area = list_layers (form_list f) (list_state f) area ++ layers_over (row_in f area) f.fields f.focus
 
--- a form behind a drawing: the list and the focused text have scrolled
+-- a form after a drawing: the list and the focused text have scrolled
 abbrev pub form_drawn : FormData → Rect → FormData
 form_drawn f area = record f { offset = offset_in f area; fields = changed_at (field_drawn (row_in f area)) f.focus f.fields }
 
@@ -128,9 +130,9 @@ pub record ShowsForm (f : FormData) (screen : Screen) (place : Option Position) 
   pub new_is : new ≡ form_drawn f screen.area
   pub cursor : place ≡ cursor_over (row_in f screen.area) new.fields new.focus
 
--- the form, where there is room, and else that the screen is too small
+-- the form if there is room, and `too small` otherwise
 pub record FormDraws (f : FormData) (screen : Screen) (place : Option Position) (new : FormData) : Type 0 where
   pub shows : has_room screen.area ≡ true → ShowsForm f screen place new
-  pub other : has_room screen.area ≡ false → SaysTooSmall screen
+  pub other : has_room screen.area ≡ false → DrawsTooSmall screen
   pub stays : has_room screen.area ≡ false → new ≡ f
   pub hidden : has_room screen.area ≡ false → place ≡ None

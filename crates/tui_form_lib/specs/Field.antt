@@ -1,4 +1,4 @@
--- A field as plain data, and what it answers.
+-- A field as plain data, and its answer.
 use Rattle.std.specs.Prelude.{ℕ, ◌&&◌, Bool, List, [], string_bytes, unwrap_or}
 use Rattle.tui_form_lib.specs.Value.{ValueData, check, choice, chosen_text, is_empty_value, typed_value, value_data}
 use Rattle.tui_form_lib.specs.declared.field.Answer.{Answer}
@@ -27,7 +27,7 @@ abbrev pub answer_data : Answer → Reply
 answer_data (answers.Text text) = text_reply text.now
 answer_data (answers.Flag flag) = flag_reply flag
 
--- what a value answers: the text that is typed or chosen, the empty one where none is; whether a box is checked
+-- the answer of a value: the text that is typed or chosen, empty if there is none; or whether a box is checked
 abbrev pub answer_of : ValueData → Reply
 answer_of (typed_value text is_masked) = text_reply (text_of text)
 answer_of (choice texts chosen) = text_reply (unwrap_or (chosen_text texts chosen) [])

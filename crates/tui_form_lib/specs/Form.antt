@@ -5,14 +5,15 @@ use Rattle.tui_form_lib.specs.declared.form.Form as code
 use Rattle.tui_form_lib.specs.declared.form.Outcome.{Outcome}
 use Rattle.tui_form_lib.specs.declared.form.Outcome.TheVariants.{Open}
 
--- A form as plain data: its title and fields; the place of the field that has the focus; the first field that is drawn; the field that is told to be
--- needed; whether the last key was Esc; whether a paste is passed over; and how far it is.
+-- A form as plain data: its title and fields; the index of the field that has the focus; the first field that is drawn;
+-- the field that is marked as needed; whether the last key was Esc; whether a paste is being ignored; and the form's
+-- outcome.
 pub record FormData : Type 0 where
   pub title : List ℕ
   pub fields : List FieldData
   pub focus : ℕ
   pub offset : ℕ
-  pub told : Option ℕ
+  pub reported : Option ℕ
   pub is_escaped : Bool
   pub is_skipping : Bool
   pub outcome : Outcome
@@ -24,7 +25,7 @@ form_data f = record {
   fields = map field_data f.fields.items;
   focus = f.focus;
   offset = f.offset;
-  told = f.told;
+  reported = f.reported;
   is_escaped = f.is_escaped;
   is_skipping = f.is_skipping;
   outcome = f.outcome;
@@ -37,7 +38,7 @@ new_form title fields = record {
   fields = fields;
   focus = 0;
   offset = 0;
-  told = None;
+  reported = None;
   is_escaped = false;
   is_skipping = false;
   outcome = Open;

@@ -1,6 +1,6 @@
 pub mod Value
 pub mod Field
-pub mod Asked
+pub mod FormAction
 pub mod Form
 pub mod Steps
 pub mod Lines

@@ -34,7 +34,7 @@ use crate::form::Form;
 use crate::items::field_items;
 use crate::value::Value;
 use std::alloc::Global;
-use tui_app::say_too_small;
+use tui_app::draw_too_small;
 use tui_cells::{Buffer, Mem, Position, Rect, StatefulWidget};
 use tui_frames::Block;
 use tui_input::Input;
@@ -47,8 +47,9 @@ const LEAST_WIDTH: u16 = 12;
 const LEAST_HEIGHT: u16 = 4;
 
 impl Form {
-    /// Draws into a blank buffer, and answers where the cursor of a focused text is shown: the fields one below the other in borders with the title,
-    /// each with its value below its label. Where there is no room for that it says so.
+    /// Draws into a blank buffer, and returns where the cursor of a focused text is shown. The fields are drawn one
+    /// below the other in borders with the title, each with its value below its label. A screen without room for that
+    /// shows `too small`.
     pub(crate) fn draw_form(&mut self, alloc: Global, buf: &mut Buffer) -> Mem<Option<Position>>
         requires { IsFilled buf.old.area blank buf.old }
         ensures draws { IfOk result (λ place. FormDraws (form_data self.old) buf.new place (form_data self.new)) }
@@ -57,7 +58,7 @@ impl Form {
         if has_room(buf.area()) {
             return self.draw_in_room(alloc, buf);
         }
-        say_too_small(buf)?;
+        draw_too_small(buf)?;
         Ok(None)
     }
 
@@ -67,7 +68,7 @@ impl Form {
         ensures shows { IfOk result (λ place. ShowsForm (form_data self.old) buf.new place (form_data self.new)) }
         ensures area { OnOk result (buf.new.area ≡ buf.old.area) }
     {
-        // The shape of the rows is told by their count.
+        // This call gives the proofs the shape of the buffer's rows.
         let _height = buf.height();
         let mut state = self.list_state();
         let inside = self.draw_list(alloc, &mut state, buf)?;
@@ -77,7 +78,7 @@ impl Form {
         Ok(place)
     }
 
-    /// The list selects the focused field.
+    /// Returns the state of a list that selects the focused field.
     fn list_state(&self) -> ListState
         ensures { result ≡ list_state (form_data self.now) }
     {
@@ -86,7 +87,7 @@ impl Form {
             .with_selected(Some(self.focus))
     }
 
-    /// Draws the list of the fields over a buffer, and answers the area inside its borders.
+    /// Draws the list of the fields over a buffer, and returns the area inside its borders.
     fn draw_list(&self, alloc: Global, state: &mut ListState, buf: &mut Buffer) -> Mem<Rect>
         ensures cells { let area = buf.old.area in
             OnOk result (Painted (list_layers (form_list (form_data self.now)) state.old (intersection_of area area)) buf.old buf.new) }
@@ -102,11 +103,11 @@ impl Form {
         Ok(inside)
     }
 
-    /// The list of the fields in a block.
+    /// Returns the list of the fields in a block.
     fn list<'f>(&'f self, alloc: Global, block: Block<'f>) -> Mem<List<'f>>
         ensures { IfOk result (λ list. list_data list ≡ record (form_list (form_data self.now)) { block = Some (block_data block.entry) }) }
     {
-        let items = field_items(alloc, &self.fields, self.told, self.focus)?;
+        let items = field_items(alloc, &self.fields, self.reported, self.focus)?;
         let symbol = Line::raw(alloc, "> ")?;
         Ok(
             List::new(alloc, items)?
@@ -115,7 +116,7 @@ impl Form {
         )
     }
 
-    /// Draws a focused text over its row, and answers where its cursor is shown.
+    /// Draws a focused text over its row, and returns where its cursor is shown.
     fn draw_over(&mut self, alloc: Global, row: Rect, buf: &mut Buffer) -> Mem<Option<Position>>
         ensures cells { let f = form_data self.old in
             OnOk result (Painted (layers_over (intersection_of row buf.old.area) f.fields f.focus) buf.old buf.new) }
@@ -133,7 +134,8 @@ impl Form {
 }
 
 impl Value {
-    /// Draws a text as an input over its row, and answers where its cursor is shown. Other values have been drawn by the list.
+    /// Draws a text as an input over its row, and returns where its cursor is shown. Other values have been drawn by
+    /// the list.
     fn draw(&mut self, alloc: Global, row: Rect, buf: &mut Buffer) -> Mem<Option<Position>>
         ensures cells { OnOk result (Painted (typed_layers (intersection_of row buf.old.area) (value_data self.old)) buf.old buf.new) }
         ensures value { OnOk result (value_data self.new ≡ value_drawn (intersection_of row buf.old.area) (value_data self.old)) }
@@ -150,7 +152,7 @@ impl Value {
     }
 }
 
-/// An input of a text, masked by stars or not.
+/// Returns the input of a text, masked by stars or not.
 fn text_input(is_masked: bool) -> Input<'static>
     ensures { input_data result ≡ text_input is_masked }
 {
@@ -167,7 +169,8 @@ fn has_room(area: Rect) -> bool
     LEAST_WIDTH <= area.width && LEAST_HEIGHT <= area.height
 }
 
-/// The row of the focused field's value in the area of a list, from a first field on: below its label, beside the mark and two columns in.
+/// Returns the row of the focused field's value in the area of a list that begins with field `offset`. It is below the
+/// label, beside the highlight symbol and indented by two columns.
 fn value_row(inside: Rect, offset: usize, focus: usize) -> Rect
     ensures { result ≡ value_row inside offset focus }
 {
@@ -179,7 +182,7 @@ fn value_row(inside: Rect, offset: usize, focus: usize) -> Rect
     inside.rows_from(row, 1).columns_from(4, inside.width)
 }
 
-/// Borders on all sides, and a title.
+/// Returns a block with borders on all sides and a title.
 fn titled_block<'t>(alloc: Global, title: &'t str) -> Mem<Block<'t>>
     ensures { IfOk result (λ block. block_data block ≡ titled_block title.now) }
 {

@@ -6,7 +6,7 @@ ghost use Rattle.tui_form_lib.specs.Value.{is_empty_value};
 
 use crate::value::{Value, chosen_or_empty};
 
-/// A field: what its answer goes by, what is shown above it, whether it has to be filled in, and its value.
+/// A field: the name of its answer, the label above it, whether it must be filled in, and its value.
 pub struct FormField {
     pub name: String,
     pub label: String,
@@ -14,7 +14,7 @@ pub struct FormField {
     pub value: Value,
 }
 
-// Written out, so that a crate above proves nothing of what it holds to let it go.
+// Written out, so that a crate that uses it needs no proof about its fields to drop it.
 impl Drop for FormField {
     fn drop(self) {
         let FormField {
@@ -26,7 +26,7 @@ impl Drop for FormField {
     }
 }
 
-/// What a field answers.
+/// The answer of a field.
 #[derive(Clone, Copy, Debug, PartialEq, Eq)]
 pub enum Answer<'a> {
     Text(&'a str),
@@ -34,25 +34,26 @@ pub enum Answer<'a> {
 }
 
 impl FormField {
-    /// The text that is typed or chosen, or whether the box is checked. A choice that is not made answers the empty text.
+    /// Returns the text that is typed or chosen, or whether the box is checked. If nothing is chosen, the text is
+    /// empty.
     pub fn answer(&self) -> Answer<'_>
         ensures { answer_data result ≡ answer_of (field_data self.now).value }
     {
         match &self.value {
             Value::Text { input, .. } => Answer::Text(input.text()),
-            Value::Choice { of, chosen } => Answer::Text(chosen_or_empty(of, *chosen)),
+            Value::Choice { options, chosen } => Answer::Text(chosen_or_empty(options, *chosen)),
             Value::Check(is_on) => Answer::Flag(*is_on),
         }
     }
 
-    /// Whether nothing is filled in: a text without characters, a choice that is not made, a box that is not checked.
+    /// Returns whether nothing is filled in: no character is typed, nothing is chosen, or the box is not checked.
     pub fn is_empty(&self) -> bool
         ensures { result ≡ is_empty_value (field_data self.now).value }
     {
         self.value.is_empty()
     }
 
-    /// Whether it is needed and not filled in.
+    /// Returns whether it is needed and not filled in.
     pub(crate) fn is_missing(&self) -> bool
         ensures { result ≡ is_missing (field_data self.now) }
     {

@@ -10,35 +10,35 @@ use tui_app::{App, Flow};
 use tui_cells::{Buffer, Mem, Position};
 use tui_keys::Event;
 
-/// How far a form is.
+/// The state of a form.
 #[derive(Clone, Copy, Debug, PartialEq, Eq)]
 pub enum Outcome {
     /// It is being filled in.
     Open,
-    /// Enter has accepted it: each field that is needed is filled in.
+    /// The user accepted it with Enter: each field that is needed is filled in.
     Accepted,
-    /// It was left without an answer.
+    /// The user left it without an answer.
     Left,
 }
 
-/// Fields one below the other, of which one has the focus.
+/// Fields one below the other, one of which has the focus.
 pub struct Form {
     pub(crate) title: String,
     pub(crate) fields: Vec<FormField>,
-    /// The place of the field that events go to.
+    /// The index of the field that events go to.
     pub(crate) focus: usize,
     /// The first field that the last drawing has shown.
     pub(crate) offset: usize,
-    /// The field that is told to be needed.
-    pub(crate) told: Option<usize>,
+    /// The field that is marked as needed.
+    pub(crate) reported: Option<usize>,
     /// Whether the last key was Esc.
     pub(crate) is_escaped: bool,
-    /// Whether a paste is passed over.
+    /// Whether a paste is being ignored.
     pub(crate) is_skipping: bool,
     pub(crate) outcome: Outcome,
 }
 
-// Written out, so that a crate above proves nothing of what it holds to let it go.
+// Written out, so that a crate that uses it needs no proof about its fields to drop it.
 impl Drop for Form {
     fn drop(self) {
         let Form {
@@ -46,7 +46,7 @@ impl Drop for Form {
             fields,
             focus,
             offset,
-            told,
+            reported,
             is_escaped,
             is_skipping,
             outcome,
@@ -55,7 +55,7 @@ impl Drop for Form {
 }
 
 impl Form {
-    /// An open form of these fields, of which the first has the focus.
+    /// Returns an open form of these fields, with the focus on the first one.
     pub fn new(title: String, fields: Vec<FormField>) -> Form
         ensures { form_data result ≡ new_form (string_bytes title) (map field_data fields.items) }
     {
@@ -64,21 +64,21 @@ impl Form {
             fields,
             focus: 0,
             offset: 0,
-            told: None,
+            reported: None,
             is_escaped: false,
             is_skipping: false,
             outcome: Outcome::Open,
         }
     }
 
-    /// The fields, in order.
+    /// Returns the fields, in order.
     pub fn fields(&self) -> &[FormField]
         ensures { map field_data result.now ≡ (form_data self.now).fields }
     {
         &self.fields
     }
 
-    /// How far it is.
+    /// Returns whether the form is open, accepted or left.
     pub fn outcome(&self) -> Outcome
         ensures { result ≡ (form_data self.now).outcome }
     {

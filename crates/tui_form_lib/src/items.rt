@@ -7,11 +7,11 @@ ghost use Rattle.tui_form_lib.specs.Lines.{
   box_text,
   choice_spans,
   field_item,
-  is_told,
+  is_reported,
   items_from,
   label_line,
   needed_mark,
-  told_mark,
+  reported_mark,
   text_spans,
   value_line,
   value_spans,
@@ -31,51 +31,51 @@ use tui_lists::ListItem;
 use tui_text::{Line, Span, Text};
 use unicode_segmentation::UnicodeSegmentation;
 
-/// The fields as items, of which one is told to be needed and one has the focus.
+/// Returns the fields as items. One may be marked as needed, and one has the focus.
 pub(crate) fn field_items<'f>(
     alloc: Global,
     fields: &'f [FormField],
-    told: Option<usize>,
+    reported: Option<usize>,
     focus: usize,
 ) -> Mem<Vec<ListItem<'f>>>
-    ensures { IfOk result (λ items. map list_item_data items.items ≡ items_from told focus 0 (map field_data fields.now)) }
+    ensures { IfOk result (λ items. map list_item_data items.items ≡ items_from reported focus 0 (map field_data fields.now)) }
 {
     let mut items = Vec::with_capacity(alloc, fields.len())?;
     'fields: for place in 0..fields.len() {
-        let is_told = is_told(told, place);
-        items.push(field_item(alloc, &fields[place], is_told, place == focus)?)?;
+        let is_reported = is_reported(reported, place);
+        items.push(field_item(alloc, &fields[place], is_reported, place == focus)?)?;
     }
     Ok(items)
 }
 
-fn is_told(told: Option<usize>, place: usize) -> bool
-    ensures { result ≡ is_told told place }
+fn is_reported(reported: Option<usize>, place: usize) -> bool
+    ensures { result ≡ is_reported reported place }
 {
-    told == Some(place)
+    reported == Some(place)
 }
 
-/// The label, and the value below it.
+/// Returns the label, and the value below it.
 fn field_item<'f>(
     alloc: Global,
     field: &'f FormField,
-    is_told: bool,
+    is_reported: bool,
     is_focused: bool,
 ) -> Mem<ListItem<'f>>
-    ensures { IfOk result (λ item. list_item_data item ≡ field_item is_told is_focused (field_data field.now)) }
+    ensures { IfOk result (λ item. list_item_data item ≡ field_item is_reported is_focused (field_data field.now)) }
 {
     let mut text = Text::new(alloc);
-    text.push_line(label_line(alloc, field, is_told)?)?;
+    text.push_line(label_line(alloc, field, is_reported)?)?;
     text.push_line(value_line(alloc, &field.value, is_focused)?)?;
     Ok(ListItem::new(text))
 }
 
-/// The label, a star where the field is needed, and that it is, where that is told.
-fn label_line<'f>(alloc: Global, field: &'f FormField, is_told: bool) -> Mem<Line<'f>>
-    ensures { IfOk result (λ line. line_data line ≡ label_line is_told (field_data field.now)) }
+/// Returns the label, a star if the field is needed, and the word `needed` if it is marked.
+fn label_line<'f>(alloc: Global, field: &'f FormField, is_reported: bool) -> Mem<Line<'f>>
+    ensures { IfOk result (λ line. line_data line ≡ label_line is_reported (field_data field.now)) }
 {
     let mut line = Line::raw(alloc, field.label.as_str())?;
     line.push_span(Span::raw(needed_mark(field.is_needed)))?;
-    line.push_span(Span::styled(told_mark(is_told), bold()))?;
+    line.push_span(Span::styled(reported_mark(is_reported), bold()))?;
     Ok(line)
 }
 
@@ -85,10 +85,10 @@ fn needed_mark(is_needed: bool) -> &'static str
     if is_needed { " *" } else { "" }
 }
 
-fn told_mark(is_told: bool) -> &'static str
-    ensures { result.now ≡ told_mark is_told }
+fn reported_mark(is_reported: bool) -> &'static str
+    ensures { result.now ≡ reported_mark is_reported }
 {
-    if is_told { " needed" } else { "" }
+    if is_reported { " needed" } else { "" }
 }
 
 fn bold() -> Style
@@ -97,7 +97,7 @@ fn bold() -> Style
     Style::new().add_modifier(Modifier::BOLD)
 }
 
-/// The value, two columns in.
+/// Returns the value, indented by two columns.
 fn value_line<'f>(alloc: Global, value: &'f Value, is_focused: bool) -> Mem<Line<'f>>
     ensures { IfOk result (λ line. line_data line ≡ value_line is_focused (value_data value.now)) }
 {
@@ -106,7 +106,7 @@ fn value_line<'f>(alloc: Global, value: &'f Value, is_focused: bool) -> Mem<Line
     Ok(line)
 }
 
-/// What the list shows of a value. A text that has the focus is left out: it is drawn over the line.
+/// Adds the value as the list shows it. A focused text is left out, since it is drawn over the line.
 fn push_value<'f>(line: &mut Line<'f>, value: &'f Value, is_focused: bool) -> Mem<()>
     ensures { OnOk result (line_data line.new
         ≡ record (line_data line.old) { spans = (line_data line.old).spans ++ value_spans is_focused (value_data value.now) }) }
@@ -119,7 +119,7 @@ fn push_value<'f>(line: &mut Line<'f>, value: &'f Value, is_focused: bool) -> Me
                 push_text(line, input, *is_masked)
             }
         }
-        Value::Choice { of, chosen } => push_choice(line, of, *chosen),
+        Value::Choice { options, chosen } => push_choice(line, options, *chosen),
         Value::Check(is_on) => line.push_span(Span::raw(box_text(*is_on))),
     }
 }
@@ -139,7 +139,7 @@ fn box_text(is_on: bool) -> &'static str
     if is_on { "[x]" } else { "[ ]" }
 }
 
-/// A text, or a star for each of its graphemes.
+/// Adds a text, or a star for each of its graphemes.
 fn push_text<'f>(line: &mut Line<'f>, input: &'f InputState, is_masked: bool) -> Mem<()>
     ensures { OnOk result (line_data line.new
         ≡ record (line_data line.old) { spans = (line_data line.old).spans ++ text_spans input.now is_masked }) }

@@ -1,13 +1,13 @@
-//! A form as an app: fields with values, which keys fill in.
+//! A form as an app: keys fill in its fields.
 #![tactic(auto)]
 
-mod asking;
+mod actions;
 mod drawing;
 mod field;
 mod form;
+mod indices;
 mod items;
 mod laws;
-mod places;
 mod steps;
 mod value;
 

@@ -1,4 +1,4 @@
-//! What events make of a form.
+//! How events change a form.
 
 ghost use Rattle.std.specs.Prelude.{◌≡◌, IfOk, OnOk, if◌then◌else◌, map};
 ghost use Rattle.tui_form_lib.specs.Field.{field_data};
@@ -10,23 +10,24 @@ ghost use Rattle.tui_form_lib.specs.Steps.{
   first_missing,
   flow_after,
   flow_for,
-  obeyed,
+  performed,
   skipped,
-  still_told,
+  still_reported,
   taken,
   takes,
 };
 
-use crate::asking::{Asked, asked_by};
+use crate::actions::{FormAction, action_for};
 use crate::field::FormField;
 use crate::form::{Form, Outcome};
-use crate::places::{place_before, place_behind};
+use crate::indices::{place_after, place_before};
 use tui_app::Flow;
 use tui_cells::Mem;
 use tui_keys::Event;
 
 impl Form {
-    /// Takes an event, and answers how it goes on. A paste that no text takes is passed over; else the focused field is offered the event first.
+    /// Takes an event, and returns how the session goes on. Ignores a paste that no text takes. The focused field is
+    /// offered any other event first.
     pub(crate) fn take(&mut self, event: Event) -> Mem<Flow>
         ensures after { OnOk result (form_data self.new ≡ after_event (form_data self.old) event) }
         ensures flow { IfOk result (λ flow. flow ≡ flow_after (form_data self.old) event) }
@@ -49,10 +50,10 @@ impl Form {
         if self.offer(event)? {
             return Ok(Flow::Go);
         }
-        Ok(self.obey(asked_by(event, self.is_escaped)))
+        Ok(self.perform(action_for(event, self.is_escaped)))
     }
 
-    /// Passes over what is pasted, up to its end.
+    /// Ignores what is pasted, up to its end.
     fn skip(&mut self, event: Event)
         ensures { form_data self.new ≡ skipped (form_data self.old) event }
     {
@@ -61,7 +62,7 @@ impl Form {
         }
     }
 
-    /// Offers an event to the focused field, and answers whether that has taken it.
+    /// Offers an event to the focused field, and returns whether the field has used it.
     fn offer(&mut self, event: Event) -> Mem<bool>
         ensures taken { IfOk result (λ is_taken. form_data self.new ≡ (if is_taken then taken (form_data self.old) event else form_data self.old)) }
         ensures takes { IfOk result (λ is_taken. is_taken ≡ takes (form_data self.old) event) }
@@ -72,47 +73,48 @@ impl Form {
         if !self.fields[self.focus].value.take(event)? {
             return Ok(false);
         }
-        self.told = still_told(&self.fields, self.told);
+        self.reported = still_reported(&self.fields, self.reported);
         Ok(true)
     }
 
-    /// Does what is asked, and answers how it goes on.
-    fn obey(&mut self, asked: Asked) -> Flow
-        ensures after { form_data self.new ≡ obeyed (form_data self.old) asked }
-        ensures flow { result ≡ flow_for (form_data self.old) asked }
+    /// Performs an action, and returns how the session goes on.
+    fn perform(&mut self, action: FormAction) -> Flow
+        ensures after { form_data self.new ≡ performed (form_data self.old) action }
+        ensures flow { result ≡ flow_for (form_data self.old) action }
     {
-        match asked {
-            Asked::Nothing => Flow::Go,
-            Asked::Redraw => Flow::Redraw,
-            Asked::Next => {
-                self.focus = place_behind(self.fields.len(), Some(self.focus));
+        match action {
+            FormAction::Nothing => Flow::Go,
+            FormAction::Redraw => Flow::Redraw,
+            FormAction::Next => {
+                self.focus = place_after(self.fields.len(), Some(self.focus));
                 Flow::Go
             }
-            Asked::Previous => {
+            FormAction::Previous => {
                 self.focus = place_before(self.fields.len(), Some(self.focus));
                 Flow::Go
             }
-            Asked::Accept => self.accept(),
-            Asked::Leave => {
+            FormAction::Accept => self.accept(),
+            FormAction::Leave => {
                 self.outcome = Outcome::Left;
                 Flow::Quit
             }
-            Asked::Skip => {
+            FormAction::Skip => {
                 self.is_skipping = true;
                 Flow::Go
             }
         }
     }
 
-    /// Accepts the form, unless a field is needed that is empty: the first such field takes the focus and is told.
+    /// Accepts the form, unless a needed field is empty. Then the first such field gets the focus and is marked as
+    /// needed.
     fn accept(&mut self) -> Flow
         ensures after { form_data self.new ≡ accepting (form_data self.old) (first_missing (form_data self.old).fields) }
-        ensures flow { result ≡ flow_for (form_data self.old) Asked.Accept }
+        ensures flow { result ≡ flow_for (form_data self.old) FormAction.Accept }
     {
         match first_missing(&self.fields) {
             Some(place) => {
                 self.focus = place;
-                self.told = Some(place);
+                self.reported = Some(place);
                 Flow::Go
             }
             None => {
@@ -123,7 +125,7 @@ impl Form {
     }
 }
 
-/// The first field that is needed and empty.
+/// Returns the first field that is needed and empty.
 fn first_missing(fields: &[FormField]) -> Option<usize>
     ensures { result ≡ first_missing (map field_data fields.now) }
 {
@@ -135,11 +137,11 @@ fn first_missing(fields: &[FormField]) -> Option<usize>
     None
 }
 
-/// A field that is told to be needed, as long as it is empty.
-fn still_told(fields: &[FormField], told: Option<usize>) -> Option<usize>
-    ensures { result ≡ still_told (map field_data fields.now) told }
+/// Returns the field that is marked as needed, as long as it is empty.
+fn still_reported(fields: &[FormField], reported: Option<usize>) -> Option<usize>
+    ensures { result ≡ still_reported (map field_data fields.now) reported }
 {
-    let place = told?;
+    let place = reported?;
     if place < fields.len() && fields[place].is_empty() {
         Some(place)
     } else {
@@ -147,7 +149,7 @@ fn still_told(fields: &[FormField], told: Option<usize>) -> Option<usize>
     }
 }
 
-/// Whether the last key is Esc behind an event: a tick and another size are no keys.
+/// Returns whether Esc is the last key after an event. A tick and a new size are not keys.
 fn escaped_after(is_escaped: bool, event: Event) -> bool
     ensures { result ≡ escaped_after is_escaped event }
 {

@@ -1,55 +1,56 @@
-//! What a field of a form holds.
+//! The value of a field of a form.
 
 ghost use Rattle.std.specs.Option.{option_copied, option_or};
 ghost use Rattle.std.specs.Prelude.{◌≡◌, [], IfOk, OnErr, OnOk, if◌then◌else◌, is_some, map, not, string_bytes, unwrap_or};
 ghost use Rattle.tui_form_lib.specs.Value.{chosen_by, chosen_text, is_blank, is_empty_value, value_after, value_data, value_takes};
 
-use crate::places::{place_before, place_behind};
+use crate::indices::{place_after, place_before};
 use tui_cells::Mem;
 use tui_input::InputState;
 use tui_keys::Event;
 
-/// What a field asks for, and what it holds.
+/// The kind of a field, and its value.
 pub enum Value {
-    /// A text that is typed; where it is masked a `*` is shown for each grapheme.
+    /// A text that is typed. If it is masked, a `*` is shown for each grapheme.
     Text {
         input: InputState,
         is_masked: bool,
     },
-    /// One of some texts by its place. Where there is none yet, or a place past the texts, nothing is chosen.
+    /// One of some texts, by its index. Nothing is chosen if there is no index, or one past the texts.
     Choice {
-        of: Vec<String>,
+        options: Vec<String>,
         chosen: Option<usize>,
     },
     /// A box that is checked or not.
     Check(bool),
 }
 
-// Written out, so that a crate above proves nothing of what it holds to let it go.
+// Written out, so that a crate that uses it needs no proof about its fields to drop it.
 impl Drop for Value {
     fn drop(self) {
         match self {
             Value::Text { input, is_masked } => {}
-            Value::Choice { of, chosen } => {}
+            Value::Choice { options, chosen } => {}
             Value::Check(is_on) => {}
         }
     }
 }
 
 impl Value {
-    /// Whether nothing is filled in: a text without characters, a choice that is not made, a box that is not checked.
+    /// Returns whether nothing is filled in: no character is typed, nothing is chosen, or the box is not checked.
     pub(crate) fn is_empty(&self) -> bool
         ensures { result ≡ is_empty_value (value_data self.now) }
     {
         match self {
             Value::Text { input, .. } => input.is_empty(),
-            Value::Choice { of, chosen } => chosen_text(of, *chosen).is_none(),
+            Value::Choice { options, chosen } => chosen_text(options, *chosen).is_none(),
             Value::Check(is_on) => !*is_on,
         }
     }
 
-    /// Takes an event, and answers whether it is one of the value's own: for a text as `InputState::take` has it; Left and Right choose the text
-    /// before and behind, round about, Home and End the first and the last, a blank the next; and a blank checks a box, or no longer. At `NoMemory`
+    /// Takes an event, and returns whether the value uses it. A text uses what `InputState::take` uses. In a choice,
+    /// Left and Right choose the text before and after, and wrap around. Home and End choose the first and the last
+    /// text, and the space bar the next one. The space bar also checks and unchecks a box. If it fails with `NoMemory`,
     /// nothing has changed.
     pub(crate) fn take(&mut self, event: Event) -> Mem<bool>
         ensures ok { OnOk result (value_data self.new ≡ value_after (value_data self.old) event) }
@@ -58,13 +59,13 @@ impl Value {
     {
         match self {
             Value::Text { input, .. } => input.take(event),
-            Value::Choice { of, chosen } => Ok(choose(of.len(), chosen, event)),
+            Value::Choice { options, chosen } => Ok(choose(options.len(), chosen, event)),
             Value::Check(is_on) => Ok(turn(is_on, event)),
         }
     }
 }
 
-/// The text that is chosen.
+/// Returns the chosen text.
 pub(crate) fn chosen_text(texts: &[String], chosen: Option<usize>) -> Option<&str>
     ensures { option_copied result ≡ chosen_text (map string_bytes texts.now) chosen }
 {
@@ -76,7 +77,7 @@ pub(crate) fn chosen_text(texts: &[String], chosen: Option<usize>) -> Option<&st
     }
 }
 
-/// The text that is chosen, the empty one where none is.
+/// Returns the chosen text, or the empty text if nothing is chosen.
 pub(crate) fn chosen_or_empty(texts: &[String], chosen: Option<usize>) -> &str
     ensures { result.now ≡ unwrap_or (chosen_text (map string_bytes texts.now) chosen) [] }
 {
@@ -86,20 +87,20 @@ pub(crate) fn chosen_or_empty(texts: &[String], chosen: Option<usize>) -> &str
     }
 }
 
-/// The place among `count` that an event chooses, if it chooses one.
+/// Returns the index below `count` that an event chooses, if it chooses one.
 fn chosen_by(count: usize, chosen: Option<usize>, event: Event) -> Option<usize>
     ensures { result ≡ chosen_by count chosen event }
 {
     match event {
         Event::Left => Some(place_before(count, chosen)),
-        Event::Right | Event::Char(' ') => Some(place_behind(count, chosen)),
+        Event::Right | Event::Char(' ') => Some(place_after(count, chosen)),
         Event::Home => Some(0),
         Event::End => Some(count.saturating_sub(1)),
         _ => None,
     }
 }
 
-/// Takes an event that chooses, and answers whether it does.
+/// Chooses what an event chooses, and returns whether it chooses anything.
 fn choose(count: usize, chosen: &mut Option<usize>, event: Event) -> bool
     ensures chooses { chosen.new ≡ option_or (chosen_by count chosen.old event) chosen.old }
     ensures takes { result ≡ is_some (chosen_by count chosen.old event) }
@@ -119,7 +120,7 @@ fn is_blank(event: Event) -> bool
     event == Event::Char(' ')
 }
 
-/// Takes a blank, and answers whether the event is one.
+/// Checks or unchecks a box if the event is a space, and returns whether it is one.
 fn turn(is_on: &mut bool, event: Event) -> bool
     ensures turns { is_on.new ≡ (if is_blank event then not is_on.old else is_on.old) }
     ensures takes { result ≡ is_blank event }

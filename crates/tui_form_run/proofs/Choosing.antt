@@ -1,10 +1,10 @@
--- The place of a text among others, looked at one after another.
+-- The index of a text among others, which are compared one after another.
 use Rattle.std.proofs.Common.{◌≡◌, ℕ, ◌+◌, ◌<◌, Bool, true, false, List, ◌∷◌, length, get_or, drop, map, cond, Option, Some, String, Global, string_bytes, refl, sym, ap, ◌∙◌, add-one}
 use Rattle.std.proofs.Math.Seq.{drop-cons}
 use Rattle.std.specs.List.{position_from}
 use Rattle.std.specs.Str.{bytes_eq}
 
--- the place from one of them on
+-- the index from one of them on
 abbrev from : List ℕ → List (String Global) → ℕ → Option ℕ
 from text texts i = position_from (λ t. bytes_eq t text) i (map string_bytes (drop i texts))
 

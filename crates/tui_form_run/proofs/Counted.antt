@@ -1,12 +1,12 @@
--- How many words there are, by the first of them.
+-- The number of arguments, from the first of them.
 use Rattle.std.proofs.Common.{◌≡◌, ℕ, ◌≤◌, false, List, length, take, sym, ap, ◌∙◌, arith, inl, inr}
 use Rattle.std.proofs.lemmas.Bool.{cases_lt}
 use Rattle.std.proofs.lemmas.Bool.Decides.{nat_tests}
 use Rattle.std.proofs.lemmas.List.{length-take-le, take_all}
 use Rattle.tui_form_run.specs.Ends.{EndsBy}
-use Rattle.tui_form_run.specs.Words.{are_named}
+use Rattle.tui_form_run.specs.Arguments.{are_named}
 use Rattle.tui_form_run.specs.declared.ended.FormEnded.{FormEnded}
-use Rattle.tui_outside.specs.Causes.{Told}
+use Rattle.tui_io.specs.Causes.{Observed}
 use Rattle.tui_program.specs.Transcript.{Transcript}
 use Rattle.tui_system.specs.declared.settings.Setting.{Setting}
 
@@ -21,7 +21,7 @@ first_named all first is = elim (cases_lt (length all) 4) [
       ap are_named four ∙ sym (many_named (length all) (omega arith))
 ]
 
-pub ends_by_all : {X : Type 0} (setting : Setting) (all first : List X) (t : Transcript) (a b : Told) (e : FormEnded) → first ≡ take 4 all →
+pub ends_by_all : {X : Type 0} (setting : Setting) (all first : List X) (t : Transcript) (a b : Observed) (e : FormEnded) → first ≡ take 4 all →
     EndsBy setting (length first) t a b e → EndsBy setting (length all) t a b e
 ends_by_all setting all first t a b e is h =
     let same = first_named all first is in

@@ -1,4 +1,4 @@
--- Answers as JSON are flat, and have no numbers.
+-- Answers as JSON are flat, and contain no numbers.
 use Rattle.std.proofs.Common.{◌≤◌, List, [], ◌∷◌, arith}
 use Rattle.json.specs.Tree.{HasNumbers, MembersHaveNumbers, depth, members_depth}
 use Rattle.tui_form_lib.specs.Field.{FieldData, Reply, answer_of, flag_reply, text_reply}

@@ -1,30 +1,30 @@
--- What a session makes of a form: it stays open as long as the session goes on, and its fields keep their names.
+-- How a session changes a form: it stays open as long as the session goes on, and its fields keep their names.
 use Rattle.std.proofs.Common.{◌≡◌, ◌≢◌, ℕ, zero, suc, ◌+◌, Bool, true, false, List, [], ◌∷◌, map, cond, Option, None, Some, refl, sym, ap, subst, ◌∙◌, inl, inr}
 use Rattle.std.proofs.lemmas.Iterator.Adapters.{position_from-zero}
 use Rattle.std.specs.List.{position_from}
 use Rattle.std.specs.Prelude.{◌==◌, if◌then◌else◌, is_some}
-use Rattle.tui_app.specs.Lives.{Stand, Takes, heard, joined}
+use Rattle.tui_app.specs.EventLoop.{LoopState, Takes, events_of_read, joined}
 use Rattle.tui_app.specs.Run.{IsAppRun, whole}
 use Rattle.tui_app.specs.Session.{Session, begins, goes_on}
 use Rattle.tui_app.specs.declared.app.Flow.{Flow}
 use Rattle.tui_app.specs.declared.app.Flow.TheVariants.{Go, Quit, Redraw}
-use Rattle.tui_app.specs.declared.ending.AppEnd.TheVariants as ends
+use Rattle.tui_app.specs.declared.outcome.AppEnd.TheVariants as ends
 use Rattle.tui_cells.specs.Buffer.{Screen}
 use Rattle.tui_cells.specs.declared.position.Position.{Position}
 use Rattle.tui_cells.specs.declared.rect.Rect.{Rect}
-use Rattle.tui_form_lib.specs.Asked.{asked, asked_ctrl}
+use Rattle.tui_form_lib.specs.FormAction.{action, ctrl_action}
 use Rattle.tui_form_lib.specs.Drawing.{FormDraws, field_drawn, has_room, row_in}
 use Rattle.tui_form_lib.specs.Field.{FieldData, is_missing}
 use Rattle.tui_form_lib.specs.Form.{FormData, form_data}
 use Rattle.tui_form_lib.specs.Laws.{form_behaviour}
-use Rattle.tui_form_lib.specs.Steps.{accepting, after_event, changed_at, field_after, first_missing, flow_after, flow_for, obeyed, skipped, taken, takes}
+use Rattle.tui_form_lib.specs.Steps.{accepting, after_event, changed_at, field_after, first_missing, flow_after, flow_for, performed, skipped, taken, takes}
 use Rattle.tui_form_lib.specs.declared.form.Form.{Form}
 use Rattle.tui_form_lib.specs.declared.form.Outcome.TheVariants.{Open}
-use Rattle.tui_form_run.specs.Laws.{IsFilled, IsMeant, names_of}
+use Rattle.tui_form_run.specs.Laws.{IsFilled, IsLeftOrFilled, names_of}
 use Rattle.tui_keys.specs.declared.event.Event.{Event}
 use Rattle.tui_keys.specs.declared.event.Event.TheVariants as events
-use Rattle.tui_outside.specs.Causes.{Told}
-use Rattle.tui_tty.specs.declared.output.Output.{Output}
+use Rattle.tui_io.specs.Causes.{Observed}
+use Rattle.tui_terminal_model.specs.declared.output.Output.{Output}
 
 -- ---- what is missing
 
@@ -45,9 +45,9 @@ filled fields none = none_missing 0 fields (sym (position_from-zero is_missing f
 
 -- ---- from event to event
 
--- open as long as it goes on
+-- the form is open as long as the session goes on
 abbrev Went : Flow → FormData → Type 0
-Went Quit f = IsMeant f
+Went Quit f = IsLeftOrFilled f
 Went Go f = f.outcome ≡ Open
 Went Redraw f = f.outcome ≡ Open
 
@@ -60,45 +60,45 @@ accepting_went : (f : FormData) (found : Option ℕ) → first_missing f.fields 
 accepting_went f None none is_open = inr (refl, filled f.fields none)
 accepting_went f (Some place) is is_open = is_open
 
--- Ctrl-C leaves, Ctrl-L draws anew, and Ctrl-@ asks nothing
+-- Ctrl-C leaves the form, Ctrl-L sends the whole screen again, and Ctrl-@ does nothing
 ctrl_went : (f : FormData) (leaves draws : Bool) → f.outcome ≡ Open →
-    Went (flow_for f (if leaves then asked_ctrl 99 else if draws then asked_ctrl 108 else asked_ctrl 0))
-    (obeyed f (if leaves then asked_ctrl 99 else if draws then asked_ctrl 108 else asked_ctrl 0))
+    Went (flow_for f (if leaves then ctrl_action 99 else if draws then ctrl_action 108 else ctrl_action 0))
+    (performed f (if leaves then ctrl_action 99 else if draws then ctrl_action 108 else ctrl_action 0))
 ctrl_went f true draws is_open = inl refl
 ctrl_went f false true is_open = is_open
 ctrl_went f false false is_open = is_open
 
 esc_went : (f : FormData) (is_escaped : Bool) → f.outcome ≡ Open →
-    Went (flow_for f (asked is_escaped events.Esc)) (obeyed f (asked is_escaped events.Esc))
+    Went (flow_for f (action is_escaped events.Esc)) (performed f (action is_escaped events.Esc))
 esc_went f true is_open = inl refl
 esc_went f false is_open = is_open
 
-obeyed_went : (f : FormData) (b : Bool) (e : Event) → f.outcome ≡ Open → Went (flow_for f (asked b e)) (obeyed f (asked b e))
-obeyed_went f b (events.Char c) is_open = is_open
-obeyed_went f b events.Enter is_open = accepting_went f (first_missing f.fields) refl is_open
-obeyed_went f b events.Tab is_open = is_open
-obeyed_went f b events.BackTab is_open = is_open
-obeyed_went f b events.Backspace is_open = is_open
-obeyed_went f b events.Esc is_open = esc_went f b is_open
-obeyed_went f b events.Up is_open = is_open
-obeyed_went f b events.Down is_open = is_open
-obeyed_went f b events.Left is_open = is_open
-obeyed_went f b events.Right is_open = is_open
-obeyed_went f b events.Home is_open = is_open
-obeyed_went f b events.End is_open = is_open
-obeyed_went f b events.PageUp is_open = is_open
-obeyed_went f b events.PageDown is_open = is_open
-obeyed_went f b events.Insert is_open = is_open
-obeyed_went f b events.Delete is_open = is_open
-obeyed_went f b (events.F n) is_open = is_open
-obeyed_went f b (events.Ctrl c) is_open = ctrl_went f (c == 99) (c == 108) is_open
-obeyed_went f b (events.Alt c) is_open = is_open
-obeyed_went f b (events.With m d) is_open = is_open
-obeyed_went f b events.PasteBegin is_open = is_open
-obeyed_went f b events.PasteEnd is_open = is_open
-obeyed_went f b (events.Resize w h) is_open = is_open
-obeyed_went f b events.Tick is_open = is_open
-obeyed_went f b events.Unknown is_open = is_open
+performed_went : (f : FormData) (b : Bool) (e : Event) → f.outcome ≡ Open → Went (flow_for f (action b e)) (performed f (action b e))
+performed_went f b (events.Char c) is_open = is_open
+performed_went f b events.Enter is_open = accepting_went f (first_missing f.fields) refl is_open
+performed_went f b events.Tab is_open = is_open
+performed_went f b events.BackTab is_open = is_open
+performed_went f b events.Backspace is_open = is_open
+performed_went f b events.Esc is_open = esc_went f b is_open
+performed_went f b events.Up is_open = is_open
+performed_went f b events.Down is_open = is_open
+performed_went f b events.Left is_open = is_open
+performed_went f b events.Right is_open = is_open
+performed_went f b events.Home is_open = is_open
+performed_went f b events.End is_open = is_open
+performed_went f b events.PageUp is_open = is_open
+performed_went f b events.PageDown is_open = is_open
+performed_went f b events.Insert is_open = is_open
+performed_went f b events.Delete is_open = is_open
+performed_went f b (events.F n) is_open = is_open
+performed_went f b (events.Ctrl c) is_open = ctrl_went f (c == 99) (c == 108) is_open
+performed_went f b (events.Alt c) is_open = is_open
+performed_went f b (events.With m d) is_open = is_open
+performed_went f b events.PasteBegin is_open = is_open
+performed_went f b events.PasteEnd is_open = is_open
+performed_went f b (events.Resize w h) is_open = is_open
+performed_went f b events.Tick is_open = is_open
+performed_went f b events.Unknown is_open = is_open
 
 escaped_went : (flow : Flow) (f : FormData) (b : Bool) → Went flow f → Went flow (record f { is_escaped = b })
 escaped_went Quit f b went = went
@@ -108,8 +108,8 @@ escaped_went Redraw f b went = went
 after_went : (f : FormData) (e : Event) → f.outcome ≡ Open → Went (flow_after f e) (after_event f e)
 after_went f e is_open =
     escaped_went (flow_after f e) _ _
-    (chosen_went f.is_skipping Go (if takes f e then Go else flow_for f (asked f.is_escaped e)) (skipped f e) (if takes f e then taken f e else obeyed f (asked f.is_escaped e)) is_open
-    (chosen_went (takes f e) Go (flow_for f (asked f.is_escaped e)) (taken f e) (obeyed f (asked f.is_escaped e)) is_open (obeyed_went f f.is_escaped e is_open)))
+    (chosen_went f.is_skipping Go (if takes f e then Go else flow_for f (action f.is_escaped e)) (skipped f e) (if takes f e then taken f e else performed f (action f.is_escaped e)) is_open
+    (chosen_went (takes f e) Go (flow_for f (action f.is_escaped e)) (taken f e) (performed f (action f.is_escaped e)) is_open (performed_went f f.is_escaped e is_open)))
 
 joined_went : (first step : Flow) (f : FormData) → first ≢ Quit → Went step f → Went (joined first step) f
 joined_went Quit step f not_quit went = absurd (not_quit refl)
@@ -142,50 +142,50 @@ accepting_names f None = refl
 accepting_names f (Some place) = refl
 
 ctrl_names : (f : FormData) (leaves draws : Bool) →
-    names_of (obeyed f (if leaves then asked_ctrl 99 else if draws then asked_ctrl 108 else asked_ctrl 0)) ≡ names_of f
+    names_of (performed f (if leaves then ctrl_action 99 else if draws then ctrl_action 108 else ctrl_action 0)) ≡ names_of f
 ctrl_names f true draws = refl
 ctrl_names f false true = refl
 ctrl_names f false false = refl
 
-esc_names : (f : FormData) (is_escaped : Bool) → names_of (obeyed f (asked is_escaped events.Esc)) ≡ names_of f
+esc_names : (f : FormData) (is_escaped : Bool) → names_of (performed f (action is_escaped events.Esc)) ≡ names_of f
 esc_names f true = refl
 esc_names f false = refl
 
-obeyed_names : (f : FormData) (b : Bool) (e : Event) → names_of (obeyed f (asked b e)) ≡ names_of f
-obeyed_names f b (events.Char c) = refl
-obeyed_names f b events.Enter = accepting_names f (first_missing f.fields)
-obeyed_names f b events.Tab = refl
-obeyed_names f b events.BackTab = refl
-obeyed_names f b events.Backspace = refl
-obeyed_names f b events.Esc = esc_names f b
-obeyed_names f b events.Up = refl
-obeyed_names f b events.Down = refl
-obeyed_names f b events.Left = refl
-obeyed_names f b events.Right = refl
-obeyed_names f b events.Home = refl
-obeyed_names f b events.End = refl
-obeyed_names f b events.PageUp = refl
-obeyed_names f b events.PageDown = refl
-obeyed_names f b events.Insert = refl
-obeyed_names f b events.Delete = refl
-obeyed_names f b (events.F n) = refl
-obeyed_names f b (events.Ctrl c) = ctrl_names f (c == 99) (c == 108)
-obeyed_names f b (events.Alt c) = refl
-obeyed_names f b (events.With m d) = refl
-obeyed_names f b events.PasteBegin = refl
-obeyed_names f b events.PasteEnd = refl
-obeyed_names f b (events.Resize w h) = refl
-obeyed_names f b events.Tick = refl
-obeyed_names f b events.Unknown = refl
+performed_names : (f : FormData) (b : Bool) (e : Event) → names_of (performed f (action b e)) ≡ names_of f
+performed_names f b (events.Char c) = refl
+performed_names f b events.Enter = accepting_names f (first_missing f.fields)
+performed_names f b events.Tab = refl
+performed_names f b events.BackTab = refl
+performed_names f b events.Backspace = refl
+performed_names f b events.Esc = esc_names f b
+performed_names f b events.Up = refl
+performed_names f b events.Down = refl
+performed_names f b events.Left = refl
+performed_names f b events.Right = refl
+performed_names f b events.Home = refl
+performed_names f b events.End = refl
+performed_names f b events.PageUp = refl
+performed_names f b events.PageDown = refl
+performed_names f b events.Insert = refl
+performed_names f b events.Delete = refl
+performed_names f b (events.F n) = refl
+performed_names f b (events.Ctrl c) = ctrl_names f (c == 99) (c == 108)
+performed_names f b (events.Alt c) = refl
+performed_names f b (events.With m d) = refl
+performed_names f b events.PasteBegin = refl
+performed_names f b events.PasteEnd = refl
+performed_names f b (events.Resize w h) = refl
+performed_names f b events.Tick = refl
+performed_names f b events.Unknown = refl
 
 after_names : (f : FormData) (e : Event) → names_of (after_event f e) ≡ names_of f
 after_names f e =
-    chosen_names f.is_skipping (names_of f) (skipped f e) (if takes f e then taken f e else obeyed f (asked f.is_escaped e)) refl
-    (chosen_names (takes f e) (names_of f) (taken f e) (obeyed f (asked f.is_escaped e)) (names_changed (field_after e) (λ g. refl) f.focus f.fields) (obeyed_names f f.is_escaped e))
+    chosen_names f.is_skipping (names_of f) (skipped f e) (if takes f e then taken f e else performed f (action f.is_escaped e)) refl
+    (chosen_names (takes f e) (names_of f) (taken f e) (performed f (action f.is_escaped e)) (names_changed (field_after e) (λ g. refl) f.focus f.fields) (performed_names f f.is_escaped e))
 
 -- ---- from read to read
 
--- a form of these names, that went on so
+-- a form with these names, after events with this flow
 record Goes (names : List (List ℕ)) (flow : Flow) (f : FormData) : Type 0 where
   named : names_of f ≡ names
   went : Went flow f
@@ -234,29 +234,29 @@ drawn_goes names f new screen place drawn is_open named = record {
 
 -- ---- sessions
 
-session_goes : (o : Output) (begin : Form) (area : Rect) (stand : Stand Form) (reads : List (List ℕ)) (tape sent : List ℕ) → (form_data begin).outcome ≡ Open →
-    Session form_behaviour o begin area stand reads tape sent → Goes (names_of (form_data begin)) Go (form_data stand.app)
+session_goes : (o : Output) (begin : Form) (area : Rect) (state : LoopState Form) (reads : List (List ℕ)) (trace sent : List ℕ) → (form_data begin).outcome ≡ Open →
+    Session form_behaviour o begin area state reads trace sent → Goes (names_of (form_data begin)) Go (form_data state.app)
 session_goes o begin area _ _ _ _ is_open (begins first text is full) =
     drawn_goes (names_of (form_data begin)) (form_data begin) (form_data first.app) first.screen first.place is.draws is_open refl
-session_goes o begin area _ _ _ _ is_open (goes_on stand new reads tape sent bytes text session turns) =
+session_goes o begin area _ _ _ _ is_open (goes_on state new reads trace sent bytes text session iterations) =
     let names = names_of (form_data begin) in
-    let before = session_goes o begin area stand reads tape sent is_open session in
-    let turn = turns.turn in
-    let moved = takes_goes names (heard stand.keys bytes) Go turns.flow stand.app turn.moved before turn.takes in
-    drawn_goes names (form_data turn.moved) (form_data new.app) new.screen new.place turn.draws
-    (still_open turns.flow (form_data turn.moved) turn.not_quit moved.went) moved.named
+    let before = session_goes o begin area state reads trace sent is_open session in
+    let iteration = iterations.iteration in
+    let moved = takes_goes names (events_of_read state.keys bytes) Go iterations.flow state.app iteration.moved before iteration.takes in
+    drawn_goes names (form_data iteration.moved) (form_data new.app) new.screen new.place iteration.draws
+    (still_open iterations.flow (form_data iteration.moved) iteration.not_quit moved.went) moved.named
 
-quit_goes : (o : Output) (begin last : Form) (area : Rect) (old new : Told) → (form_data begin).outcome ≡ Open →
+quit_goes : (o : Output) (begin last : Form) (area : Rect) (old new : Observed) → (form_data begin).outcome ≡ Open →
     IsAppRun form_behaviour o begin area old new last ends.Quit → Goes (names_of (form_data begin)) Quit (form_data last)
-quit_goes o begin last area old new is_open (whole _ tape stopped put) =
+quit_goes o begin last area old new is_open (whole _ trace stopped put) =
     let h = stopped.stops in
-    let before = session_goes o begin area stopped.stand stopped.reads stopped.waited stopped.sent is_open stopped.session in
-    takes_goes (names_of (form_data begin)) (heard stopped.stand.keys h.0) Go Quit stopped.stand.app last before h.3
+    let before = session_goes o begin area stopped.state stopped.reads stopped.waited stopped.sent is_open stopped.session in
+    takes_goes (names_of (form_data begin)) (events_of_read stopped.state.keys h.0) Go Quit stopped.state.app last before h.3
 
-pub quit_is_meant : (o : Output) (begin last : Form) (area : Rect) (old new : Told) → (form_data begin).outcome ≡ Open →
-    IsAppRun form_behaviour o begin area old new last ends.Quit → IsMeant (form_data last)
+pub quit_is_meant : (o : Output) (begin last : Form) (area : Rect) (old new : Observed) → (form_data begin).outcome ≡ Open →
+    IsAppRun form_behaviour o begin area old new last ends.Quit → IsLeftOrFilled (form_data last)
 quit_is_meant o begin last area old new is_open run = (quit_goes o begin last area old new is_open run).went
 
-pub quit_keeps_names : (o : Output) (begin last : Form) (area : Rect) (old new : Told) → (form_data begin).outcome ≡ Open →
+pub quit_keeps_names : (o : Output) (begin last : Form) (area : Rect) (old new : Observed) → (form_data begin).outcome ≡ Open →
     IsAppRun form_behaviour o begin area old new last ends.Quit → names_of (form_data last) ≡ names_of (form_data begin)
 quit_keeps_names o begin last area old new is_open run = (quit_goes o begin last area old new is_open run).named

@@ -1,4 +1,4 @@
--- Whether a name is taken, one value after another.
+-- Whether a name is taken, comparing one value after another.
 use Rattle.std.proofs.Common.{◌≡◌, ℕ, zero, suc, ◌+◌, ◌<◌, ◌≤◌, Bool, true, false, ◌||◌, List, [], ◌∷◌, length, get_or, drop, take, min, refl, sym, ap, ◌∙◌, arith, inl, inr}
 use Rattle.std.proofs.lemmas.Bool.{cases_lt}
 use Rattle.std.proofs.lemmas.List.{drop_all, take_all}
@@ -27,7 +27,7 @@ pub none_has : (name : List ℕ) (vs : List Value) (i : ℕ) (all : Bool) → le
 unfolding is_taken
 none_has name vs i all le so_far = sym (so_far ∙ ap (λ (ws : List Value). is_taken name (items_view ws)) (drop_all i vs le))
 
--- the values before one of a number
+-- the values before an index
 pub firsts : (n : ℕ) (vs : List Value) → items_view (take n vs) ≡ first_items n (items_view vs)
 firsts zero vs = refl
 firsts (suc n) [] = refl

@@ -9,7 +9,7 @@ use Rattle.tui_form_lib.specs.Field.{FieldData, field_data}
 use Rattle.tui_form_lib.specs.declared.field.FormField.{FormField}
 use Rattle.tui_form_run.specs.Answers.{answer_tokens, answers_tokens, members_of}
 
--- one field more
+-- one more field
 pub next_part : (fields : List FormField) (i : ℕ) (f : FormField) (old new : List Token) → i < length fields → f ≡ get_or fields i f →
     new ≡ (old ++ flat_map answer_tokens (map field_data (take i fields))) ++ answer_tokens (field_data f) →
     new ≡ old ++ flat_map answer_tokens (map field_data (take (i + 1) fields))
@@ -28,7 +28,7 @@ closed : (fields : List FieldData) → flat_map answer_tokens fields ++ end_obje
 closed [] = refl
 closed (f ∷ fs) = append_assoc (answer_tokens f) (flat_map answer_tokens fs) (end_object ∷ []) ∙ ap (λ (ts : List Token). answer_tokens f ++ ts) (closed fs)
 
--- all of them, between brackets
+-- all of them, between braces
 pub all_parts : (fields : List FormField) (i : ℕ) (old begun written new : List Token) → length fields ≤ i → begun ≡ old ++ begin_object ∷ [] →
     written ≡ begun ++ flat_map answer_tokens (map field_data (take i fields)) → new ≡ written ++ end_object ∷ [] →
     new ≡ old ++ answers_tokens (map field_data fields)

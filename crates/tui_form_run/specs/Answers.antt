@@ -1,4 +1,4 @@
--- The answers of a form in JSON.
+-- The answers of a form as JSON.
 use Rattle.std.specs.Prelude.{ℕ, List, [], ◌∷◌, ◌++◌, Result, Ok, Err}
 use Rattle.json.specs.Json.{Json, Members, boolean, member, no_members, object, string}
 use Rattle.json.specs.Print.{print}
@@ -7,11 +7,11 @@ use Rattle.json.specs.Tree.{json_tokens}
 use Rattle.tui_form_lib.specs.Field.{FieldData, Reply, answer_of, flag_reply, text_reply}
 use Rattle.tui_form_run.specs.declared.answers.AnswersError.{AnswersError}
 use Rattle.tui_form_run.specs.declared.answers.AnswersError.TheVariants.{WriteFault, NoMemory}
-use Rattle.tui_outside.specs.Causes.{PutsAll, PutsPart, Told}
-use Rattle.tui_outside.specs.Texts.{newline}
-use Rattle.tui_program.specs.Transcript.{Unput}
+use Rattle.tui_io.specs.Causes.{WritesAll, WritesPrefix, Observed}
+use Rattle.tui_io.specs.Texts.{newline}
+use Rattle.tui_program.specs.Transcript.{Unwritten}
 
--- a text as a text, and whether a box is checked as `true` or `false`
+-- a text as a string, and a checked or unchecked box as `true` or `false`
 abbrev pub json_of : Reply → Json
 json_of (text_reply text) = string text
 json_of (flag_reply flag) = boolean flag
@@ -21,23 +21,24 @@ abbrev pub members_of : List FieldData → Members
 members_of [] = no_members
 members_of (f ∷ fs) = member f.name (json_of (answer_of f.value)) (members_of fs)
 
--- the tokens of a field's part in it, and of the whole
+-- the tokens of a field in it, and of the whole object
 abbrev pub answer_tokens : FieldData → List Token
 answer_tokens f = key f.name ∷ json_tokens (json_of (answer_of f.value))
 
 abbrev pub answers_tokens : List FieldData → List Token
 answers_tokens fields = json_tokens (object (members_of fields))
 
--- the text of that object, without blanks between its parts
+-- the text of that object, without spaces between its parts
 abbrev pub answers_text : List FieldData → List ℕ
 answers_text fields = print (answers_tokens fields)
 
--- and its line
+-- and as a line
 abbrev pub answers_line : List FieldData → List ℕ
 answers_line fields = answers_text fields ++ newline
 
--- how the answers were put: their line; or a first part of it, where a put failed; or nothing, for want of memory
-abbrev pub PutsAnswers : List FieldData → Told → Told → Result (Unit {0}) AnswersError → Type 0
-PutsAnswers fields old new (Ok x) = PutsAll old new (answers_line fields)
-PutsAnswers fields old new (Err WriteFault) = PutsPart old new (answers_line fields)
-PutsAnswers fields old new (Err NoMemory) = Unput old new
+-- how the answers were written: as a line; or as the first part of it, if a write failed; or not at all, if memory ran
+-- out
+abbrev pub WritesAnswersLine : List FieldData → Observed → Observed → Result (Unit {0}) AnswersError → Type 0
+WritesAnswersLine fields old new (Ok x) = WritesAll old new (answers_line fields)
+WritesAnswersLine fields old new (Err WriteFault) = WritesPrefix old new (answers_line fields)
+WritesAnswersLine fields old new (Err NoMemory) = Unwritten old new

@@ -1,7 +1,7 @@
--- The endings of the program, and their exit status.
+-- The outcomes of the program, and their exit statuses.
 use Rattle.std.specs.Prelude.{ℕ}
-use Rattle.tui_app.specs.declared.ending.AppEnd.{AppEnd}
-use Rattle.tui_app.specs.declared.ending.AppEnd.TheVariants as ends
+use Rattle.tui_app.specs.declared.outcome.AppEnd.{AppEnd}
+use Rattle.tui_app.specs.declared.outcome.AppEnd.TheVariants as ends
 use Rattle.tui_form_lib.specs.declared.form.Outcome.{Outcome}
 use Rattle.tui_form_lib.specs.declared.form.Outcome.TheVariants as outcomes
 use Rattle.tui_form_run.specs.declared.ended.FormEnded.{FormEnded}
@@ -21,7 +21,7 @@ use Rattle.tui_form_run.specs.declared.ended.FormEnded.TheVariants.{
 use Rattle.tui_form_run.specs.declared.refusal.Refusal.{Refusal}
 use Rattle.tui_form_run.specs.declared.refusal.Refusal.TheVariants as refusals
 
--- of a session at whose end the form was so far: accepted only where the app quit as an accepted form
+-- the outcome for the end of a session and the form's outcome; accepted only if the session quit with an accepted form
 abbrev pub ended_as : AppEnd → Outcome → FormEnded
 ended_as ends.Quit outcomes.Accepted = Accepted
 ended_as ends.Quit outcome = Left
@@ -31,11 +31,11 @@ ended_as ends.WriteFault outcome = WriteFault
 ended_as ends.NoMemory outcome = NoMemory
 ended_as ends.ManyReads outcome = ManyReads
 
--- of a refusal
-abbrev pub refused_as : Refusal → FormEnded
-refused_as refusals.TooLong = TooLong
-refused_as refusals.NotJson = NotJson
-refused_as (refusals.BadForm x) = BadForm x.at x.key
+-- the outcome of a rejected form
+abbrev pub rejected_as : Refusal → FormEnded
+rejected_as refusals.TooLong = TooLong
+rejected_as refusals.NotJson = NotJson
+rejected_as (refusals.BadForm x) = BadForm x.at x.key
 
 abbrev pub status_of : FormEnded → ℕ
 status_of Accepted = 0

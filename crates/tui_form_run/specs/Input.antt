@@ -1,4 +1,5 @@
--- The form that a JSON value says: its keys in order, the fields one by one, the first whose test fails being the refusal.
+-- The form that a JSON value holds. Its keys are tested in order, and then its fields one by one. The first test that
+-- fails decides why the form is rejected.
 use Rattle.std.specs.Prelude.{
   ℕ,
   zero,
@@ -41,10 +42,10 @@ use Rattle.tui_json.specs.Members.{each_of, elements_within, member}
 use Rattle.tui_json.specs.Named.{named_of}
 use Rattle.tui_json.specs.Number.{within}
 use Rattle.tui_json.specs.Objects.{objects_within}
-use Rattle.tui_json.specs.Refusals.{◌>>=◌, numbered, or_refuse}
+use Rattle.tui_json.specs.Refusals.{◌>>=◌, numbered, or_reject}
 use Rattle.tui_json.specs.Refusals as tests
 
--- a key that has to be there, and one that may be absent or null
+-- a required key, and one that may be absent or null
 abbrev pub required : {A : Type 0} → (Data → Option A) → Option ℕ → FormKey → Data → Result A BadForm
 required kind at key d = tests.required kind (key_name key) (bad_form at key) d
 
@@ -53,7 +54,7 @@ optional kind at key d = tests.optional kind (key_name key) (bad_form at key) d
 
 -- ---- names, each once
 
--- a text of 1 to 64 bytes
+-- a string of 1 to 64 bytes
 abbrev if_name : List ℕ → Option (List ℕ)
 if_name text = if nat_le 1 (length text) && nat_le (length text) 64 then Some text else None
 
@@ -78,20 +79,20 @@ is_taken name (item d ds) = has_name name d || is_taken name ds
 abbrev pub unless_taken : List ℕ → Items → Option (List ℕ)
 unless_taken name ds = if is_taken name ds then None else Some name
 
--- the name of the value of a number among these: none of the values before it has the name
+-- the name of the value at an index: no value before it has that name
 unfoldable pub name_of : Items → ℕ → Data → Result (List ℕ) BadForm
 name_of values i d = do
   name ← required name_text (Some i) keys.Name d
-  or_refuse (bad_form (Some i) keys.Name) (unless_taken name (first_items i values))
+  or_reject (bad_form (Some i) keys.Name) (unless_taken name (first_items i values))
 
--- ---- what a field holds, and whether it is needed
+-- ---- the initial value of a field, and whether it is needed
 
 abbrev pub Filled : Type 0
 Filled = Bool × ValueData
 
--- what is typed into an empty text at first
-abbrev pub typed_at_first : Option ℕ → Option (List ℕ) → TypedText
-typed_at_first most text = typed_all (empty_input (unwrap_or most 1000)) (chars (unwrap_or text []))
+-- the initial text, typed into an empty one
+abbrev pub initial_text : Option ℕ → Option (List ℕ) → TypedText
+initial_text most text = typed_all (empty_input (unwrap_or most 1000)) (chars (unwrap_or text []))
 
 unfoldable pub typed_text_of : ℕ → Data → Result Filled BadForm
 typed_text_of i d = do
@@ -99,27 +100,27 @@ typed_text_of i d = do
   mask ← optional as_bool (Some i) keys.Mask d
   needed ← optional as_bool (Some i) keys.Needed d
   text ← optional as_str (Some i) keys.Value d
-  Ok (unwrap_or needed false, typed_value (typed_at_first most text) (unwrap_or mask false))
+  Ok (unwrap_or needed false, typed_value (initial_text most text) (unwrap_or mask false))
 
--- an array of 1 to 100 texts
+-- an array of 1 to 100 strings
 unfoldable pub texts_of : Data → Option (List (List ℕ))
 texts_of d = option_and_then (each_of as_str) (elements_within 1 100 d)
 
--- the place of a text among others, the first one
+-- the index of the first of some texts that equals this one
 abbrev pub place_of : List ℕ → List (List ℕ) → Option ℕ
 place_of text texts = position_from (λ t. bytes_eq t text) 0 texts
 
--- the place that is chosen at first: none where no text is given, and else that of the text, which has to be one of these
-abbrev pub chosen_at_first : List (List ℕ) → Option (List ℕ) → Option (Option ℕ)
-chosen_at_first texts None = Some None
-chosen_at_first texts (Some text) = option_map Some (place_of text texts)
+-- the initial choice: none if no text is given, and otherwise the index of the text, which must be one of these
+abbrev pub initial_choice : List (List ℕ) → Option (List ℕ) → Option (Option ℕ)
+initial_choice texts None = Some None
+initial_choice texts (Some text) = option_map Some (place_of text texts)
 
 unfoldable pub choice_of : ℕ → Data → Result Filled BadForm
 choice_of i d = do
   texts ← required texts_of (Some i) keys.Of d
   needed ← optional as_bool (Some i) keys.Needed d
   text ← optional as_str (Some i) keys.Value d
-  chosen ← or_refuse (bad_form (Some i) keys.Value) (chosen_at_first texts text)
+  chosen ← or_reject (bad_form (Some i) keys.Value) (initial_choice texts text)
   Ok (unwrap_or needed false, choice texts chosen)
 
 unfoldable pub check_of : ℕ → Data → Result Filled BadForm
@@ -135,7 +136,7 @@ filled_of Check = check_of
 
 -- ---- fields and forms
 
--- the field of a number among these values
+-- the field at an index among these values
 unfoldable pub field_of : Items → ℕ → Data → Result FieldData BadForm
 field_of values i d = do
   name ← name_of values i d
@@ -144,7 +145,7 @@ field_of values i d = do
   filled ← filled_of kind i d
   Ok (record { name = name; label = label; is_needed = filled.0; value = filled.1 })
 
--- the form, open and with the focus on its first field, or what is refused of it
+-- the form, open and with the focus on its first field, or why it is rejected
 unfoldable pub form_of : Data → Result FormData BadForm
 form_of d = do
   title ← required as_str None keys.Title d

@@ -9,6 +9,6 @@ kind_name Text = codes "text"
 kind_name Choice = codes "choice"
 kind_name Check = codes "check"
 
--- all of them, and none is left out
+-- the list of all kinds
 abbrev pub kinds : Names FieldKind
 kinds = record { name = kind_name; values = Text ∷ Choice ∷ Check ∷ []; found = elim [ Text ↦ refl | Choice ↦ refl | Check ↦ refl ] }

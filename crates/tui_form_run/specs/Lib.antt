@@ -3,9 +3,9 @@ pub mod Refusals
 pub mod Input
 pub mod Filled
 pub mod Answers
-pub mod Words
-pub mod Says
-pub mod Place
+pub mod Arguments
+pub mod ParsesTo
+pub mod Destination
 pub mod Ended
 pub mod Ends
 pub mod Laws

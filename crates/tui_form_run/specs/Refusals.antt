@@ -1,4 +1,4 @@
--- What is refused, and the line that says so.
+-- Why a form is rejected, and the line that says so.
 use Rattle.std.specs.Prelude.{ℕ, List, Option, codes}
 use Rattle.tui_form_run.specs.declared.bad_form.BadForm.{BadForm}
 use Rattle.tui_form_run.specs.declared.key.FormKey.{FormKey}
@@ -20,11 +20,11 @@ key_name Of = codes "of"
 key_name Needed = codes "needed"
 key_name Value = codes "value"
 
--- a key of the form, or of its field of a number
+-- a key of the form, or of its field of an index
 abbrev pub bad_form : Option ℕ → FormKey → BadForm
 bad_form at key = record { at = at; key = key }
 
--- the line that says what is refused
+-- the line that says why the form is rejected
 abbrev pub line_of : Refusal → List ℕ
 line_of refusals.TooLong = codes "refused: too long\n"
 line_of refusals.NotJson = codes "refused: not JSON\n"

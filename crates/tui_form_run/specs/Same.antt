@@ -1,4 +1,4 @@
--- Laws: refusals and endings that `==` calls equal are the same.
+-- Laws: values of `Refusal` and of `FormEnded` that are equal by `==` are the same.
 use Rattle.std.specs.Prelude.{◌≡◌, true}
 use Rattle.std.proofs.Common.{rules}
 use Rattle.std.proofs.lemmas.Bool.{and_parts}
@@ -16,7 +16,7 @@ use Rattle.tui_form_run.specs.declared.key.FormKey.{FormKey}
 use Rattle.tui_form_run.specs.declared.refusal.Refusal.{Refusal}
 use Rattle.tui_form_run.specs.declared.refusal.Refusal.TheVariants as refusals
 
--- keys that `==` calls equal are the same
+-- keys that are equal by `==` are the same
 pub same_key : (a b : FormKey) → key.TheImpl.ghosts.eq a b ≡ true → a ≡ b
 same_key a b e = same_true (declared enum) tt a b e
 
@@ -26,12 +26,12 @@ same_bad_form a b e =
     let both = and_parts _ (key.TheImpl.ghosts.eq a.key b.key) e in
     Prim.search (rules, both.0, same_key a.key b.key both.1)
 
--- so are refusals
+-- so are values of `Refusal`
 pub same_refusal : (a b : Refusal) → refusal.TheImpl.ghosts.eq a b ≡ true → a ≡ b
 same_refusal (refusals.BadForm a) (refusals.BadForm b) e = Prim.search (rules, same_bad_form a b e)
 same_refusal a b e = Prim.search rules
 
--- so are endings
+-- so are values of `FormEnded`
 pub same_ended : (a b : FormEnded) → ended.TheImpl.ghosts.eq a b ≡ true → a ≡ b
 same_ended (endings.BadForm p k) (endings.BadForm q l) e =
     let both = and_parts _ (key.TheImpl.ghosts.eq k l) e in

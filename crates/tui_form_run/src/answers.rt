@@ -1,35 +1,35 @@
-//! The answers of a form in JSON.
+//! The answers of a form as JSON.
 
 ghost use Rattle.std.specs.Prelude.{◌≡◌, ◌++◌, IfOk, IsUtf8, OnOk, map};
 ghost use Rattle.tui_form_lib.specs.Field.{field_data};
-ghost use Rattle.tui_form_run.specs.Answers.{PutsAnswers, answer_tokens, answers_line, answers_tokens};
+ghost use Rattle.tui_form_run.specs.Answers.{WritesAnswersLine, answer_tokens, answers_line, answers_tokens};
 
 use json::Writer;
 use std::alloc::Global;
 use tui_cells::{Mem, NoMemory};
 use tui_form_lib::{Answer, FormField};
-use tui_outside::{Sink, WriteFault, put_all};
+use tui_io::{Sink, WriteFault, write_all};
 
-/// Why answers were not put whole.
+/// Why the answers were not written in full.
 #[derive(Clone, Copy, Debug, PartialEq, Eq)]
 pub enum AnswersError {
-    /// A put failed: the sink has taken the first bytes, but not all of them.
+    /// A write failed: the sink has taken a first part of the bytes, but not all of them.
     WriteFault,
-    /// The memory for the line was not there; nothing is put.
+    /// There was no memory for the line; nothing was written.
     NoMemory,
 }
 
-/// Puts the answers of these fields, in order, as one line: an object in JSON (RFC 8259) of each field's name and its answer, a text or a boolean, without
-/// blanks between its parts, and a newline.
-pub fn put_answers<K: Sink>(
+/// Writes the answers of these fields, in order, as one line. The line is a JSON object (RFC 8259) and a newline. The
+/// object has each field's name with its answer, a string or a boolean, without spaces between its parts.
+pub fn write_answers_line<K: Sink>(
     alloc: Global,
     fields: &[FormField],
     sink: &mut K,
 ) -> Result<(), AnswersError>
-    ensures { PutsAnswers (map field_data fields.now) (K.told sink.old) (K.told sink.new) result }
+    ensures { WritesAnswersLine (map field_data fields.now) (K.observed sink.old) (K.observed sink.new) result }
 {
     match answers_line(alloc, fields) {
-        Ok(line) => match put_all(sink, line.as_slice()) {
+        Ok(line) => match write_all(sink, line.as_slice()) {
             Ok(()) => Ok(()),
             Err(WriteFault) => Err(AnswersError::WriteFault),
         },

@@ -1,8 +1,9 @@
-//! What is refused of a form.
+//! Why a form is rejected.
 
 use crate::key::FormKey;
 
-/// A key of the form, or of its field of this number from 0, whose value is missing or not as it has to be.
+/// The key whose value is missing or not valid. With `at` it is a key of the field of that index, from 0; otherwise it
+/// is a key of the form itself.
 #[derive(Clone, Copy, Debug, PartialEq, Eq)]
 pub struct BadForm {
     pub at: Option<usize>,

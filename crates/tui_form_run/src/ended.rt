@@ -1,50 +1,52 @@
 //! How a run of the program ends.
 
 ghost use Rattle.std.specs.Prelude.{◌≡◌};
-ghost use Rattle.tui_form_run.specs.Ended.{ended_as, refused_as, status_of};
-ghost use Rattle.tui_form_run.specs.Ends.{Refuses};
+ghost use Rattle.tui_form_run.specs.Ended.{ended_as, rejected_as, status_of};
+ghost use Rattle.tui_form_run.specs.Ends.{Rejects};
 
 use crate::bad_form::BadForm;
 use crate::key::FormKey;
-use crate::refusal::{Refusal, put_line};
+use crate::refusal::{Refusal, write_refusal_line};
 use std::process::ExitCode;
 use tui_app::AppEnd;
 use tui_form_lib::Outcome;
-use tui_outside::{Sink, WriteFault};
+use tui_io::{Sink, WriteFault};
 
-/// How a run ends. Only `Accepted` has written answers whole. The endings from `Usage` to `BadForm` have written one line that says so, and the terminal was
-/// not entered.
+/// How a run ends. Only `Accepted` has written the answers in full. `Usage`, `TooLong`, `NotJson` and `BadForm` have
+/// written one line that says so, without entering the terminal.
 #[derive(Clone, Copy, Debug, PartialEq, Eq)]
 pub enum FormEnded {
-    /// The user accepted the form, and its answers are written.
+    /// The user accepted the form, and its answers were written.
     Accepted,
     /// The user left the form.
     Left,
-    /// No byte is left of the keys.
+    /// The input has ended.
     Ended,
-    /// The words are not FORM or FORM and ANSWERS.
+    /// The arguments are not FORM, or FORM and ANSWERS.
     Usage,
     /// The form has more than 1,048,576 bytes.
     TooLong,
-    /// It is no JSON in UTF-8.
+    /// The form is not JSON in UTF-8.
     NotJson,
-    /// A key of the form, or of its field of this number from 0, is missing, or its value is not as it has to be.
+    /// A key of the form is missing, or its value is not valid. With `at` it is a key of the field of that index, from
+    /// 0.
     BadForm { at: Option<usize>, key: FormKey },
-    /// The form could not be opened, or a read of it or of the keys failed.
+    /// The form could not be opened, or reading it or the keys failed.
     ReadFault,
-    /// A put failed, or answers can't be put where they are to go, which is found before the terminal is entered.
+    /// A write failed. Or the destination of the answers can't be opened, which is found before the terminal is
+    /// entered.
     WriteFault,
-    /// The memory was not there.
+    /// Memory ran out.
     NoMemory,
-    /// The session had as many reads as one may have.
+    /// The session has made the most reads that it may make, 4,294,967,296.
     ManyReads,
 }
 
 impl From<Refusal> for FormEnded {
     ghost use Rattle.std.specs.Prelude.{◌≡◌};
-    ghost use Rattle.tui_form_run.specs.Ended.{refused_as};
+    ghost use Rattle.tui_form_run.specs.Ended.{rejected_as};
 
-    ghost from_gives = { λ refusal ended. ended ≡ refused_as refusal };
+    ghost from_gives = { λ refusal ended. ended ≡ rejected_as refusal };
 
     fn from(refusal: Refusal) -> FormEnded {
         match refusal {
@@ -55,7 +57,7 @@ impl From<Refusal> for FormEnded {
     }
 }
 
-/// How a session ended that has answers only where it was accepted.
+/// Returns how a run ends after a session. A form has answers only if the session quit with the form accepted.
 pub(crate) fn ended_as(end: AppEnd, outcome: Outcome) -> FormEnded
     ensures { result ≡ ended_as end outcome }
 {
@@ -72,11 +74,11 @@ pub(crate) fn ended_as(end: AppEnd, outcome: Outcome) -> FormEnded
     }
 }
 
-/// Writes the line of a refusal, and ends with it.
-pub(crate) fn refuse<K: Sink>(refusal: Refusal, sink: &mut K) -> FormEnded
-    ensures { Refuses refusal (K.told sink.old) (K.told sink.new) result }
+/// Writes the line that says why the form is rejected, and returns how the run ends.
+pub(crate) fn reject<K: Sink>(refusal: Refusal, sink: &mut K) -> FormEnded
+    ensures { Rejects refusal (K.observed sink.old) (K.observed sink.new) result }
 {
-    match put_line(refusal, sink) {
+    match write_refusal_line(refusal, sink) {
         Ok(()) => refusal.into(),
         Err(WriteFault) => FormEnded::WriteFault,
     }
@@ -87,7 +89,7 @@ impl FormEnded {
     ghost use Rattle.std.specs.Process.{exit_status};
     ghost use Rattle.tui_form_run.specs.Ended.{status_of};
 
-    /// The exit status of the program.
+    /// Returns the exit status of the program.
     pub fn status(&self) -> u8
         ensures { result ≡ status_of self.now }
     {
@@ -104,7 +106,7 @@ impl FormEnded {
         }
     }
 
-    /// The exit status, as `main` answers it.
+    /// Returns the exit status as `main` returns it.
     pub fn exit_code(&self) -> ExitCode
         ensures { exit_status result ≡ status_of self.now }
     {

@@ -5,7 +5,7 @@ use std::str::FromStr;
 use tui_cells::ParseError;
 use tui_json::Named;
 
-/// What a field asks for.
+/// The kind of a field.
 #[derive(Clone, Copy, Debug, PartialEq, Eq)]
 pub enum FieldKind {
     /// A text that is typed.
@@ -24,7 +24,7 @@ impl FromStr for FieldKind {
 
     ghost from_str_gives = { IsParsed kind_name };
 
-    /// Answers `VariantNotFound` exactly where the text is no kind's name.
+    /// Fails with `VariantNotFound` exactly if the text is not the name of a kind.
     fn from_str(text: &str) -> Result<FieldKind, ParseError> {
         match text {
             "text" => Ok(FieldKind::Text),

@@ -1,11 +1,11 @@
-//! What a field holds at first, and whether it is needed.
+//! The initial value of a field, and whether the field is needed.
 
 ghost use Rattle.std.specs.Prelude.{◌≡◌, IfOk, Some, map, option_map, string_bytes};
 ghost use Rattle.serde_json.specs.View.{view};
-ghost use Rattle.tui_form_run.specs.Input.{check_of, choice_of, chosen_at_first, filled_of, place_of, typed_at_first, typed_text_of};
+ghost use Rattle.tui_form_run.specs.Input.{check_of, choice_of, initial_choice, filled_of, place_of, initial_text, typed_text_of};
 ghost use Rattle.tui_form_run.specs.Filled.{filled_data};
 ghost use Rattle.tui_form_run.specs.Refusals.{bad_form};
-ghost use Rattle.tui_json.specs.Refusals.{Gives, or_refuse};
+ghost use Rattle.tui_json.specs.Refusals.{Gives, or_reject};
 
 use crate::bad_form::BadForm;
 use crate::field_kind::FieldKind;
@@ -18,16 +18,16 @@ use tui_form_lib::Value;
 use tui_input::InputState;
 use tui_json::{InputError, Within, optional, required};
 
-/// The most characters of a text, where the form says nothing of them.
+/// The most characters of a text, if the form does not give `most`.
 const MOST: u16 = 1000;
 
-/// What a field holds, and whether it is needed.
+/// The initial value of a field, and whether the field is needed.
 pub(crate) struct Filled {
     pub(crate) is_needed: bool,
     pub(crate) value: Value,
 }
 
-/// What a field of a kind holds.
+/// Reads the initial value of a field of this kind.
 pub(crate) fn read_filled(
     alloc: Global,
     kind: FieldKind,
@@ -55,18 +55,14 @@ fn read_text(alloc: Global, number: usize, value: &Json) -> Result<Filled, Input
     Ok(Filled {
         is_needed: needed.unwrap_or(false),
         value: Value::Text {
-            input: typed_at_first(alloc, most, text)?,
+            input: initial_text(alloc, most, text)?,
             is_masked: mask.unwrap_or(false),
         },
     })
 }
 
-fn typed_at_first(
-    alloc: Global,
-    most: Option<Within<1, 1000>>,
-    text: Option<&str>,
-) -> Mem<InputState>
-    ensures { IfOk result (λ input. input ≡ typed_at_first (option_map (λ n. n.0) most) (option_map (λ t. t.now) text.entry)) }
+fn initial_text(alloc: Global, most: Option<Within<1, 1000>>, text: Option<&str>) -> Mem<InputState>
+    ensures { IfOk result (λ input. input ≡ initial_text (option_map (λ n. n.0) most) (option_map (λ t. t.now) text.entry)) }
 {
     let most = match most {
         Some(Within(most)) => most,
@@ -80,28 +76,28 @@ fn read_choice(alloc: Global, number: usize, value: &Json) -> Result<Filled, Inp
     ensures { Gives filled_data result (choice_of number (view value.now)) }
 {
     let at = Some(number);
-    let Texts(of) = required(alloc, at, FormKey::Of, value)?;
+    let Texts(options) = required(alloc, at, FormKey::Of, value)?;
     let needed: Option<bool> = optional(alloc, at, FormKey::Needed, value)?;
     let text: Option<&str> = optional(alloc, at, FormKey::Value, value)?;
-    let chosen = chosen_at_first(&of, number, text)?;
+    let chosen = initial_choice(&options, number, text)?;
     Ok(Filled {
         is_needed: needed.unwrap_or(false),
-        value: Value::Choice { of, chosen },
+        value: Value::Choice { options, chosen },
     })
 }
 
-/// The place of the text that is given, if one is, which is refused where it is none of these.
-fn chosen_at_first(
-    of: &[String],
+/// Returns the index of the given text, if there is one. Rejects a text that is not one of these.
+fn initial_choice(
+    options: &[String],
     number: usize,
     text: Option<&str>,
 ) -> Result<Option<usize>, InputError<BadForm>>
     ensures { Gives (λ chosen. chosen) result
-        (or_refuse (bad_form (Some number) FormKey.Value) (chosen_at_first (map string_bytes of.now) (option_map (λ t. t.now) text.entry))) }
+        (or_reject (bad_form (Some number) FormKey.Value) (initial_choice (map string_bytes options.now) (option_map (λ t. t.now) text.entry))) }
 {
     match text {
         None => Ok(None),
-        Some(text) => match place_of(of, text) {
+        Some(text) => match place_of(options, text) {
             Some(place) => Ok(Some(place)),
             None => Err(InputError::Refused(BadForm {
                 at: Some(number),
@@ -111,12 +107,12 @@ fn chosen_at_first(
     }
 }
 
-/// The place of the first of these texts that is this one.
-fn place_of(of: &[String], text: &str) -> Option<usize>
-    ensures { result ≡ place_of text.now (map string_bytes of.now) }
+/// Returns the index of the first of these texts that equals `text`.
+fn place_of(options: &[String], text: &str) -> Option<usize>
+    ensures { result ≡ place_of text.now (map string_bytes options.now) }
 {
-    'texts: for i in 0..of.len() {
-        if of[i].as_str() == text {
+    'texts: for i in 0..options.len() {
+        if options[i].as_str() == text {
             return Some(i);
         }
     }

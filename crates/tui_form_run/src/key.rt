@@ -22,7 +22,7 @@ impl FormKey {
     ghost use Rattle.std.specs.Prelude.{◌≡◌};
     ghost use Rattle.tui_form_run.specs.Refusals.{key_name};
 
-    /// Its name in the JSON, as `fields`.
+    /// Returns its name in the JSON, such as `fields`.
     pub fn name(&self) -> &'static str
         ensures { result.now ≡ key_name self.now }
     {

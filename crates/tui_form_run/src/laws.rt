@@ -1,14 +1,15 @@
-//! What holds of all runs of the program.
+//! What holds for every run of the program.
 
-ghost use Rattle.tui_form_run.specs.Laws.{AnswersReadBack, IsAskedFor};
+ghost use Rattle.tui_form_run.specs.Laws.{AnswersReadBack, EndsLeftOrFilled};
 
-/// The line of a form's answers is one line, and reads back, as JSON (RFC 8259), as the object that has the name and the answer of each field, in order.
+/// A form's answers are one line. Read as JSON (RFC 8259), it is the object with the name and the answer of each field,
+/// in order.
 pub fn answers_law()
     ensures { AnswersReadBack }
 {}
 
-/// Where the user ends the session of an open form, as that of each run is, the form was left, or it is accepted and each field that is needed is filled in;
-/// and its fields have the names that they had at first.
+/// If the user ends the session of an open form, the form was left, or it was accepted and each needed field is filled
+/// in. Its fields keep their names. Every run shows an open form.
 pub fn filled_law()
-    ensures { IsAskedFor }
+    ensures { EndsLeftOrFilled }
 {}

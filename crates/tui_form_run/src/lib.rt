@@ -1,7 +1,9 @@
-//! The program that asks by a form, from the words, the form and what the terminal gives to the answers.
+//! The program `tui_form`: it asks the user to fill in a form. This crate goes from the arguments, the form and the
+//! terminal's input to the answers.
 #![tactic(auto)]
 
 mod answers;
+mod arguments;
 mod asking;
 mod bad_form;
 mod ended;
@@ -16,17 +18,16 @@ mod reading;
 mod refusal;
 mod session;
 mod texts;
-mod words;
 
-pub use answers::{AnswersError, put_answers};
+pub use answers::{AnswersError, write_answers_line};
+pub use arguments::{FormFiles, files_named};
 pub use bad_form::BadForm;
 pub use ended::FormEnded;
 pub use field_kind::FieldKind;
 pub use key::FormKey;
 pub use laws::{answers_law, filled_law};
-pub use place::{FilePlace, Place};
+pub use place::{Destination, FileDestination};
 pub use program::{run_form, run_program};
 pub use reading::form_of;
 pub use refusal::Refusal;
 pub use session::show_form;
-pub use words::{FormFiles, files_named};

@@ -1,4 +1,4 @@
-//! Where answers go.
+//! The destination of the answers.
 
 ghost use Rattle.std.specs.Prelude.{
   ◌≡◌,
@@ -21,133 +21,135 @@ ghost use Rattle.std.specs.Prelude.{
 };
 ghost use Rattle.std.specs.Io.{WritesAtMost};
 ghost use Rattle.std.specs.Io.KnownBytes.{WriteAppends};
-ghost use Rattle.tui_form_run.specs.Place.{Opens};
-ghost use Rattle.tui_outside.specs.Causes.{HasCause};
-ghost use Rattle.tui_program.specs.Files.{told_of};
+ghost use Rattle.tui_form_run.specs.Destination.{Opens};
+ghost use Rattle.tui_io.specs.Causes.{HasCause};
+ghost use Rattle.tui_program.specs.Files.{remaining_of};
 
 use std::fs::{Files, OpenFile, OpenOptions};
 use std::io;
 use std::io::Write;
 use tui_cells::Mem;
-use tui_outside::{Failed, MemSink, Sink, StdSink};
-use tui_system::unless_memory;
+use tui_io::{Failed, MemSink, Sink, StdSink};
+use tui_system::or_out_of_memory;
 
-/// What takes answers. It is made ready before the form is shown, so that none is filled in whose answers have no place.
-pub trait Place: Sink {
-    /// Makes it ready. `Failed` where it can't be, which counts as a put that failed. What it holds stays; a file's old content goes with the first bytes that
-    /// are put.
+/// A destination of the answers. It is opened before the form is shown, so that nobody fills in a form whose answers
+/// can't be written.
+pub trait Destination: Sink {
+    /// Opens the destination. Returns `Failed` if it can't be opened, which counts as a write that failed. Its content
+    /// stays; that of a file is removed when the first bytes are written.
     fn open(&mut self) -> Mem<Result<(), Failed>>
-        ensures opens { Opens (Self.told self.old) (Self.told self.new) result };
+        ensures opens { Opens (Self.observed self.old) (Self.observed self.new) result };
 }
 
-/// A writer that is there, as standard error.
-impl<W: Write + Drop> Place for StdSink<W> {
-    /// It is always ready, and takes no memory.
+/// A writer that exists already, such as standard error.
+impl<W: Write + Drop> Destination for StdSink<W> {
+    /// Always succeeds, and does not allocate.
     fn open(&mut self) -> Mem<Result<(), Failed>>
-        ensures opens { Opens (record { bytes = W.contents self.old.inner; faults = self.old.faults })
-            (record { bytes = W.contents self.new.inner; faults = self.new.faults }) result }
+        ensures opens { Opens (record { bytes = W.contents self.old.inner; io_errors = self.old.io_errors })
+            (record { bytes = W.contents self.new.inner; io_errors = self.new.io_errors }) result }
         ensures ready { IsOkAnd result IsOk }
         ensures same { self.new ≡ self.old }
     {
-        // A writer is there.
+        // The writer is open.
         Ok(Ok(()))
     }
 }
 
-impl Place for MemSink {
-    /// It is always ready, and takes no memory.
+impl Destination for MemSink {
+    /// Always succeeds, and does not allocate.
     fn open(&mut self) -> Mem<Result<(), Failed>>
-        ensures opens { Opens (record { bytes = Some self.old.held; faults = self.old.faults })
-            (record { bytes = Some self.new.held; faults = self.new.faults }) result }
+        ensures opens { Opens (record { bytes = Some self.old.held; io_errors = self.old.io_errors })
+            (record { bytes = Some self.new.held; io_errors = self.new.io_errors }) result }
         ensures ready { IsOkAnd result IsOk }
         ensures same { self.new ≡ self.old }
     {
-        // So is memory, whose room is reserved.
+        // The memory is reserved.
         Ok(Ok(()))
     }
 }
 
-/// A file of the system by its name, which counts what failed. It is made where there is none, and empty until bytes are put. Of its bytes it tells nothing.
+/// A file of the file system, opened by its name. It counts the calls that failed. A file that doesn't exist is
+/// created, and stays empty until bytes are written. Its bytes are not observable.
 #[derive(Drop)]
-pub struct FilePlace<'r, R: Files> {
+pub struct FileDestination<'r, R: Files> {
     system: &'r R,
     name: String,
     file: Option<R::File>,
-    is_cut: bool,
-    faults: u64,
+    is_truncated: bool,
+    io_errors: u64,
 }
 
-impl<'r, R: Files> FilePlace<'r, R> {
-    /// The file of this name, which is not opened yet.
-    pub fn new(system: &'r R, name: String) -> FilePlace<'r, R>
-        ensures asked { result.system.now ≡ system.now }
+impl<'r, R: Files> FileDestination<'r, R> {
+    /// Returns the file of this name, which is not opened yet.
+    pub fn new(system: &'r R, name: String) -> FileDestination<'r, R>
+        ensures system { result.system.now ≡ system.now }
         ensures named { result.name ≡ name }
-        ensures shut { IsNone result.file × (result.is_cut ≡ false) }
-        ensures fresh { result.faults ≡ 0 }
+        ensures shut { IsNone result.file × (result.is_truncated ≡ false) }
+        ensures fresh { result.io_errors ≡ 0 }
     {
-        FilePlace {
+        FileDestination {
             system,
             name,
             file: None,
-            is_cut: false,
-            faults: 0,
+            is_truncated: false,
+            io_errors: 0,
         }
     }
 }
 
-impl<'r, R: Files> Place for FilePlace<'r, R> {
-    /// Ready is a file that the system has opened. `Failed` where it has not.
+impl<'r, R: Files> Destination for FileDestination<'r, R> {
+    /// Opens the file. Returns `Failed` if the system can't open it.
     fn open(&mut self) -> Mem<Result<(), Failed>>
-        ensures opens { Opens (record { bytes = None; faults = self.old.faults }) (record { bytes = None; faults = self.new.faults }) result }
+        ensures opens { Opens (record { bytes = None; io_errors = self.old.io_errors }) (record { bytes = None; io_errors = self.new.io_errors }) result }
         ensures there { IfOk result (λ ready. OnOk ready (IsSome self.new.file)) }
         ensures named { self.new.name ≡ self.old.name }
-        ensures uncut { self.new.is_cut ≡ self.old.is_cut }
+        ensures truncation_stays { self.new.is_truncated ≡ self.old.is_truncated }
         ensures err { OnErr result (self.new ≡ self.old) }
     {
-        match unless_memory(opened(self.system, self.name.as_str()))? {
+        match or_out_of_memory(opened(self.system, self.name.as_str()))? {
             Ok(file) => {
                 self.file = Some(file);
                 Ok(Ok(()))
             }
             Err(_) => {
-                self.faults = self.faults.saturating_add(1);
+                self.io_errors = self.io_errors.saturating_add(1);
                 Ok(Err(Failed))
             }
         }
     }
 }
 
-impl<'r, R: Files> Sink for FilePlace<'r, R> {
-    ghost told = { λ place. record { bytes = None; faults = place.faults } };
+impl<'r, R: Files> Sink for FileDestination<'r, R> {
+    ghost observed = { λ place. record { bytes = None; io_errors = place.io_errors } };
 
-    /// Writes to the file, which is cut to nothing before the first bytes. `Failed` where none is open, too.
+    /// Writes to the file, which is truncated before the first bytes. Fails also if no file is open.
     fn put(&mut self, bytes: &[u8]) -> Result<usize, Failed>
         ensures bound { WritesAtMost result bytes.now }
         ensures some { IfOk result (λ n. 0 < length bytes.now → 0 < n) }
         ensures bytes { WriteAppends None None result bytes.now }
-        ensures cause { HasCause self.old.faults self.new.faults result }
+        ensures cause { HasCause self.old.io_errors self.new.io_errors result }
 
-        // It is the file that takes them, so far as a file tells what it takes.
+        // The file takes the bytes, as far as its contents are observable.
         ensures shut { IsNone self.old.file → IsErr result }
-        ensures taken { WriteAppends (told_of R.File.contents self.old.file) (told_of R.File.contents self.new.file) result bytes.now }
-        ensures cut { MatchResult result (λ _. self.new.is_cut ≡ true) (λ _. self.new.is_cut ≡ self.old.is_cut) }
+        ensures taken { WriteAppends (remaining_of R.File.contents self.old.file) (remaining_of R.File.contents self.new.file) result bytes.now }
+        ensures cut { MatchResult result (λ _. self.new.is_truncated ≡ true) (λ _. self.new.is_truncated ≡ self.old.is_truncated) }
         ensures open { is_some self.new.file ≡ is_some self.old.file }
         ensures named { self.new.name ≡ self.old.name }
     {
-        match put_some(&mut self.file, self.is_cut, bytes) {
+        match write_some(&mut self.file, self.is_truncated, bytes) {
             Ok(count) => {
-                self.is_cut = true;
+                self.is_truncated = true;
                 Ok(count)
             }
             Err(Failed) => {
-                self.faults = self.faults.saturating_add(1);
+                self.io_errors = self.io_errors.saturating_add(1);
                 Err(Failed)
             }
         }
     }
 }
 
-/// A file that is there or made, whose bytes stay.
+/// Opens a file, or creates it if it doesn't exist. Its bytes stay.
 fn opened<R: Files>(system: &R, name: &str) -> io::Result<R::File> {
     OpenOptions::new()
         .write(true)
@@ -155,22 +157,22 @@ fn opened<R: Files>(system: &R, name: &str) -> io::Result<R::File> {
         .open(system, name)
 }
 
-/// Writes to a file, if there is one, which is cut to nothing before, if it was not yet.
-fn put_some<F: Write + OpenFile>(
+/// Writes to a file, if there is one. Truncates it first, unless that was done before.
+fn write_some<F: Write + OpenFile>(
     file: &mut Option<F>,
-    is_cut: bool,
+    is_truncated: bool,
     bytes: &[u8],
 ) -> Result<usize, Failed>
     ensures bound { WritesAtMost result bytes.now }
     ensures some { IfOk result (λ n. 0 < length bytes.now → 0 < n) }
     ensures shut { IsNone file.old → IsErr result }
-    ensures taken { WriteAppends (told_of F.contents file.old) (told_of F.contents file.new) result bytes.now }
+    ensures taken { WriteAppends (remaining_of F.contents file.old) (remaining_of F.contents file.new) result bytes.now }
     ensures open { is_some file.new ≡ is_some file.old }
 {
     let Some(file) = file else {
         return Err(Failed);
     };
-    if !is_cut && cut(file).is_err() {
+    if !is_truncated && cut(file).is_err() {
         return Err(Failed);
     }
     match file.write(bytes) {
@@ -179,7 +181,7 @@ fn put_some<F: Write + OpenFile>(
     }
 }
 
-/// Cuts a file to nothing; what is no file of a folder, as a pipe or a device, has nothing to cut.
+/// Truncates a regular file. Anything else, such as a pipe or a device, is left as it is.
 fn cut<F: OpenFile>(file: &F) -> io::Result<()> {
     if file.metadata()?.is_file() {
         file.set_len(0)

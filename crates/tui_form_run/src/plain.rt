@@ -1,4 +1,4 @@
-//! Plain values of the program, which `==` tells apart and a clone leaves as they are.
+//! Plain values of the program: equal by `==` means the same, and a clone is the value.
 
 ghost use Rattle.std.proofs.Common.{rules};
 ghost use Rattle.tui_form_run.specs.Same.{same_bad_form, same_ended, same_key, same_refusal};
@@ -9,39 +9,39 @@ use crate::ended::FormEnded;
 use crate::field_kind::FieldKind;
 use crate::key::FormKey;
 use crate::refusal::Refusal;
-use tui_program::Plain;
+use tui_program::PlainValue;
 
-impl Plain for AnswersError {
+impl PlainValue for AnswersError {
     ghost same = { Prim.search rules };
 
     ghost cloned = { Prim.search rules };
 }
 
-impl Plain for FieldKind {
+impl PlainValue for FieldKind {
     ghost same = { Prim.search rules };
 
     ghost cloned = { Prim.search rules };
 }
 
-impl Plain for FormKey {
+impl PlainValue for FormKey {
     ghost same = { same_key };
 
     ghost cloned = { Prim.search rules };
 }
 
-impl Plain for BadForm {
+impl PlainValue for BadForm {
     ghost same = { same_bad_form };
 
     ghost cloned = { Prim.search rules };
 }
 
-impl Plain for Refusal {
+impl PlainValue for Refusal {
     ghost same = { same_refusal };
 
     ghost cloned = { Prim.search rules };
 }
 
-impl Plain for FormEnded {
+impl PlainValue for FormEnded {
     ghost same = { same_ended };
 
     ghost cloned = { Prim.search rules };

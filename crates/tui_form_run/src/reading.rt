@@ -16,8 +16,8 @@ use std::alloc::Global;
 use tui_form_lib::{Form, FormField};
 use tui_json::{ByName, InputError, Numbered, Objects, each_numbered, required};
 
-/// The form that a JSON value says (docs/PROGRAMS.md), open and with the focus on its first field. It is refused at the first key that is missing though
-/// it has to be there, or whose value is not as it has to be: of the form, or of the field of a number.
+/// Reads a form from a JSON value (docs/PROGRAMS.md). The form is open, with the focus on its first field. Rejects the
+/// first key that is required and missing, or whose value is not valid: a key of the form, or of the field of an index.
 #[tactic(auto, unfolding(crate::specs::Input::form_of))]
 pub fn form_of<'v>(alloc: Global, value: &'v Value) -> Result<Form, InputError<BadForm>>
     ensures { Gives form_data result (form_of (view value.now)) }
@@ -32,11 +32,11 @@ impl<'v> Numbered<'v, FormKey> for FormField {
     ghost use Rattle.tui_form_lib.specs.Field.{FieldData, field_data};
     ghost use Rattle.tui_form_run.specs.Input.{field_of};
 
-    type Known = &'v [Value];
+    type Context = &'v [Value];
 
-    ghost Seen = { FieldData };
+    ghost AsData = { FieldData };
 
-    ghost seen = { field_data };
+    ghost as_data = { field_data };
 
     ghost tests = { λ known. field_of (items_view known.now) };
 
@@ -61,7 +61,7 @@ impl<'v> Numbered<'v, FormKey> for FormField {
     }
 }
 
-/// The name of the field of a number among these values.
+/// Reads the name of the field at index `number` among these values. Rejects the name of a field before it.
 #[tactic(auto, using(crate::proofs::Taken::firsts_within), unfolding(crate::specs::Input::name_of))]
 fn read_name(
     alloc: Global,
@@ -83,7 +83,7 @@ fn read_name(
     Ok(String::from_str(alloc, name)?)
 }
 
-/// Whether one of these values has a name.
+/// Returns whether one of these values has a name.
 #[tactic(auto, using(crate::proofs::Taken::none_yet, crate::proofs::Taken::one_has, crate::proofs::Taken::none_has))]
 fn is_taken(values: &[Value], name: &str) -> bool
     ensures { result ≡ is_taken name.now (items_view values.now) }

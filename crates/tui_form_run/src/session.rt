@@ -9,8 +9,8 @@ use tui_app::{AppEnd, Terminal, run};
 use tui_form_lib::Form;
 use tui_system::Setting;
 
-/// Shows a form on a terminal until the user accepts or leaves it, or the session ends otherwise, as `run` of an app does. Then the terminal is left, and
-/// the form holds what was filled in.
+/// Shows a form on a terminal until the user accepts or leaves it, or the session ends otherwise, as `tui_app::run`
+/// does. Then it leaves the terminal; the form holds what was filled in.
 pub fn show_form<T: Terminal>(
     alloc: Global,
     setting: Setting,
@@ -18,7 +18,7 @@ pub fn show_form<T: Terminal>(
     terminal: &mut T,
 ) -> AppEnd
     ensures { IsAppRun form_behaviour setting.output form.old (area_of 0 0 setting.width setting.height)
-        (T.told terminal.old) (T.told terminal.new) form.new result }
+        (T.observed terminal.old) (T.observed terminal.new) form.new result }
 {
     run(
         alloc,

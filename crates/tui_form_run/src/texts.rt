@@ -1,18 +1,18 @@
-//! Kinds of texts in the JSON of a form.
+//! Kinds of strings in the JSON of a form.
 
 use crate::key::FormKey;
 use serde_json::Value;
 use std::alloc::Global;
 use tui_json::{Counted, Kind, KindError, each};
 
-/// A text, kept.
+/// A string, copied from the JSON.
 impl<'v> Kind<'v, FormKey> for String {
     ghost use Rattle.std.specs.Prelude.{ℕ, List, string_bytes};
     ghost use Rattle.serde_json.specs.Find.{as_str};
 
-    ghost Seen = { List ℕ };
+    ghost AsData = { List ℕ };
 
-    ghost seen = { string_bytes };
+    ghost as_data = { string_bytes };
 
     ghost kind = { as_str };
 
@@ -24,7 +24,7 @@ impl<'v> Kind<'v, FormKey> for String {
     }
 }
 
-/// A text of 1 to 64 bytes.
+/// A string of 1 to 64 bytes.
 #[derive(Drop)]
 pub(crate) struct NameText<'v>(pub(crate) &'v str);
 
@@ -32,9 +32,9 @@ impl<'v> Kind<'v, FormKey> for NameText<'v> {
     ghost use Rattle.std.specs.Prelude.{ℕ, List};
     ghost use Rattle.tui_form_run.specs.Input.{name_text};
 
-    ghost Seen = { List ℕ };
+    ghost AsData = { List ℕ };
 
-    ghost seen = { λ name. name.0.now };
+    ghost as_data = { λ name. name.0.now };
 
     ghost kind = { name_text };
 
@@ -46,7 +46,7 @@ impl<'v> Kind<'v, FormKey> for NameText<'v> {
     }
 }
 
-/// An array of 1 to 100 texts, kept.
+/// An array of 1 to 100 strings, copied from the JSON.
 #[derive(Drop)]
 pub(crate) struct Texts(pub(crate) Vec<String>);
 
@@ -54,9 +54,9 @@ impl<'v> Kind<'v, FormKey> for Texts {
     ghost use Rattle.std.specs.Prelude.{ℕ, List, map, string_bytes};
     ghost use Rattle.tui_form_run.specs.Input.{texts_of};
 
-    ghost Seen = { List (List ℕ) };
+    ghost AsData = { List (List ℕ) };
 
-    ghost seen = { λ texts. map string_bytes texts.0.items };
+    ghost as_data = { λ texts. map string_bytes texts.0.items };
 
     ghost kind = { texts_of };
 

@@ -1,4 +1,4 @@
--- What a block leaves of the cells inside it.
+-- What a block does to the cells inside it.
 use Rattle.std.proofs.Common.{
   ◌≡◌,
   ℕ,
@@ -35,7 +35,7 @@ use Rattle.std.specs.List.{filter, list_any}
 use Rattle.std.proofs.lemmas.Bool.{and_parts}
 use Rattle.std.proofs.lemmas.Bool.Decides.{nat_tests}
 use Rattle.tui_cells.specs.declared.rect.Rect.{Rect}
-use Rattle.tui_cells.specs.Cell.{Look, dress, dressed, merge}
+use Rattle.tui_cells.specs.Cell.{Look, set_style, restyled, merge}
 use Rattle.tui_cells.specs.Layers.{StayIn, layers_at, stroke}
 use Rattle.tui_cells.specs.Rect.{columns_from, covers, intersection_of}
 use Rattle.tui_cells.specs.Stays.{StayIn-append, StayIn-none, StayIn-over, StayIn-stroke}
@@ -48,7 +48,7 @@ use Rattle.tui_text.specs.declared.alignment.Alignment.TheVariants.{Left, Center
 use Rattle.tui_text.proofs.RowStays.{row_stays}
 use Rattle.tui_frames.specs.Block.{BlockData, TitleData}
 use Rattle.tui_frames.specs.Borders.{bottom, has, left, right, top}
-use Rattle.tui_frames.specs.Laws.{InsideIsDressed}
+use Rattle.tui_frames.specs.Laws.{InsideIsStyled}
 use Rattle.tui_frames.specs.Shadow.{ShadowData, in_shadow, kind_edits, shadow_area, shadow_layers}
 use Rattle.tui_frames.specs.Space.{bottom_edge, count, inner, top_edge}
 use Rattle.tui_frames.specs.Strokes.{
@@ -80,14 +80,14 @@ pub record Fits (c : Rect) : Type 0 where
   pub wide : c.x + c.width ≤ 65535
   pub high : c.y + c.height ≤ 65535
 
--- all positions but those inside
+-- all positions except those inside
 abbrev around : BlockData → Rect → ℕ → ℕ → Bool
 around b c x y = not (covers (inner b c) x y)
 
 inside_of : (b : BlockData) (c : Rect) (x y : ℕ) → around b c x y ≡ false → covers (inner b c) x y ≡ true
 inside_of b c x y e = grind arith
 
--- inside a block one is in none of its columns and rows of borders
+-- a position inside a block is in none of its columns and rows of borders
 left_out : (b : BlockData) (c : Rect) (first height x y : ℕ) → Fits c → has b.borders left ≡ true → covers (inner b c) x y ≡ true →
     covers (intersection_of c (record { x = c.x; y = first; width = 1; height = height })) x y ≡ false
 left_out b c first height x y fits set inside = grind (arith, nat_tests, fits.wide)
@@ -96,7 +96,7 @@ right_out : (b : BlockData) (c : Rect) (first height x y : ℕ) → Fits c → h
     covers (intersection_of c (record { x = last_column c; y = first; width = 1; height = height })) x y ≡ false
 right_out b c first height x y fits set inside = grind (arith, nat_tests, fits.wide)
 
--- nor in its first or last row, where there is a border or a title
+-- nor in its first or last row, if there is a border or a title
 top_out : (b : BlockData) (c : Rect) (first width x y : ℕ) → Fits c → top_edge b ≡ 1 → covers (inner b c) x y ≡ true →
     covers (intersection_of c (cells_at first c.y width)) x y ≡ false
 top_out b c first width x y fits set inside = grind (arith, nat_tests, fits.high)
@@ -105,13 +105,13 @@ bottom_out : (b : BlockData) (c : Rect) (first width x y : ℕ) → Fits c → b
     covers (intersection_of c (cells_at first (last_row c) width)) x y ≡ false
 bottom_out b c first width x y fits set inside = grind (arith, nat_tests, fits.high)
 
--- borders stay around
+-- borders stay around the inside
 border_around : (b : BlockData) (c part : Rect) (t : Bool) (symbol : List ℕ) →
     (t ≡ true → (x y : ℕ) → covers (inner b c) x y ≡ true → covers (intersection_of c part) x y ≡ false) → StayIn (around b c) (border_layers b c t part symbol)
 border_around b c part false symbol out = StayIn-none
 border_around b c part true symbol out =
     StayIn-append (StayIn-stroke (covers (intersection_of c part)) (merge b.strategy symbol) (λ x y e. out refl x y (inside_of b c x y e)))
-    (StayIn-stroke (covers (intersection_of c part)) (dress b.border_style) (λ x y e. out refl x y (inside_of b c x y e)))
+    (StayIn-stroke (covers (intersection_of c part)) (set_style b.border_style) (λ x y e. out refl x y (inside_of b c x y e)))
 
 by_border : (b : BlockData) (side : ℕ) (t : Bool) → has b.borders side ≡ true → count (has b.borders side || t) ≡ 1
 by_border b side t e = rw e refl
@@ -144,7 +144,7 @@ row_out c strip first width x y one e = grind (arith, nat_tests)
 title_in_row : (b : BlockData) (c strip : Rect) (first width : ℕ) (a : Alignment) (t : LineData) → strip.height ≤ 1 →
     StayIn (λ x y. y == strip.y) (title_layers b c (columns_from strip first width) a t)
 title_in_row b c strip first width a t one =
-    StayIn-append (StayIn-stroke (covers (intersection_of c (columns_from strip first width))) (dress b.title_style) (λ x y e. row_out c strip first width x y one e))
+    StayIn-append (StayIn-stroke (covers (intersection_of c (columns_from strip first width))) (set_style b.title_style) (λ x y e. row_out c strip first width x y one e))
     (StayIn-wider (λ x y e. row_out c strip first width x y one e) (row_stays (intersection_of c (columns_from strip first width)) a t))
 
 from_in_row : (b : BlockData) (c strip : Rect) (column : ℕ) (ts : List LineData) → strip.height ≤ 1 → StayIn (λ x y. y == strip.y) (titles_from b c strip column ts)
@@ -238,16 +238,16 @@ shade_inside : (b : BlockData) (s : Option ShadowData) (c : Rect) (x y : ℕ) (k
 unfolding shadow_layers
 shade_inside b None c x y k inside = refl
 shade_inside b (Some s) c x y k inside =
-    (StayIn-over (in_shadow (shadow_area s c) c) (dress s.style ∷ kind_edits s.kind)).cell x y (base_out (covers (shadow_area s c) x y) (covers c x y) inside) k
+    (StayIn-over (in_shadow (shadow_area s c) c) (set_style s.style ∷ kind_edits s.kind)).cell x y (base_out (covers (shadow_area s c) x y) (covers c x y) inside) k
   where
     base_out : (area base : Bool) → base ≡ true → (area && not base) ≡ false
     base_out area base e = grind arith
 
-frame_inside : (b : BlockData) (c : Rect) (x y : ℕ) (k : Look) → Fits c → covers (inner b c) x y ≡ true → layers_at (frame_layers b c) x y k ≡ dressed b.style k
+frame_inside : (b : BlockData) (c : Rect) (x y : ℕ) (k : Look) → Fits c → covers (inner b c) x y ≡ true → layers_at (frame_layers b c) x y k ≡ restyled b.style k
 frame_inside b c x y k fits inside =
     let out : around b c x y ≡ false = rw inside refl in
-    let first = stroke (covers c) (dress b.style) in
-    let dressed_at : layers_at first x y k ≡ dressed b.style k = rw (in_clip b c x y inside) refl in
+    let first = stroke (covers c) (set_style b.style) in
+    let dressed_at : layers_at first x y k ≡ restyled b.style k = rw (in_clip b c x y inside) refl in
     layers_at-append (first ++ sides_layers b c ++ corners_layers b c ++ row_titles b c Top) (row_titles b c Bottom) x y k
     ∙ ((row_around b c Bottom _ refl fits).cell x y out _
     ∙ (layers_at-append (first ++ sides_layers b c ++ corners_layers b c) (row_titles b c Top) x y k
@@ -257,7 +257,7 @@ frame_inside b c x y k fits inside =
     ∙ (layers_at-append first (sides_layers b c) x y k
     ∙ ((sides_around b c fits).cell x y out _ ∙ dressed_at)))))))
 
-pub inside : InsideIsDressed
+pub inside : InsideIsStyled
 inside b c x y k wide high within =
     layers_at-append (frame_layers b c) (shadow_layers_if b.shadow c) x y k
     ∙ (shade_inside b b.shadow c x y _ (in_clip b c x y within) ∙ frame_inside b c x y k (record { wide = wide; high = high }) within)

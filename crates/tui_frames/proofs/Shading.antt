@@ -27,7 +27,7 @@ use Rattle.std.proofs.lemmas.Bool.Decides.{nat_tests}
 use Rattle.tui_cells.specs.declared.rect.Rect.{Rect}
 use Rattle.tui_cells.specs.declared.style.Style.{Style}
 use Rattle.tui_cells.specs.Buffer.{Screen}
-use Rattle.tui_cells.specs.Cell.{Edit, Look, dress, edited, put}
+use Rattle.tui_cells.specs.Cell.{Edit, Look, set_style, edited, write}
 use Rattle.tui_cells.specs.Layers.{KeptOutside, Painted, over}
 use Rattle.tui_cells.specs.Rect.{covers, intersection_of}
 use Rattle.tui_cells.specs.Stays.{StayIn-over}
@@ -36,31 +36,31 @@ use Rattle.tui_cells.proofs.Regions.{covers_both}
 use Rattle.tui_frames.specs.Shadow.{in_shadow}
 use Rattle.tui_frames.specs.Sides.{side_of}
 use Rattle.tui_frames.specs.declared.shadow.parts.Side.{Side}
-use Rattle.tui_frames.specs.declared.shadow.parts.Side.TheVariants.{Above, Below, Before, Behind}
+use Rattle.tui_frames.specs.declared.shadow.parts.Side.TheVariants.{Above, Below, LeftOf, RightOf}
 
--- no two sides of a base meet
+-- no two sides of a base overlap
 above_below : (base : Rect) (x y : ℕ) → (covers (side_of base Above) x y && covers (side_of base Below) x y) ≡ false
 above_below base x y = grind (arith, nat_tests)
 
-above_before : (base : Rect) (x y : ℕ) → (covers (side_of base Above) x y && covers (side_of base Before) x y) ≡ false
-above_before base x y = grind (arith, nat_tests)
+above_left : (base : Rect) (x y : ℕ) → (covers (side_of base Above) x y && covers (side_of base LeftOf) x y) ≡ false
+above_left base x y = grind (arith, nat_tests)
 
-below_before : (base : Rect) (x y : ℕ) → (covers (side_of base Below) x y && covers (side_of base Before) x y) ≡ false
-below_before base x y = grind (arith, nat_tests)
+below_left : (base : Rect) (x y : ℕ) → (covers (side_of base Below) x y && covers (side_of base LeftOf) x y) ≡ false
+below_left base x y = grind (arith, nat_tests)
 
-above_behind : (base : Rect) (x y : ℕ) → (covers (side_of base Above) x y && covers (side_of base Behind) x y) ≡ false
-above_behind base x y = grind (arith, nat_tests)
+above_right : (base : Rect) (x y : ℕ) → (covers (side_of base Above) x y && covers (side_of base RightOf) x y) ≡ false
+above_right base x y = grind (arith, nat_tests)
 
-below_behind : (base : Rect) (x y : ℕ) → (covers (side_of base Below) x y && covers (side_of base Behind) x y) ≡ false
-below_behind base x y = grind (arith, nat_tests)
+below_right : (base : Rect) (x y : ℕ) → (covers (side_of base Below) x y && covers (side_of base RightOf) x y) ≡ false
+below_right base x y = grind (arith, nat_tests)
 
-before_behind : (base : Rect) (x y : ℕ) → (covers (side_of base Before) x y && covers (side_of base Behind) x y) ≡ false
-before_behind base x y = grind (arith, nat_tests)
+left_right : (base : Rect) (x y : ℕ) → (covers (side_of base LeftOf) x y && covers (side_of base RightOf) x y) ≡ false
+left_right base x y = grind (arith, nat_tests)
 
--- what lies outside the base lies on a side of it
+-- a position outside the base lies on a side of it
 sides : (base : Rect) (x y : ℕ) → x < 65535 → y < 65535 →
     not (covers base x y)
-    ≡ (((covers (side_of base Above) x y || covers (side_of base Below) x y) || covers (side_of base Before) x y) || covers (side_of base Behind) x y)
+    ≡ (((covers (side_of base Above) x y || covers (side_of base Below) x y) || covers (side_of base LeftOf) x y) || covers (side_of base RightOf) x y)
 sides base x y p q = grind (arith, nat_tests)
 
 near : (area : Rect) (x y : ℕ) → covers area x y ≡ true → (x < 65535) × (y < 65535)
@@ -82,7 +82,7 @@ all_four false b s t u v e = refl
 abbrev on : Rect → Rect → Side → ℕ → ℕ → Bool
 on area base side x y = covers area x y && covers (side_of base side) x y
 
--- a part with its region as two tests
+-- a part, with its region as two tests
 part_of : (area base : Rect) (side : Side) (es : List Edit) (a b : Screen) →
     Painted (over (covers (intersection_of area (side_of base side))) es) a b → Painted (over (on area base side) es) a b
 part_of area base side es a b p =
@@ -92,28 +92,28 @@ abbrev two : Rect → Rect → ℕ → ℕ → Bool
 two area base x y = on area base Above x y || on area base Below x y
 
 abbrev three : Rect → Rect → ℕ → ℕ → Bool
-three area base x y = two area base x y || on area base Before x y
+three area base x y = two area base x y || on area base LeftOf x y
 
 abbrev four : Rect → Rect → ℕ → ℕ → Bool
-four area base x y = three area base x y || on area base Behind x y
+four area base x y = three area base x y || on area base RightOf x y
 
--- the same changes on the four sides are those changes in the area outside the base
+-- the same edits on the four sides are those edits in the area outside the base
 pub four_painted : (area base : Rect) (es : List Edit) (a b c d e : Screen) →
     Painted (over (covers (intersection_of area (side_of base Above))) es) a b →
     Painted (over (covers (intersection_of area (side_of base Below))) es) b c →
-    Painted (over (covers (intersection_of area (side_of base Before))) es) c d →
-    Painted (over (covers (intersection_of area (side_of base Behind))) es) d e →
+    Painted (over (covers (intersection_of area (side_of base LeftOf))) es) c d →
+    Painted (over (covers (intersection_of area (side_of base RightOf))) es) d e →
     Painted (over (in_shadow area base) es) a e
 four_painted area base es a b c d e p q r s =
     let second : Painted (over (two area base) es) a c =
     Painted-over (on area base Above) (on area base Below) (two area base) es a b c (part_of area base Above es a b p) (part_of area base Below es b c q)
     (λ x y. (apart_two (covers area x y) _ _ (above_below base x y), refl)) in
     let third : Painted (over (three area base) es) a d =
-    Painted-over (two area base) (on area base Before) (three area base) es a c d second (part_of area base Before es c d r)
-    (λ x y. (apart_three (covers area x y) _ _ _ (above_before base x y) (below_before base x y), refl)) in
+    Painted-over (two area base) (on area base LeftOf) (three area base) es a c d second (part_of area base LeftOf es c d r)
+    (λ x y. (apart_three (covers area x y) _ _ _ (above_left base x y) (below_left base x y), refl)) in
     let fourth : Painted (over (four area base) es) a e =
-    Painted-over (three area base) (on area base Behind) (four area base) es a d e third (part_of area base Behind es d e s)
-    (λ x y. (apart_four (covers area x y) _ _ _ _ (above_behind base x y) (below_behind base x y) (before_behind base x y), refl)) in
+    Painted-over (three area base) (on area base RightOf) (four area base) es a d e third (part_of area base RightOf es d e s)
+    (λ x y. (apart_four (covers area x y) _ _ _ _ (above_right base x y) (below_right base x y) (left_right base x y), refl)) in
     Painted-region (four area base) (in_shadow area base) es a e fourth
     (λ x y. all_four (covers area x y) (covers base x y) _ _ _ _ (λ h. sides base x y (near area x y h).0 (near area x y h).1))
 
@@ -128,27 +128,27 @@ part_in area base side x y out =
     beside : (base : Rect) (side : Side) (x y : ℕ) → (covers base x y && covers (side_of base side) x y) ≡ false
     beside base Above x y = grind (arith, nat_tests)
     beside base Below x y = grind (arith, nat_tests)
-    beside base Before x y = grind (arith, nat_tests)
-    beside base Behind x y = grind (arith, nat_tests)
+    beside base LeftOf x y = grind (arith, nat_tests)
+    beside base RightOf x y = grind (arith, nat_tests)
 
--- changes of a region keep all outside it
+-- edits of a region keep all cells outside it
 pub over_kept : (R : ℕ → ℕ → Bool) (es : List Edit) (a b : Screen) → Painted (over R es) a b → KeptOutside R a b
 over_kept R es a b p = Painted-kept (StayIn-over R es) p
 
--- whatever the answer, a fill of a side keeps all outside the shadow
+-- whatever the result, filling a side keeps all cells outside the shadow
 pub side_kept : {T E : Type 0} (result : Result T E) (area base : Rect) (side : Side) (es : List Edit) (a b : Screen) →
     OnOk result (Painted (over (covers (intersection_of area (side_of base side))) es) a b) →
     OnErr result (KeptOutside (covers (intersection_of area (side_of base side))) a b) → KeptOutside (in_shadow area base) a b
 side_kept (Ok x) area base side es a b p q = KeptOutside-weaker (part_in area base side) (over_kept _ es a b p)
 side_kept (Err x) area base side es a b p q = KeptOutside-weaker (part_in area base side) q
 
--- a symbol and a style may be set in either order
+-- a symbol and a style can be set in either order
 pub swapped : (R : ℕ → ℕ → Bool) (text : List ℕ) (style : Style) (a b : Screen) →
-    Painted (over R (put text ∷ dress style ∷ [])) a b → Painted (over R (dress style ∷ put text ∷ [])) a b
+    Painted (over R (write text ∷ set_style style ∷ [])) a b → Painted (over R (set_style style ∷ write text ∷ [])) a b
 swapped R text style a b p = Painted-same (λ x y c. either (R x y) c) p
   where
     either : (r : Bool) (c : Look) →
-        (if r then edited (dress style) (if r then edited (put text) c else c) else (if r then edited (put text) c else c))
-        ≡ (if r then edited (put text) (if r then edited (dress style) c else c) else (if r then edited (dress style) c else c))
+        (if r then edited (set_style style) (if r then edited (write text) c else c) else (if r then edited (write text) c else c))
+        ≡ (if r then edited (write text) (if r then edited (set_style style) c else c) else (if r then edited (set_style style) c else c))
     either true c = refl
     either false c = refl

@@ -18,7 +18,7 @@ use Rattle.tui_frames.specs.declared.padding.Padding.{Padding}
 use Rattle.tui_frames.specs.declared.title_position.TitlePosition.{TitlePosition}
 use Rattle.tui_frames.specs.declared.title_position.TitlePosition.TheVariants.{Top}
 
--- a title, and the side on which it stands, if it has one of its own
+-- a title, and the side on which it is placed, if it has one of its own
 pub record TitleData : Type 0 where
   pub line : LineData
   pub position : Option TitlePosition

@@ -1,8 +1,8 @@
--- Columns and rows that are left free.
+-- Free columns and rows.
 use Rattle.std.specs.Prelude.{ℕ}
 use Rattle.tui_frames.specs.declared.padding.Padding.{Padding}
 
--- the rows and columns around what is inside
+-- the columns and rows around the content
 abbrev pub padding : (left right top bottom : ℕ) → Padding
 padding left right top bottom = record { left = left; right = right; top = top; bottom = bottom }
 

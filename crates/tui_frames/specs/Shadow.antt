@@ -3,7 +3,7 @@ use Rattle.std.specs.Prelude.{⊤, ℕ, pos, Bool, not, ◌&&◌, ◌||◌, List
 use Rattle.tui_cells.specs.declared.offset.Offset.{Offset}
 use Rattle.tui_cells.specs.declared.rect.Rect.{Rect}
 use Rattle.tui_cells.specs.declared.style.Style.{Style}
-use Rattle.tui_cells.specs.Cell.{Edit, IsLight, dim, dress, put}
+use Rattle.tui_cells.specs.Cell.{Edit, IsAllocationFree, dim, set_style, write}
 use Rattle.tui_cells.specs.Layers.{Layer, over}
 use Rattle.tui_cells.specs.Rect.{covers, offset_of}
 use Rattle.tui_cells.specs.Style.{no_style}
@@ -11,7 +11,7 @@ use Rattle.tui_frames.specs.declared.shadow.Shadow.{Shadow}
 use Rattle.tui_frames.specs.declared.shadow.ShadowKind.{ShadowKind}
 use Rattle.tui_frames.specs.declared.shadow.ShadowKind.TheVariants as kinds
 
--- a shadow as plain data
+-- the kind of a shadow as plain data
 pub data KindData : Type 0 where
   overlay : KindData
   symbol : List ℕ → KindData
@@ -48,19 +48,19 @@ in_shadow area base x y = covers area x y && not (covers base x y)
 -- what happens in a cell of a shadow besides its style
 abbrev pub kind_edits : KindData → List Edit
 kind_edits overlay = []
-kind_edits (symbol text) = put text ∷ []
+kind_edits (symbol text) = write text ∷ []
 kind_edits dimmed = dim ∷ []
 
 -- the style, and then what the kind does, in the cells of the moved base outside the base
 unfoldable pub shadow_layers : ShadowData → Rect → List Layer
-shadow_layers s base = over (in_shadow (shadow_area s base) base) (dress s.style ∷ kind_edits s.kind)
+shadow_layers s base = over (in_shadow (shadow_area s base) base) (set_style s.style ∷ kind_edits s.kind)
 
--- the positions that something with a shadow may change: its own, and those of its shadow
+-- the positions that a widget with a shadow may change: its own, and those of its shadow
 abbrev pub shadow_footprint : ShadowData → Rect → ℕ → ℕ → Bool
 shadow_footprint s base x y = covers base x y || covers (shadow_area s base) x y
 
--- a shadow that takes no memory: one without a symbol, or with one that is kept in place
-abbrev pub IsLightKind : KindData → Type 0
-IsLightKind overlay = ⊤
-IsLightKind (symbol text) = IsLight text
-IsLightKind dimmed = ⊤
+-- a shadow that does not allocate: one without a symbol, or one whose symbol is stored in the cells
+abbrev pub IsAllocationFreeKind : KindData → Type 0
+IsAllocationFreeKind overlay = ⊤
+IsAllocationFreeKind (symbol text) = IsAllocationFree text
+IsAllocationFreeKind dimmed = ⊤

@@ -7,11 +7,11 @@ use Rattle.tui_frames.specs.Borders.{bottom, has, left, right, top}
 use Rattle.tui_frames.specs.Titles.{has_title}
 use Rattle.tui_frames.specs.declared.title_position.TitlePosition.TheVariants.{Top, Bottom}
 
--- 1 for a border that is there, 0 for none
+-- 1 if something is there, else 0
 abbrev pub count : Bool → ℕ
 count is_set = if is_set then 1 else 0
 
--- this many columns or rows further on, at most 65535
+-- a coordinate moved by n columns or rows, at most 65535
 abbrev pub past : ℕ → ℕ → ℕ
 past place n = min (place + n) farthest_edge
 
@@ -31,8 +31,8 @@ top_edge b = count (has b.borders top || has_title b Top)
 abbrev pub bottom_edge : BlockData → ℕ
 bottom_edge b = count (has b.borders bottom || has_title b Bottom)
 
--- the area inside a block: the corner moves by what is at the left and at the top, an edge not past the end of the area, and
--- the sizes lose what is at both sides
+-- the area inside a block: its corner moves by the edges at the left and at the top, but not past the end of the area,
+-- and then by the padding; its sizes lose the edges and the padding on both sides
 abbrev pub inner : BlockData → Rect → Rect
 inner b area = record {
   x = past (min (area.x + left_edge b) (right_of area)) b.padding.left;
@@ -41,7 +41,7 @@ inner b area = record {
   height = area.height - (top_edge b + bottom_edge b) - (b.padding.top + b.padding.bottom);
 }
 
--- the rows that a block takes around what is inside, those above and those below each cut at the farthest edge
+-- the rows that a block takes around its content; those above and those below are each cut at the farthest edge
 abbrev pub rows_around : BlockData → ℕ
 rows_around b = min (b.padding.top + top_edge b) farthest_edge + min (b.padding.bottom + bottom_edge b) farthest_edge
 
@@ -49,7 +49,7 @@ rows_around b = min (b.padding.top + top_edge b) farthest_edge + min (b.padding.
 abbrev pub columns_around : BlockData → ℕ
 columns_around b = min (b.padding.left + left_edge b) farthest_edge + min (b.padding.right + right_edge b) farthest_edge
 
--- an area within another one, edges being cut at 65535
+-- an area within another one, where edges are cut at 65535
 pub record LiesIn (inside area : Rect) : Type 0 where
   pub from_left : area.x ≤ inside.x
   pub from_top : area.y ≤ inside.y

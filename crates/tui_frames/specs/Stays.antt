@@ -1,7 +1,7 @@
--- Laws that drawings carry: the strokes of blocks and shadows stay in their footprints.
+-- Laws for drawing: the strokes of blocks and shadows stay in their footprints.
 use Rattle.std.specs.Prelude.{◌≡◌, ℕ, ◌+◌, ◌-◌, ◌/◌, min, Bool, true, false, List, [], ◌∷◌, ◌++◌, Option, Some, None, nat_le, if◌then◌else◌}
 use Rattle.tui_cells.specs.declared.rect.Rect.{Rect}
-use Rattle.tui_cells.specs.Cell.{dress, merge}
+use Rattle.tui_cells.specs.Cell.{set_style, merge}
 use Rattle.tui_cells.specs.Layers.{StayIn}
 use Rattle.tui_cells.specs.Rect.{covers, intersection_of, is_empty}
 use Rattle.tui_cells.specs.Stays.{StayIn-append, StayIn-none, StayIn-over, StayIn-stroke}
@@ -36,9 +36,9 @@ pub shadow_stays : (s : ShadowData) (c : Rect) → StayIn (shadow_footprint s c)
 unfolding shadow_layers
 shadow_stays s c =
     StayIn-wider (λ x y out. shade_out (covers (shadow_area s c) x y) (covers c x y) out)
-    (StayIn-over (in_shadow (shadow_area s c) c) (dress s.style ∷ kind_edits s.kind))
+    (StayIn-over (in_shadow (shadow_area s c) c) (set_style s.style ∷ kind_edits s.kind))
 
--- an empty base has no shadow
+-- over an empty base the footprint is empty
 pub shadow_nowhere : (s : ShadowData) (c : Rect) → is_empty c ≡ true → (x y : ℕ) → shadow_footprint s c x y ≡ false
 shadow_nowhere s c e x y = either_out (covers c x y) (covers (shadow_area s c) x y) (covers_nowhere c e x y) (covers_nowhere (shadow_area s c) e x y)
 
@@ -47,7 +47,7 @@ border_stays : (b : BlockData) (c : Rect) (t : Bool) (part : Rect) (symbol : Lis
 border_stays b c false part symbol = StayIn-none
 border_stays b c true part symbol =
     StayIn-append (StayIn-stroke (covers (intersection_of c part)) (merge b.strategy symbol) (outside_both c part))
-    (StayIn-stroke (covers (intersection_of c part)) (dress b.border_style) (outside_both c part))
+    (StayIn-stroke (covers (intersection_of c part)) (set_style b.border_style) (outside_both c part))
 
 sides_stay : (b : BlockData) (c : Rect) → StayIn (covers c) (sides_layers b c)
 unfolding sides_layers
@@ -62,7 +62,7 @@ corners_stay b c =
 -- titles
 title_stays : (b : BlockData) (c part : Rect) (a : Alignment) (t : LineData) → StayIn (covers c) (title_layers b c part a t)
 title_stays b c part a t =
-    StayIn-append (StayIn-stroke (covers (intersection_of c part)) (dress b.title_style) (outside_both c part))
+    StayIn-append (StayIn-stroke (covers (intersection_of c part)) (set_style b.title_style) (outside_both c part))
     (StayIn-wider (outside_both c part) (row_stays (intersection_of c part) a t))
 
 from_stays : (b : BlockData) (c strip : Rect) (column : ℕ) (ts : List LineData) → StayIn (covers c) (titles_from b c strip column ts)
@@ -98,18 +98,18 @@ row_stay b c p = StayIn-append (StayIn-append (from_stays b c _ 0 _) (middle_sta
 -- blocks
 pub frame_stays : (b : BlockData) (c : Rect) → StayIn (covers c) (frame_layers b c)
 frame_stays b c = StayIn-append (StayIn-append (StayIn-append (StayIn-append
-    (StayIn-stroke (covers c) (dress b.style) (λ x y out. out)) (sides_stay b c)) (corners_stay b c)) (row_stay b c Top)) (row_stay b c Bottom)
+    (StayIn-stroke (covers c) (set_style b.style) (λ x y out. out)) (sides_stay b c)) (corners_stay b c)) (row_stay b c Top)) (row_stay b c Bottom)
 
 stays_by : (b : BlockData) (s : Option ShadowData) (c : Rect) → StayIn (footprint_of s c) (frame_layers b c ++ shadow_layers_if s c)
 stays_by b None c = StayIn-append (frame_stays b c) StayIn-none
 stays_by b (Some s) c =
     StayIn-append (StayIn-wider (λ x y out. first_out (covers (shadow_area s c) x y) (covers c x y) out) (frame_stays b c)) (shadow_stays s c)
 
--- a block changes cells of its footprint alone
+-- a block changes only cells of its footprint
 pub block_stays : (b : BlockData) (c : Rect) → StayIn (block_footprint b c) (block_layers b c)
 block_stays b c = stays_by b b.shadow c
 
--- over an empty clip nothing has a footprint
+-- over an empty clip the footprint is empty
 pub footprint_nowhere : (s : Option ShadowData) (c : Rect) → is_empty c ≡ true → (x y : ℕ) → footprint_of s c x y ≡ false
 footprint_nowhere None c e x y = covers_nowhere c e x y
 footprint_nowhere (Some s) c e x y = shadow_nowhere s c e x y

@@ -3,7 +3,7 @@ use Rattle.std.specs.Prelude.{ℕ, ◌+◌, ◌-◌, ◌/◌, min, Bool, true, f
 use Rattle.tui_cells.specs.declared.merge_strategy.MergeStrategy.{MergeStrategy}
 use Rattle.tui_cells.specs.declared.merge_strategy.MergeStrategy.TheVariants.{Replace, Exact, Fuzzy}
 use Rattle.tui_cells.specs.declared.rect.Rect.{Rect}
-use Rattle.tui_cells.specs.Cell.{dress, merge}
+use Rattle.tui_cells.specs.Cell.{set_style, merge}
 use Rattle.tui_cells.specs.Layers.{Layer, over, stroke}
 use Rattle.tui_cells.specs.Rect.{bottom_of, columns_from, covers, intersection_of, right_of, rows_from}
 use Rattle.tui_text.specs.Line.{LineData}
@@ -15,7 +15,7 @@ use Rattle.tui_frames.specs.Borders.{bottom, has, left, right, top}
 use Rattle.tui_frames.specs.Shadow.{ShadowData, shadow_layers}
 use Rattle.tui_frames.specs.Space.{count, left_edge, right_edge}
 use Rattle.tui_frames.specs.Titles.{spaced, title_width, titles_in, total}
-use Rattle.tui_frames.specs.declared.block.title.Place.{Place}
+use Rattle.tui_frames.specs.declared.block.title.TitlePlace.{TitlePlace}
 use Rattle.tui_frames.specs.declared.title_position.TitlePosition.{TitlePosition}
 use Rattle.tui_frames.specs.declared.title_position.TitlePosition.TheVariants.{Top, Bottom}
 
@@ -35,7 +35,7 @@ joins Replace = false
 joins Exact = true
 joins Fuzzy = true
 
--- where symbols are joined, a side leaves its end cell to the corner if the border at that end is set
+-- if symbols are joined, a side leaves its end cell to the corner if the border at that end is set
 abbrev pub gap : BlockData → ℕ → ℕ
 gap b side = count (joins b.strategy && has b.borders side)
 
@@ -54,10 +54,11 @@ column_side b c x = rows_from (column_of c x) (gap b top) (c.height - (gap b top
 abbrev pub row_side : BlockData → Rect → ℕ → Rect
 row_side b c y = columns_from (row_of c y) (gap b left) (c.width - (gap b left + gap b right))
 
--- in each cell of a part of the clip, if the border is set: the symbol is joined with what stands there, and the border style set
+-- in each cell of a part of the clip, if the border is set: the symbol is joined with the one that is there, and the
+-- border style is set
 abbrev pub border_layers : BlockData → Rect → Bool → Rect → List ℕ → List Layer
 border_layers b c is_set part symbol =
-    if is_set then over (covers (intersection_of c part)) (merge b.strategy symbol ∷ dress b.border_style ∷ []) else []
+    if is_set then over (covers (intersection_of c part)) (merge b.strategy symbol ∷ set_style b.border_style ∷ []) else []
 
 -- the sides: left, top, right, bottom
 unfoldable pub sides_layers : BlockData → Rect → List Layer
@@ -86,30 +87,30 @@ abbrev pub row_at : Rect → TitlePosition → ℕ
 row_at c Top = c.y
 row_at c Bottom = last_row c
 
--- the part of that row in which titles stand: without the columns of the left and right borders that are set
+-- the part of that row for titles: without the columns of the left and right borders that are set
 abbrev pub strip_of : BlockData → Rect → TitlePosition → Rect
 strip_of b c position = columns_from (row_of c (row_at c position)) (left_edge b) (c.width - (left_edge b + right_edge b))
 
 -- a title in a part of the clip: the title style, and then the line
 abbrev pub title_layers : BlockData → Rect → Rect → Alignment → LineData → List Layer
-title_layers b c part alignment t = stroke (covers (intersection_of c part)) (dress b.title_style) ++ row_layers (intersection_of c part) alignment t
+title_layers b c part alignment t = stroke (covers (intersection_of c part)) (set_style b.title_style) ++ row_layers (intersection_of c part) alignment t
 
--- titles one blank apart from a column of a strip on, each as wide as it is or as there is room
+-- titles from a column of a strip on, one column apart, each as wide as it is or as there is room
 unfoldable pub titles_from : BlockData → Rect → Rect → ℕ → List LineData → List Layer
 titles_from b c strip column [] = []
 titles_from b c strip column (t ∷ ts) =
     title_layers b c (columns_from strip column (title_width t)) (unwrap_or t.alignment Left) t
     ++ titles_from b c strip (column + title_width t + 1) ts
 
--- titles one blank apart up to the strip's end, likewise, the last one first
+-- titles up to the end of a strip, likewise, the last one first
 unfoldable pub titles_to_end : BlockData → Rect → Rect → List LineData → List Layer
 titles_to_end b c strip [] = []
 titles_to_end b c strip (t ∷ ts) =
     let end = strip.width - spaced ts in let width = min (title_width t) end in
     titles_to_end b c strip ts ++ title_layers b c (columns_from strip (end - width) width) (unwrap_or t.alignment Left) t
 
--- titles that are cut at both ends: one that begins before column `cut` loses as many columns as there are up to it, and shows
--- its end
+-- titles that are cut at both ends: one that begins before column `cut` loses as many columns as there are up to it,
+-- and shows its end
 unfoldable pub titles_cut : BlockData → Rect → Rect → ℕ → ℕ → List LineData → List Layer
 titles_cut b c strip cut column [] = []
 titles_cut b c strip cut column (t ∷ ts) =
@@ -117,14 +118,15 @@ titles_cut b c strip cut column (t ∷ ts) =
     title_layers b c (columns_from strip column width) (if nat_lt column cut then Right else Left) t
     ++ titles_cut b c strip cut (column + width + 1) ts
 
--- titles in the middle: half of the free columns stand before them; where there are too few, half of what lacks is cut
+-- titles in the middle: half of the free columns lie before them; if there are too few columns, half of the missing
+-- ones are cut at the left
 unfoldable pub titles_in_middle : BlockData → Rect → Rect → List LineData → List Layer
 titles_in_middle b c strip ts =
     if nat_le (total ts) strip.width then titles_from b c strip ((strip.width - total ts) / 2) ts
     else titles_cut b c strip ((total ts - strip.width) / 2) 0 ts
 
--- a side, and where on it
-abbrev pub place_of : TitlePosition → Alignment → Place
+-- a side, and an alignment on it
+abbrev pub place_of : TitlePosition → Alignment → TitlePlace
 place_of position alignment = record { position = position; alignment = alignment }
 
 -- the titles of a side
@@ -138,7 +140,7 @@ row_titles b c position =
 
 -- a block without its shadow
 abbrev pub frame_layers : BlockData → Rect → List Layer
-frame_layers b c = stroke (covers c) (dress b.style) ++ sides_layers b c ++ corners_layers b c ++ row_titles b c Top ++ row_titles b c Bottom
+frame_layers b c = stroke (covers c) (set_style b.style) ++ sides_layers b c ++ corners_layers b c ++ row_titles b c Top ++ row_titles b c Bottom
 
 -- the shadow, if there is one
 abbrev pub shadow_layers_if : Option ShadowData → Rect → List Layer

@@ -1,4 +1,4 @@
--- The names of the sides where titles stand.
+-- The names of the sides on which titles are placed.
 use Rattle.std.specs.Prelude.{ℕ, List, codes}
 use Rattle.tui_frames.specs.declared.title_position.TitlePosition.{TitlePosition}
 use Rattle.tui_frames.specs.declared.title_position.TitlePosition.TheVariants.{Top, Bottom}

@@ -1,4 +1,4 @@
--- Which titles of a block stand where.
+-- Where the titles of a block are placed.
 use Rattle.std.specs.Prelude.{ℕ, ◌+◌, ◌-◌, min, Bool, true, false, ◌&&◌, List, map, filter, sum_by, unwrap_or}
 use Rattle.std.specs.List.{list_any}
 use Rattle.tui_cells.specs.Rect.{farthest_edge}
@@ -7,7 +7,7 @@ use Rattle.tui_text.specs.Width.{line_width}
 use Rattle.tui_text.specs.declared.alignment.Alignment.{Alignment}
 use Rattle.tui_text.specs.declared.alignment.Alignment.TheVariants.{Left, Center, Right}
 use Rattle.tui_frames.specs.Block.{BlockData, TitleData}
-use Rattle.tui_frames.specs.declared.block.title.Place.{Place}
+use Rattle.tui_frames.specs.declared.block.title.TitlePlace.{TitlePlace}
 use Rattle.tui_frames.specs.declared.title_position.TitlePosition.{TitlePosition}
 use Rattle.tui_frames.specs.declared.title_position.TitlePosition.TheVariants.{Top, Bottom}
 
@@ -24,16 +24,16 @@ same_alignment Center Center = true
 same_alignment Right Right = true
 same_alignment _ _ = false
 
--- whether a title stands on a side: its own, else the block's
+-- whether a title is on a side, by its own position, else by the block's
 abbrev pub is_on : BlockData → TitlePosition → TitleData → Bool
 is_on b position t = same_position (unwrap_or t.position b.title_position) position
 
--- whether it stands in a place of that side: by its line's alignment, else the block's
-abbrev pub is_in : BlockData → Place → TitleData → Bool
+-- whether it belongs in a place of that side, by its line's alignment, else by the block's
+abbrev pub is_in : BlockData → TitlePlace → TitleData → Bool
 is_in b place t = is_on b place.position t && same_alignment (unwrap_or t.line.alignment b.title_alignment) place.alignment
 
 -- the lines of the titles in a place
-abbrev pub titles_in : BlockData → Place → List TitleData → List LineData
+abbrev pub titles_in : BlockData → TitlePlace → List TitleData → List LineData
 titles_in b place titles = map (λ t. t.line) (filter (is_in b place) titles)
 
 -- whether there is a title on a side

@@ -1,4 +1,4 @@
-//! Frames with titles round an area.
+//! Frames with titles around an area.
 
 ghost use Rattle.std.specs.Prelude.{◌≡◌, [], ◌∷◌, ◌++◌, true, IfOk, None, map, OnErr, OnOk, Some};
 ghost use Rattle.tui_cells.specs.Symbols.{border_data};
@@ -24,7 +24,7 @@ use std::alloc::Global;
 use tui_cells::{Mem, MergeStrategy, Style, Styled, border};
 use tui_text::{Alignment, Line};
 
-/// A frame round what stands inside: a style in its whole area, borders on some sides, titles in the first and in the last
+/// A frame around its content: a style in its whole area, borders on some sides, titles in the first and in the last
 /// row, free space inside, and a shadow.
 #[derive(Debug, PartialEq, Eq, Hash)]
 pub struct Block<'a> {
@@ -41,7 +41,7 @@ pub struct Block<'a> {
     shadow: Option<Shadow<'a>>,
 }
 
-// Written out, so that a crate above proves nothing of what it holds to let it go.
+// Written out so that dependent crates need no proof about its fields to drop it.
 impl<'a> Drop for Block<'a> {
     fn drop(self) {
         let Block {
@@ -61,8 +61,8 @@ impl<'a> Drop for Block<'a> {
 }
 
 impl<'a> Block<'a> {
-    /// A block without borders, titles, padding, styles and shadow. Its border symbols are the plain ones, and replace what
-    /// stands there; its titles stand at the top and at the left.
+    /// Returns a block without borders, titles, padding, styles and shadow. Its border symbols are the plain ones, and
+    /// replace those that are already there. Its titles are at the top and aligned to the left.
     pub fn new(alloc: Global) -> Block<'a>
         ensures { block_data result ≡ block_of 0 }
     {
@@ -94,8 +94,9 @@ impl<'a> Block<'a> {
         }
     }
 
-    /// Puts a title behind the others. It stands on the side that `title_position` names, and by its own alignment, or else
-    /// by the one that `title_alignment` names. At NoMemory the block is as before, and the title is gone.
+    /// Adds a title after the others. It is placed on the side that `title_position` names. Its alignment is its own,
+    /// or else the one that `title_alignment` names. Fails with `NoMemory` if memory runs out; the block is then
+    /// unchanged, and the title is dropped.
     pub fn title(&mut self, title: Line<'a>) -> Mem<()>
         ensures ok { OnOk result (block_data self.new ≡ record (block_data self.old) {
           titles = (block_data self.old).titles ++ record { line = line_data title.entry; position = None } ∷ [];
@@ -105,7 +106,7 @@ impl<'a> Block<'a> {
         self.push(title, None)
     }
 
-    /// Puts a title behind the others, at the top. At NoMemory as `title`.
+    /// Adds a title after the others, at the top. Fails with `NoMemory` as `title` does.
     pub fn title_top(&mut self, title: Line<'a>) -> Mem<()>
         ensures ok { OnOk result (block_data self.new ≡ record (block_data self.old) {
           titles = (block_data self.old).titles ++ record { line = line_data title.entry; position = Some TitlePosition.Top } ∷ [];
@@ -115,7 +116,7 @@ impl<'a> Block<'a> {
         self.push(title, Some(TitlePosition::Top))
     }
 
-    /// Puts a title behind the others, at the bottom. At NoMemory as `title`.
+    /// Adds a title after the others, at the bottom. Fails with `NoMemory` as `title` does.
     pub fn title_bottom(&mut self, title: Line<'a>) -> Mem<()>
         ensures ok { OnOk result (block_data self.new ≡ record (block_data self.old) {
           titles = (block_data self.old).titles ++ record { line = line_data title.entry; position = Some TitlePosition.Bottom } ∷ [];
@@ -135,7 +136,7 @@ impl<'a> Block<'a> {
         Ok(())
     }
 
-    /// An equal block of its own. `NoMemory` where there is none for the titles.
+    /// Returns an equal block with titles of its own. Fails with `NoMemory` if these can't be allocated.
     pub fn clone(&self) -> Mem<Block<'a>>
         ensures is { IfOk result (λ block. block_data block ≡ block_data self.now) }
         ensures equal { IfOk result (λ block. ⟦<Block<'a> as PartialEq>⟧.eq block self.now ≡ true) }
@@ -147,7 +148,7 @@ impl<'a> Block<'a> {
         Ok(Block { titles, ..*self })
     }
 
-    /// Puts these titles in place of the old ones.
+    /// Replaces the titles by these.
     pub fn titles(mut self, titles: Vec<Title<'a>>) -> Block<'a>
         ensures { block_data result ≡ record (block_data self.entry) { titles = map title_data titles.entry.items } }
     {
@@ -187,7 +188,7 @@ impl<'a> Block<'a> {
         self
     }
 
-    /// Sets the style under all.
+    /// Sets the style of the whole block, under everything else.
     pub fn style(mut self, style: Style) -> Block<'a>
         ensures { block_data result ≡ record (block_data self.entry) { style = style } }
     {
@@ -227,7 +228,7 @@ impl<'a> Block<'a> {
         self
     }
 
-    /// Sets how border symbols are joined with what stands there.
+    /// Sets how border symbols are joined with those that are already there.
     pub fn merge_borders(mut self, strategy: MergeStrategy) -> Block<'a>
         ensures { block_data result ≡ record (block_data self.entry) { strategy = strategy } }
     {

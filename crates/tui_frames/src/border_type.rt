@@ -8,7 +8,8 @@ use std::fmt;
 use std::str::FromStr;
 use tui_cells::{ParseError, border};
 
-/// The kinds of borders, one for each set of symbols in `border`. `Display` writes the variant's name, and `FromStr` reads it.
+/// The kinds of borders, one for each set of symbols in `border`. `Display` writes the variant's name, and `FromStr`
+/// reads it.
 #[derive(Clone, Copy, Debug, PartialEq, Eq, Hash)]
 pub enum BorderType {
     /// Light lines.
@@ -107,7 +108,7 @@ impl FromStr for BorderType {
 
     ghost from_str_gives = { IsParsed name_of };
 
-    /// Answers `VariantNotFound` exactly where the text is no variant's name.
+    /// Fails with `VariantNotFound` exactly if the string is not the name of a variant.
     fn from_str(text: &str) -> Result<BorderType, ParseError> {
         match text {
             "Plain" => Ok(BorderType::Plain),

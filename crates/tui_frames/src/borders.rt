@@ -7,8 +7,8 @@ use bitflags::{Flag, Flags};
 use std::fmt;
 use std::ops::BitOr;
 
-/// A set of sides, a bit each. `Debug` writes `NONE`, `ALL`, or the names of the sides that are set, in the order TOP,
-/// RIGHT, BOTTOM, LEFT, with ` | ` between two.
+/// A set of sides, one bit each. `Debug` writes `NONE`, `ALL`, or the names of the sides that are set, in the order
+/// TOP, RIGHT, BOTTOM, LEFT, with ` | ` between two.
 #[derive(Clone, Copy, PartialEq, Eq, Hash)]
 pub struct Borders {
     bits: u8,
@@ -54,7 +54,7 @@ impl Borders {
         self.bits
     }
 
-    /// The set of these bits; None exactly above 15.
+    /// Returns the set of these bits, or `None` exactly if they are above 15.
     pub fn from_bits(bits: u8) -> Option<Borders>
         ensures { result ≡ (if nat_le bits 15 then Some (borders_of bits) else None) }
     {
@@ -139,7 +139,7 @@ impl fmt::Debug for Borders {
     }
 }
 
-/// How a set is written, by whether each side is set.
+/// Returns how a set is written, given which sides are set.
 fn sides_text(top: bool, right: bool, bottom: bool, left: bool) -> &'static str
     ensures { result.now ≡ sides_text top right bottom left }
 {
@@ -163,14 +163,15 @@ fn sides_text(top: bool, right: bool, bottom: bool, left: bool) -> &'static str
     }
 }
 
-/// The union of the named sides, as `border!(TOP, LEFT)`; `border!()` is no side. It is written in function bodies.
+/// Expands to the union of the named sides, as in `border!(TOP, LEFT)`. `border!()` is no side. Use it in function
+/// bodies.
 #[macro_export]
 macro_rules! border {
     () => { $crate::Borders::NONE };
     ($first:ident $(, $next:ident)* $(,)?) => { $crate::Borders::$first$(.union($crate::Borders::$next))* };
 }
 
-/// What the macro writes of no side, one, three and all four.
+/// Uses the macro for no side, one, three and all four.
 fn written_by_macro() -> [Borders; 4]
     ensures { result ≡ borders_of 0 ∷ borders_of right ∷ borders_of (top + right + left) ∷ borders_of 15 ∷ [] }
 {

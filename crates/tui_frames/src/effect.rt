@@ -1,4 +1,4 @@
-//! What is done in the cells of a shadow.
+//! Effects in the cells of a shadow.
 
 ghost use Rattle.std.specs.Prelude.{⊤, [], ◌∷◌, IsOk, OnOk};
 ghost use Rattle.tui_cells.specs.Buffer.{Screen};
@@ -10,24 +10,24 @@ ghost use Rattle.tui_frames.specs.Shadow.{in_shadow};
 use crate::shadow::parts::dim_outside;
 use tui_cells::{Buffer, Mem, Rect};
 
-/// What is done in the cells of a shadow besides its style, as `Block::render_with_effect` takes it.
+/// An effect in the cells of a shadow besides its style, for `Block::render_with_effect`.
 pub trait CellEffect {
-    /// What an Ok leaves of a buffer, given a shadow area and a base area.
-    ghost leaves: { Self → Rect → Rect → Screen → Screen → Type 0 };
+    /// How the buffer differs from the old one after `Ok`, given a shadow area and a base area.
+    ghost postcondition: { Self → Rect → Rect → Screen → Screen → Type 0 };
 
-    /// That it takes no memory.
-    ghost light: { Self → Type 0 } = { λ _. ⊥ };
+    /// That it does not allocate.
+    ghost allocation_free: { Self → Type 0 } = { λ _. ⊥ };
 
-    /// Changes cells of the shadow area that are outside the base area and in the buffer, and no others, also where it
-    /// answers NoMemory.
+    /// Changes cells of the shadow area that are outside the base area and in the buffer, and no others, even if it
+    /// fails with `NoMemory`.
     fn apply(&self, shadow_area: Rect, base_area: Rect, buf: &mut Buffer) -> Mem<()>
-        ensures ok { OnOk result (leaves self.now shadow_area base_area buf.old buf.new) }
+        ensures ok { OnOk result (postcondition self.now shadow_area base_area buf.old buf.new) }
         ensures kept { KeptOutside (in_shadow shadow_area base_area) buf.old buf.new }
-        ensures light { light self.now → IsOk result };
+        ensures allocation_free { allocation_free self.now → IsOk result };
 }
 
-/// Dims cells: each gets DIM, and a background of half the red, green and blue, rounded down, or Black if its background is
-/// not given by these. It takes no memory, so its answer is always Ok.
+/// Dims cells. Each gets DIM, and a background of half the red, green and blue, rounded down. A background that is not
+/// given by these becomes Black. It does not allocate, so the result is always `Ok`.
 #[derive(Clone, Copy, Debug, Default, PartialEq, Eq, Hash)]
 pub struct Dimmed;
 
@@ -39,9 +39,9 @@ impl Dimmed {
 }
 
 impl CellEffect for Dimmed {
-    ghost leaves = { λ _ area base old new. Painted (over (in_shadow area base) (dim ∷ [])) old new };
+    ghost postcondition = { λ _ area base old new. Painted (over (in_shadow area base) (dim ∷ [])) old new };
 
-    ghost light = { λ _. ⊤ };
+    ghost allocation_free = { λ _. ⊤ };
 
     fn apply(&self, shadow_area: Rect, base_area: Rect, buf: &mut Buffer) -> Mem<()> {
         dim_outside(buf, shadow_area, base_area);

@@ -1,9 +1,9 @@
-//! What holds of all blocks.
+//! Laws of all blocks.
 
-ghost use Rattle.tui_frames.specs.Laws.{InsideIsDressed};
+ghost use Rattle.tui_frames.specs.Laws.{InsideIsStyled};
 
-/// Inside a block, in a clip whose far edges are at most 65535, each cell is the old one with the block's style set on it:
-/// borders, titles and shadow stay outside.
+/// In a clip whose far edges are at most 65535, each cell inside a block is the old one with the block's style set on
+/// it. Borders, titles and shadow stay outside.
 pub fn block_laws()
-    ensures inside { InsideIsDressed }
+    ensures inside { InsideIsStyled }
 {}

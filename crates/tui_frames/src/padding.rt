@@ -41,29 +41,29 @@ impl Padding {
         Padding::ZERO
     }
 
-    /// So many columns at the left and at the right each.
+    /// `value` columns at the left and at the right each.
     pub fn horizontal(value: u16) -> Padding
         ensures { result ≡ padding value value 0 0 }
     {
         Padding::new(value, value, 0, 0)
     }
 
-    /// So many rows at the top and at the bottom each.
+    /// `value` rows at the top and at the bottom each.
     pub fn vertical(value: u16) -> Padding
         ensures { result ≡ padding 0 0 value value }
     {
         Padding::new(0, 0, value, value)
     }
 
-    /// So many columns and rows on each side.
+    /// `value` columns and rows on each side.
     pub fn uniform(value: u16) -> Padding
         ensures { result ≡ padding value value value value }
     {
         Padding::new(value, value, value, value)
     }
 
-    /// So many rows at the top and at the bottom, and twice as many columns at the left and at the right, at most 65535: a
-    /// cell is about twice as high as it is wide.
+    /// `value` rows at the top and at the bottom, and twice as many columns at the left and at the right, at most
+    /// 65535. A cell is about twice as high as it is wide.
     pub fn proportional(value: u16) -> Padding
         ensures { result ≡ padding (min (2 * value) farthest_edge) (min (2 * value) farthest_edge) value value }
     {
@@ -78,28 +78,28 @@ impl Padding {
         Padding::new(x, x, y, y)
     }
 
-    /// So many columns at the left.
+    /// `value` columns at the left.
     pub fn left(value: u16) -> Padding
         ensures { result ≡ record no_padding { left = value } }
     {
         Padding::new(value, 0, 0, 0)
     }
 
-    /// So many columns at the right.
+    /// `value` columns at the right.
     pub fn right(value: u16) -> Padding
         ensures { result ≡ record no_padding { right = value } }
     {
         Padding::new(0, value, 0, 0)
     }
 
-    /// So many rows at the top.
+    /// `value` rows at the top.
     pub fn top(value: u16) -> Padding
         ensures { result ≡ record no_padding { top = value } }
     {
         Padding::new(0, 0, value, 0)
     }
 
-    /// So many rows at the bottom.
+    /// `value` rows at the bottom.
     pub fn bottom(value: u16) -> Padding
         ensures { result ≡ record no_padding { bottom = value } }
     {

@@ -4,12 +4,12 @@ ghost use Rattle.std.specs.Prelude.{◌≡◌, [], ◌∷◌, IsOk, IsTrue, OnOk
 ghost use Rattle.tui_cells.specs.Layers.{KeptOutside, Painted};
 ghost use Rattle.tui_cells.specs.Rect.{is_empty};
 ghost use Rattle.tui_cells.specs.Symbols.{utf8};
-ghost use Rattle.tui_frames.specs.Shadow.{IsLightKind, dimmed, kind_data, overlay, shadow_data, shadow_footprint, shadow_layers, shadow_of, symbol};
+ghost use Rattle.tui_frames.specs.Shadow.{IsAllocationFreeKind, dimmed, kind_data, overlay, shadow_data, shadow_footprint, shadow_layers, shadow_of, symbol};
 ghost use Rattle.tui_frames.specs.Drawing.{shadow_drawing};
 
 pub(crate) mod parts;
 
-use crate::shadow::parts::{dim_outside, dress_outside, fill_outside};
+use crate::shadow::parts::{dim_outside, fill_outside, set_style_outside};
 use std::alloc::Global;
 use tui_cells::{Buffer, Mem, Offset, Rect, Style, Styled, Widget, shade};
 
@@ -21,8 +21,8 @@ pub(crate) enum ShadowKind<'a> {
     Dimmed,
 }
 
-/// A shadow of a base: in the cells of the base moved by an offset that are outside the base, it sets a style, and then puts
-/// a symbol, dims, or does nothing more.
+/// A shadow of a base. It changes the cells that the base covers when moved by an offset, except those of the base
+/// itself. It sets a style in them, and then writes a symbol, dims, or does nothing more.
 #[derive(Clone, Copy, Debug, PartialEq, Eq, Hash)]
 pub struct Shadow<'a> {
     pub(crate) kind: ShadowKind<'a>,
@@ -41,15 +41,15 @@ impl<'a> Shadow<'a> {
         }
     }
 
-    /// A shadow that sets its style alone, which is empty at first. It lies one column to the right and one row down, as those
-    /// below do.
+    /// A shadow that only sets its style, which is empty at first. Like the shadows below, it lies one column to the
+    /// right and one row down.
     pub fn overlay() -> Shadow<'a>
         ensures { shadow_data result ≡ shadow_of overlay }
     {
         Shadow::of(ShadowKind::Overlay)
     }
 
-    /// A shadow that puts a symbol; the empty symbol puts blanks.
+    /// A shadow that writes a symbol. An empty symbol writes spaces.
     pub fn symbol(text: &'a str) -> Shadow<'a>
         ensures { shadow_data result ≡ shadow_of (symbol text.now) }
     {
@@ -110,17 +110,17 @@ impl<'a> Shadow<'a> {
     pub(crate) fn paint(&self, alloc: Global, buf: &mut Buffer, base: Rect) -> Mem<()>
         ensures ok { OnOk result (Painted (shadow_layers (shadow_data self.now) base) buf.old buf.new) }
         ensures kept { KeptOutside (shadow_footprint (shadow_data self.now) base) buf.old buf.new }
-        ensures light { IsLightKind (shadow_data self.now).kind → IsOk result }
+        ensures allocation_free { IsAllocationFreeKind (shadow_data self.now).kind → IsOk result }
     {
         let area = base.offset(self.offset);
         match self.kind {
             ShadowKind::Overlay => {
-                dress_outside(buf, area, base, self.style);
+                set_style_outside(buf, area, base, self.style);
                 Ok(())
             }
             ShadowKind::Symbol(text) => fill_outside(alloc, buf, area, base, text, self.style),
             ShadowKind::Dimmed => {
-                dress_outside(buf, area, base, self.style);
+                set_style_outside(buf, area, base, self.style);
                 dim_outside(buf, area, base);
                 Ok(())
             }
@@ -131,7 +131,7 @@ impl<'a> Shadow<'a> {
         ensures ok { OnOk result (Painted (shadow_layers (shadow_data self.now) base) buf.old buf.new) }
         ensures kept { KeptOutside (shadow_footprint (shadow_data self.now) base) buf.old buf.new }
         ensures empty { IsTrue (is_empty base) → IsOk result }
-        ensures light { IsLightKind (shadow_data self.now).kind → IsOk result }
+        ensures allocation_free { IsAllocationFreeKind (shadow_data self.now).kind → IsOk result }
     {
         if base.is_empty() {
             return Ok(());

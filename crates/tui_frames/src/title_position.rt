@@ -1,4 +1,4 @@
-//! On which side of a block a title stands.
+//! The side of a block on which a title is placed.
 
 ghost use Rattle.std.specs.Prelude.{◌≡◌};
 
@@ -6,7 +6,7 @@ use std::fmt;
 use std::str::FromStr;
 use tui_cells::ParseError;
 
-/// On which side of a block a title stands. `Display` writes the variant's name, and `FromStr` reads it.
+/// The side of a block on which a title is placed. `Display` writes the variant's name, and `FromStr` reads it.
 #[derive(Clone, Copy, Debug, PartialEq, Eq, Hash)]
 pub enum TitlePosition {
     /// In the first row.
@@ -46,7 +46,7 @@ impl FromStr for TitlePosition {
 
     ghost from_str_gives = { IsParsed name_of };
 
-    /// Answers `VariantNotFound` exactly where the text is no variant's name.
+    /// Fails with `VariantNotFound` exactly if the string is not the name of a variant.
     fn from_str(text: &str) -> Result<TitlePosition, ParseError> {
         match text {
             "Top" => Ok(TitlePosition::Top),

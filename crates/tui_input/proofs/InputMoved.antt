@@ -1,4 +1,4 @@
--- What a drawing of an input paints, and what it leaves of the state.
+-- What a drawing of an input paints, and how it changes the state.
 use Rattle.std.proofs.Common.{◌≡◌, ℕ, ◌+◌, ◌-◌, ◌<◌, ◌≤◌, ◌==◌, Bool, true, false, nat_le, List, [], ◌∷◌, ◌++◌, All, map, length, drop, refl, sym, ap, ap₂, subst, ◌∙◌, arith, append_assoc, ⊎_elim}
 use Rattle.std.proofs.lemmas.Bool.{cases_lt}
 use Rattle.std.proofs.lemmas.Bool.Decides.{nat_tests}
@@ -10,7 +10,7 @@ use Rattle.tui_cells.specs.declared.position.Position.{Position}
 use Rattle.tui_cells.specs.declared.rect.Rect.{Rect}
 use Rattle.tui_cells.specs.declared.style.Style.{Style}
 use Rattle.tui_cells.specs.Buffer.{Screen}
-use Rattle.tui_cells.specs.Cell.{IsLight}
+use Rattle.tui_cells.specs.Cell.{IsAllocationFree}
 use Rattle.tui_cells.specs.Layers.{KeptOutside, Layer, Painted}
 use Rattle.tui_cells.specs.Rect.{covers}
 use Rattle.tui_cells.proofs.Painting.{KeptOutside-weaker, Painted-none, Painted-then}
@@ -18,9 +18,9 @@ use Rattle.tui_cells.specs.Style.{no_style}
 use Rattle.tui_clusters.specs.Width.{saturated, width_of}
 use Rattle.tui_frames.specs.InBlock.{inner_of}
 use Rattle.tui_input.specs.Input.{InputData, InputMoves, content_layers, cursor_in, has_cell, input_after, place_in, room_of, shown_pieces, text_layers}
-use Rattle.tui_input.specs.InputDrawing.{IsLightMask, IsLightText}
+use Rattle.tui_input.specs.InputDrawing.{IsAllocationFreeMask, IsAllocationFreeText}
 use Rattle.tui_input.specs.InputSettles.{input_rests}
-use Rattle.tui_input.specs.Scroll.{IsScrolled, columns, columns_from, cursor_column, scrolled, shown, shown_from}
+use Rattle.tui_input.specs.Scroll.{IsScrolled, columns, columns_from, cursor_column, scrolled, shown, with_first}
 use Rattle.tui_input.specs.State.{TypedText, text_of}
 use Rattle.tui_input.proofs.Starts.{is_scrolled}
 use Rattle.tui_text.specs.Painting.{cells_at}
@@ -30,7 +30,7 @@ use Rattle.unicode_segmentation.specs.Grapheme.{graphemes}
 
 -- ---- clusters side by side
 
--- those that fit end behind all their columns
+-- clusters that all fit end after all their columns
 pub end_of_all : (x room : ℕ) (cs : List (List ℕ)) → columns cs ≤ room → set_end x room cs ≡ x + columns cs
 unfolding set_end
 end_of_all x room [] le = omega arith
@@ -40,7 +40,7 @@ end_of_all x room (c ∷ cs) le =
     let end : x + width_of c + columns cs ≡ x + columns (c ∷ cs) = omega arith in
     pick_true (nat_le (width_of c) room) (set_end (x + width_of c) (room - width_of c) cs) x (fits (width_of c) room (omega arith)) ∙ rest ∙ end
 
--- and others follow them
+-- and other clusters follow them
 both_sides : (x y room : ℕ) (style : Style) (cs ds : List (List ℕ)) → columns cs ≤ room
     → set_clusters x y room style (cs ++ ds) ≡ set_clusters x y room style cs ++ set_clusters (x + columns cs) y (room - columns cs) style ds
 unfolding set_clusters
@@ -67,10 +67,10 @@ pub then_painted : (x y room next left : ℕ) (style : Style) (cs ds : List (Lis
 then_painted x y room next left style cs ds a b c le n l p q =
     let end = n ∙ end_of_all x room cs le in
     let rest : left ≡ room - columns cs = omega arith in
-    let behind = subst (λ ls. Painted ls b c) (ap₂ (λ u v. set_clusters u y v style ds) end rest) q in
-    subst (λ ls. Painted ls a c) (sym (both_sides x y room style cs ds le)) (Painted-then p behind)
+    let following = subst (λ ls. Painted ls b c) (ap₂ (λ u v. set_clusters u y v style ds) end rest) q in
+    subst (λ ls. Painted ls a c) (sym (both_sides x y room style cs ds le)) (Painted-then p following)
 
--- the cluster that is put next, as it is shown
+-- the cluster that is written next, as it is shown
 pub next_piece : (mask : Option (List ℕ)) (old new : List (List ℕ)) (c symbol : List ℕ) → old ≡ c ∷ new → symbol ≡ unwrap_or mask c
     → map (unwrap_or mask) old ≡ symbol ∷ map (unwrap_or mask) new
 next_piece mask old new c symbol e is = ap (map (unwrap_or mask)) e ∙ ap (λ t. t ∷ map (unwrap_or mask) new) (sym is)
@@ -78,7 +78,7 @@ next_piece mask old new c symbol e is = ap (map (unwrap_or mask)) e ∙ ap (λ t
 in_room : (a room x w y u v : ℕ) → a ≤ x → x + w ≤ a + room → covers (cells_at a y room) u v ≡ false → covers (cells_at x y w) u v ≡ false
 in_room a room x w y u v first last out = grind (arith, nat_tests)
 
--- what keeps all outside some columns of a room keeps all outside the room
+-- what changes only some columns of a room changes nothing outside the room
 pub kept_in_room : (a room x w y : ℕ) (old new : Screen) → a ≤ x → x + w ≤ a + room → KeptOutside (covers (cells_at x y w)) old new
     → KeptOutside (covers (cells_at a y room)) old new
 kept_in_room a room x w y old new first last k = KeptOutside-weaker (λ u v out. in_room a room x w y u v first last out) k
@@ -91,7 +91,7 @@ pub kept_in_row : (inner : Rect) (room : ℕ) (old new : Screen) → has_cell in
 kept_in_row inner room old new e is k =
     KeptOutside-weaker (λ u v out. row_in inner u v e out) (subst (λ n. KeptOutside (covers (cells_at inner.x inner.y n)) old new) is k)
 
--- the clusters left of the cursor from one on, as they are shown
+-- the clusters left of the cursor from index `first` on, as they are shown
 pub left_pieces : (mask : Option (List ℕ)) (left : List (List ℕ)) (b : List ℕ) (s : TypedText) (first : ℕ) → left ≡ drop first (graphemes true b)
     → b ≡ s.before → map (unwrap_or mask) left ≡ drop first (shown mask s.before)
 left_pieces mask left b s first e is =
@@ -105,7 +105,7 @@ right_pieces mask right a s e is = ap (map (unwrap_or mask)) (e ∙ ap (grapheme
 pub sides_painted : (mask : Option (List ℕ)) (x y room next left : ℕ) (s : TypedText) (first : ℕ) (ls rs : List (List ℕ)) (a b c : Screen)
     → ls ≡ drop first (shown mask s.before) → rs ≡ shown mask s.after → columns_from (shown mask s.before) first ≤ room → next ≡ set_end x room ls
     → left ≡ room - (next - x) → Painted (set_clusters x y room no_style ls) a b → Painted (set_clusters next y left no_style rs) b c
-    → Painted (set_clusters x y room no_style (shown_pieces mask (shown_from s first))) a c
+    → Painted (set_clusters x y room no_style (shown_pieces mask (with_first s first))) a c
 sides_painted mask x y room next left s first ls rs a b c el er fits n l p q =
     let small : columns ls ≤ room = subst (λ t. columns t ≤ room) (sym el) fits in
     subst (λ ts. Painted (set_clusters x y room no_style ts) a c) (ap₂ ◌++◌ el er) (then_painted x y room next left no_style ls rs a b c small n l p q)
@@ -144,11 +144,11 @@ content_some i inner s t a b e is p =
 pub content_none : (i : InputData) (inner : Rect) (s : TypedText) (a : Screen) → has_cell inner ≡ false → Painted (content_layers i inner s) a a
 content_none i inner s a e = subst (λ (ls : List Layer). Painted ls a a) (sym (if_false (has_cell inner) _ _ e)) (Painted-none a)
 
-pub rests_at : (i : InputData) (inner : Rect) (s : TypedText) (first : ℕ) → has_cell inner ≡ false → first ≡ s.first → shown_from s first ≡ input_after i inner s
-rests_at i inner s first e is = ap (shown_from s) is ∙ sym (input_rests i s inner e)
+pub rests_at : (i : InputData) (inner : Rect) (s : TypedText) (first : ℕ) → has_cell inner ≡ false → first ≡ s.first → with_first s first ≡ input_after i inner s
+rests_at i inner s first e is = ap (with_first s) is ∙ sym (input_rests i s inner e)
 
-pub scrolls_to : (i : InputData) (inner : Rect) (s : TypedText) (first width : ℕ) → width ≡ room_of inner → shown_from s first ≡ scrolled i.mask width s
-    → shown_from s first ≡ scrolled i.mask (room_of inner) s
+pub scrolls_to : (i : InputData) (inner : Rect) (s : TypedText) (first width : ℕ) → width ≡ room_of inner → with_first s first ≡ scrolled i.mask width s
+    → with_first s first ≡ scrolled i.mask (room_of inner) s
 scrolls_to i inner s first width is e = e ∙ ap (λ n. scrolled i.mask n s) is
 
 pub after_some : (i : InputData) (inner : Rect) (s : TypedText) → has_cell inner ≡ true → input_after i inner s ≡ scrolled i.mask (room_of inner) s
@@ -161,7 +161,7 @@ seen_if false p e = cc
 seen_at : (area : Rect) (column : ℕ) → has_cell area ≡ true → (0 < room_of area → column < room_of area) → covers area (area.x + column) area.y ≡ true
 seen_at area column e h = let within : column < room_of area = h (grind (arith, nat_tests)) in grind (arith, nat_tests)
 
--- the first cluster moves least, and the cursor is seen
+-- the first cluster moves as little as possible, and the cursor is visible
 pub input_moves : (i : InputData) (clip : Rect) (old new : TypedText) → new ≡ input_after i (inner_of i.block clip) old → InputMoves i clip old new
 input_moves i clip old new e =
     let inner = inner_of i.block clip in
@@ -195,11 +195,11 @@ cursor_is i area inner s ls column ei el ec =
     ap (λ n. place_in inner n) (ec ∙ ap (λ ts. saturated (columns ts)) el) ∙ place_same inner (cursor_column i.mask s)
     ∙ ap (λ r. place_in r (cursor_column i.mask s)) ei
 
--- ---- texts that take no memory
+-- ---- texts that do not allocate
 
-each_light : (symbol : List ℕ) (cs : List (List ℕ)) → IsLight symbol → All IsLight (map (unwrap_or (Some symbol)) cs)
-each_light symbol cs h = All-map IsLight (unwrap_or (Some symbol)) cs (λ k d lt. h)
+each_allocation_free : (symbol : List ℕ) (cs : List (List ℕ)) → IsAllocationFree symbol → All IsAllocationFree (map (unwrap_or (Some symbol)) cs)
+each_allocation_free symbol cs h = All-map IsAllocationFree (unwrap_or (Some symbol)) cs (λ k d lt. h)
 
-pub masked_light : (mask : Option (List ℕ)) (s : TypedText) → IsLightMask mask → IsLightText mask s
-masked_light None s h = absurd h
-masked_light (Some symbol) s h = record { before = each_light symbol (graphemes true s.before) h; after = each_light symbol (graphemes true s.after) h }
+pub masked_allocation_free : (mask : Option (List ℕ)) (s : TypedText) → IsAllocationFreeMask mask → IsAllocationFreeText mask s
+masked_allocation_free None s h = absurd h
+masked_allocation_free (Some symbol) s h = record { before = each_allocation_free symbol (graphemes true s.before) h; after = each_allocation_free symbol (graphemes true s.after) h }

@@ -1,4 +1,4 @@
--- What is true of every input stays true.
+-- Every edit keeps the invariant of inputs.
 use Rattle.std.proofs.Common.{◌≡◌, ℕ, ◌+◌, ◌<◌, ◌≤◌, Bool, true, false, not, ◌&&◌, ◌||◌, nat_lt, List, [], ◌++◌, length, take, drop, slice_range, refl, sym, ap, ap₂, subst, ◌∙◌, arith, append-nil, length-append, length-take-le}
 use Rattle.std.specs.Prelude.{encode_utf8}
 use Rattle.std.specs.Char.{is_control}
@@ -12,7 +12,7 @@ use Rattle.unicode_segmentation.proofs.TextLemmas.{chars-encode_utf8}
 use Rattle.tui_clusters.specs.Shown.{has_control}
 use Rattle.tui_input.specs.State.{TypedText, IsInput, input_at, has_room, text_of}
 
--- a text of few enough characters, none of them a control character
+-- a text of at most `most` characters, none of them a control character
 record IsPlain (text : List ℕ) (most : ℕ) : Type 0 where
   plain : has_control text ≡ false
   few : length (chars text) ≤ most
@@ -42,7 +42,7 @@ kept_empty text most e =
     let none = ap length (ap chars e ∙ chars-nil) in
     record { place = subst (λ t. IsCharBoundary t 0) (sym e) (IsCharBoundary-start [] IsUtf8-nil); plain = ap has_control e ∙ no_control; few = omega arith }
 
--- a part of a plain text, and what is left of it without a middle
+-- a part of such a text; and what remains of it without a part in the middle
 without_middle : (x y z text : List ℕ) (most : ℕ) → IsUtf8 x → IsUtf8 y → text ≡ x ++ (y ++ z) → IsPlain text most → IsPlain (x ++ z) most
 without_middle x y z text most ux uy e h =
     let one = sym (ap has_control e ∙ plain-append x (y ++ z) ux) ∙ h.plain in
@@ -101,12 +101,12 @@ one_plain : (c : ℕ) → IsUtf8 (encode_utf8 c) → is_control c ≡ false → 
 unfolding has_control
 one_plain c uc f = ap (list_any is_control) (chars-encode_utf8 c uc) ∙ either (is_control c) false f refl
 
-pub kept_put : (s : TypedText) (b new : List ℕ) (at most first c n : ℕ) (pasting : Bool) → IsUtf8 b → IsUtf8 (encode_utf8 c) → IsInput b at most
+pub kept_inserted : (s : TypedText) (b new : List ℕ) (at most first c n : ℕ) (pasting : Bool) → IsUtf8 b → IsUtf8 (encode_utf8 c) → IsInput b at most
     → input_at b at most first pasting ≡ s → has_room s c ≡ true → new ≡ (take at b ++ encode_utf8 c) ++ drop at b → n ≡ length (encode_utf8 c) → IsInput new (at + n) most
-kept_put s b new at most first c n pasting u uc h v t e w =
-    let told = is_taken (is_control c) _ (ap (λ s. has_room s c) v ∙ t) in
+kept_inserted s b new at most first c n pasting u uc h v t e w =
+    let taken_and_plain = is_taken (is_control c) _ (ap (λ s. has_room s c) v ∙ t) in
     let whole = take-append-drop at b in
-    let room = room_is _ _ told.1 in
+    let room = room_is _ _ taken_and_plain.1 in
     let size = ap (λ t. length (chars t)) whole in
     let x = take at b in
     let y = encode_utf8 c in
@@ -123,6 +123,6 @@ kept_put s b new at most first c n pasting u uc h v t e w =
     record {
       place = subst (IsCharBoundary new) long (IsCharBoundary-at_seam new (x ++ y) z e (IsUtf8-drop b at u h.place));
       plain = ap has_control e ∙ plain-append (x ++ y) z uxy
-          ∙ either _ _ (plain-append x y ux ∙ either _ _ (left_of _ _ plain) (one_plain c uc told.0)) (right_of _ _ plain);
+          ∙ either _ _ (plain-append x y ux ∙ either _ _ (left_of _ _ plain) (one_plain c uc taken_and_plain.0)) (right_of _ _ plain);
       few = omega arith;
     }

@@ -1,4 +1,4 @@
--- The clusters at the ends of a text, and the places between them.
+-- The clusters at the ends of a text, and the boundaries between them.
 use Rattle.std.proofs.Common.{◌≡◌, ℕ, ◌+◌, true, List, [], ◌∷◌, ◌++◌, length, take, drop, refl, sym, ap, ap₂, subst, ◌∙◌, arith, append_assoc, append-nil, length-append, take_at, drop_at, length-take-le}
 use Rattle.std.specs.List.{concat}
 use Rattle.std.specs.Prelude.{encode_utf8}
@@ -8,7 +8,7 @@ use Rattle.std.proofs.lemmas.List.Folds.{concat-append}
 use Rattle.std.proofs.lemmas.Str.{IsUtf8-append, IsUtf8-drop, IsCharBoundary-at_seam}
 use Rattle.unicode_segmentation.specs.Grapheme.{graphemes}
 use Rattle.tui_clusters.proofs.Boundaries.{concat-graphemes, graphemes-boundary}
-use Rattle.tui_input.specs.State.{AreOfSides, TypedText, text_of, with_sides, cut_out, inserted, without_after}
+use Rattle.tui_input.specs.State.{SplitsAtCursor, TypedText, text_of, with_sides, cut_out, inserted, without_after}
 use Rattle.tui_input.specs.Ends.{but_last, last_alone, without_last, last_of, without_first, first_of}
 
 but_last-push : (front : List (List ℕ)) (last : List ℕ) → but_last (front ++ last ∷ []) ≡ front
@@ -29,7 +29,7 @@ module _ (text : List ℕ) (u : IsUtf8 text) where
     whole_by_last =
         sym (concat-graphemes text u) ∙ ap concat clusters ∙ concat-append front (last ∷ []) ∙ ap₂ ◌++◌ (sym rest_is) (append-nil last)
 
-  module _ (first rest : List ℕ) (behind : List (List ℕ)) (clusters : graphemes true text ≡ first ∷ behind) (rest_is : rest ≡ concat behind) where
+  module _ (first rest : List ℕ) (following : List (List ℕ)) (clusters : graphemes true text ≡ first ∷ following) (rest_is : rest ≡ concat following) where
     pub first_is : first ≡ first_of text
     first_is = sym (ap (λ ps. concat (take 1 ps)) clusters ∙ append-nil first)
 
@@ -55,16 +55,16 @@ module _ (text : List ℕ) (u : IsUtf8 text) where
     pub none_without_first : text ≡ without_first text
     none_without_first = no_text ∙ sym (ap (λ ps. concat (drop 1 ps)) none)
 
--- the place between the clusters at an end of one side of the cursor
+-- the boundary between the clusters at an end of one side of the cursor
 pub before_last : (before after rest last b a : List ℕ) → b ≡ before → a ≡ after → b ≡ rest ++ last → IsUtf8 last → IsUtf8 a
     → IsCharBoundary (before ++ after) (length rest)
 before_last before after rest last b a eb ea whole ul ua =
     let parts : before ++ after ≡ rest ++ (last ++ a) = ap₂ ◌++◌ (sym eb ∙ whole) (sym ea) ∙ append_assoc rest last a in
     IsCharBoundary-at_seam (before ++ after) rest (last ++ a) parts (IsUtf8-append last a ul ua)
 
-pub behind_first : (before after first rest b a : List ℕ) → b ≡ before → a ≡ after → a ≡ first ++ rest → IsUtf8 rest
+pub following_first : (before after first rest b a : List ℕ) → b ≡ before → a ≡ after → a ≡ first ++ rest → IsUtf8 rest
     → IsCharBoundary (before ++ after) (length b + length first)
-behind_first before after first rest b a eb ea whole u =
+following_first before after first rest b a eb ea whole u =
     let parts : before ++ after ≡ (b ++ first) ++ rest = ap₂ ◌++◌ (sym eb) (sym ea ∙ whole) ∙ sym (append_assoc b first rest) in
     subst (IsCharBoundary (before ++ after)) (length-append b first) (IsCharBoundary-at_seam (before ++ after) (b ++ first) rest parts u)
 
@@ -75,7 +75,7 @@ pub start_of_sides : (before after b a : List ℕ) → b ≡ before → a ≡ af
 start_of_sides before after b a eb ea u v =
     IsCharBoundary-at_seam (before ++ after) [] (before ++ after) refl (IsUtf8-append before after (subst IsUtf8 eb u) (subst IsUtf8 ea v))
 
--- a place in the text left of the cursor
+-- a boundary in the text left of the cursor is one in the whole text
 pub within_before : (before after b a : List ℕ) (at : ℕ) → b ≡ before → a ≡ after → IsUtf8 b → IsUtf8 a → IsCharBoundary b at
     → IsCharBoundary (before ++ after) at
 within_before before after b a at eb ea u v h =
@@ -86,7 +86,7 @@ within_before before after b a at eb ea u v h =
     subst (IsCharBoundary (before ++ after)) long
     (IsCharBoundary-at_seam (before ++ after) front (drop at b ++ a) parts (IsUtf8-append (drop at b) a (IsUtf8-drop b at u h) v))
 
--- what is left when a part between two others is taken out
+-- what remains when a part between two others is removed
 cut_is : (s : TypedText) (x y z : List ℕ) → text_of s ≡ (x ++ y) ++ z → cut_out s (length x) (length x + length y) ≡ with_sides s x z
 cut_is s x y z e =
     let wide = length-append x y in
@@ -95,9 +95,9 @@ cut_is s x y z e =
     let whole = ap₂ ◌++◌ front back in
     ap₂ (with_sides s) (ap (take (length x)) whole ∙ take_at x z _ refl) (ap (drop (length x)) whole ∙ drop_at x z _ refl)
 
--- a character that was put before the cursor is taken out again
-pub put_back : (s : TypedText) (c : ℕ) (b d : List ℕ) → b ≡ s.before → d ≡ s.before ++ encode_utf8 c → cut_out (inserted s c) (length b) (length d) ≡ s
-put_back s c b d eb ed =
+-- removing a character that was inserted before the cursor restores the state
+pub inserted_and_cut : (s : TypedText) (c : ℕ) (b d : List ℕ) → b ≡ s.before → d ≡ s.before ++ encode_utf8 c → cut_out (inserted s c) (length b) (length d) ≡ s
+inserted_and_cut s c b d eb ed =
     let long : length d ≡ length b + length (encode_utf8 c) =
     ap length ed ∙ length-append s.before (encode_utf8 c) ∙ ap (λ t. length t + length (encode_utf8 c)) (sym eb) in
     ap (cut_out (inserted s c) (length b)) long ∙ ap (λ t. cut_out (inserted s c) (length t) (length t + length (encode_utf8 c))) eb
@@ -109,15 +109,15 @@ cut_first s b a first rest eb ea is whole =
     cut_is s b first rest (ap₂ ◌++◌ (sym eb) (sym ea ∙ whole) ∙ sym (append_assoc b first rest))
     ∙ ap₂ (with_sides s) eb (is ∙ ap without_first ea)
 
--- the place before a character that was put before the cursor
-pub before_put : (s new : TypedText) (c : ℕ) (b a : List ℕ) → new ≡ inserted s c → b ≡ s.before → a ≡ new.after → IsUtf8 (encode_utf8 c) → IsUtf8 a
+-- the byte before a character that was inserted before the cursor
+pub before_inserted : (s new : TypedText) (c : ℕ) (b a : List ℕ) → new ≡ inserted s c → b ≡ s.before → a ≡ new.after → IsUtf8 (encode_utf8 c) → IsUtf8 a
     → IsCharBoundary (text_of new) (length b)
-before_put s new c b a en eb ea uc ua =
-    let behind : s.after ≡ a = sym (ea ∙ ap (λ (t : TypedText). t.after) en) in
+before_inserted s new c b a en eb ea uc ua =
+    let following : s.after ≡ a = sym (ea ∙ ap (λ (t : TypedText). t.after) en) in
     let parts : text_of new ≡ b ++ (encode_utf8 c ++ a) =
-    ap text_of en ∙ append_assoc s.before (encode_utf8 c) s.after ∙ ap₂ (λ x y. x ++ (encode_utf8 c ++ y)) (sym eb) behind in
+    ap text_of en ∙ append_assoc s.before (encode_utf8 c) s.after ∙ ap₂ (λ x y. x ++ (encode_utf8 c ++ y)) (sym eb) following in
     IsCharBoundary-at_seam (text_of new) b (encode_utf8 c ++ a) parts (IsUtf8-append (encode_utf8 c) a uc ua)
 
--- where the text breaks at the cursor its clusters are those of both sides
-pub whole_of_sides : (s : TypedText) (b : List ℕ) → b ≡ s.before → IsUtf8 b → AreOfSides s
+-- if the text has a boundary at the cursor, its clusters are those of both sides
+pub whole_of_sides : (s : TypedText) (b : List ℕ) → b ≡ s.before → IsUtf8 b → SplitsAtCursor s
 whole_of_sides s b e u = graphemes-boundary s.before s.after (subst IsUtf8 e u)

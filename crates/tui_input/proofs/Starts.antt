@@ -1,4 +1,4 @@
--- The first place from which on clusters fit, and the first cluster that is shown.
+-- The first index from which on clusters fit, and the first cluster to show.
 use Rattle.std.proofs.Common.{◌≡◌, ℕ, ◌+◌, ◌-◌, ◌<◌, ◌≤◌, zero, suc, min, max, Bool, true, false, List, [], ◌∷◌, ◌++◌, length, take, drop, slice_range, refl, sym, ap, ◌∙◌, arith, append_assoc, append-nil, length-append, drop_at, ⊎_elim}
 use Rattle.std.proofs.lemmas.Bool.{cases_lt}
 use Rattle.std.proofs.lemmas.Bool.Decides.{nat_tests}
@@ -11,7 +11,7 @@ use Rattle.tui_input.specs.Scroll.{columns, columns_from, cursor_columns, highes
 use Rattle.tui_input.specs.State.{TypedText}
 use Rattle.tui_layout.specs.Window.{distance}
 
--- the least place from which on clusters fit in a room
+-- the least index from which on clusters fit in `room` columns
 record IsLowest (room : ℕ) (pieces : List (List ℕ)) (start : ℕ) : Type 0 where
   within : start ≤ length pieces
   fits : columns_from pieces start ≤ room
@@ -24,12 +24,12 @@ columns_fall ps j k le =
 
 -- ---- counting from the end
 
--- the clusters from the one at `start` on leave `free` columns of a room
+-- the clusters from index `start` on leave `free` of `room` columns
 pub record IsCounting (room : ℕ) (ps left : List (List ℕ)) (start free : ℕ) : Type 0 where
-  pub behind : List (List ℕ)
-  pub parts : ps ≡ left ++ behind
+  pub following : List (List ℕ)
+  pub parts : ps ≡ left ++ following
   pub start_is : start ≡ length left
-  pub room_is : free + columns behind ≡ room
+  pub room_is : free + columns following ≡ room
 
 fits_now : (n room a : ℕ) → n ≤ room → (if nat_le n room then 0 else a) ≡ 0
 fits_now n room a le = grind (arith, nat_tests)
@@ -37,7 +37,7 @@ fits_now n room a le = grind (arith, nat_tests)
 fits_later : (n room a : ℕ) → room < n → (if nat_le n room then 0 else a) ≡ a
 fits_later n room a lt = grind (arith, nat_tests)
 
--- the least place is the first one from which on they fit
+-- the least index is the first one from which on they fit
 lowest_is : (room : ℕ) (ps : List (List ℕ)) (k : ℕ) → IsLowest room ps k → k ≡ start_in room ps
 unfolding start_in
 lowest_is room [] k h = let none = h.within in omega arith
@@ -52,7 +52,7 @@ lowest_is room (c ∷ cs) (suc k) h =
 module _ (room : ℕ) (ps : List (List ℕ)) where
   pub IsCounting-init : (left : List (List ℕ)) (start : ℕ) → left ≡ ps → start ≡ length ps → IsCounting room ps left start room
   IsCounting-init left start e n =
-      record { behind = []; parts = sym e ∙ sym (append-nil left); start_is = n ∙ ap length (sym e); room_is = omega arith }
+      record { following = []; parts = sym e ∙ sym (append-nil left); start_is = n ∙ ap length (sym e); room_is = omega arith }
 
   pub IsCounting-step : (left front : List (List ℕ)) (last : List ℕ) (start free next rest : ℕ) → IsCounting room ps left start free
       → left ≡ front ++ last ∷ [] → width_of last ≤ free → next ≡ start - 1 → rest ≡ free - width_of last → IsCounting room ps front next rest
@@ -60,16 +60,16 @@ module _ (room : ℕ) (ps : List (List ℕ)) where
       let size = ap length e ∙ length-append front (last ∷ []) in
       let was = h.start_is in
       let free_is = h.room_is in
-      let more = sum_by-cons width_of last h.behind in
+      let more = sum_by-cons width_of last h.following in
       record {
-        behind = last ∷ h.behind;
-        parts = h.parts ∙ ap (λ t. t ++ h.behind) e ∙ append_assoc front (last ∷ []) h.behind;
+        following = last ∷ h.following;
+        parts = h.parts ∙ ap (λ t. t ++ h.following) e ∙ append_assoc front (last ∷ []) h.following;
         start_is = omega arith;
         room_is = omega arith;
       }
 
-  at_left : (left behind : List (List ℕ)) (start : ℕ) → ps ≡ left ++ behind → start ≡ length left → drop start ps ≡ behind
-  at_left left behind start e n = ap (drop start) e ∙ drop_at left behind start (sym n)
+  at_left : (left following : List (List ℕ)) (start : ℕ) → ps ≡ left ++ following → start ≡ length left → drop start ps ≡ following
+  at_left left following start e n = ap (drop start) e ∙ drop_at left following start (sym n)
 
   pub IsCounting-some : (left front : List (List ℕ)) (last : List ℕ) (start free : ℕ) → IsCounting room ps left start free → left ≡ front ++ last ∷ []
       → 1 ≤ start
@@ -82,11 +82,11 @@ module _ (room : ℕ) (ps : List (List ℕ)) where
       let size = ap length e ∙ length-append front (last ∷ []) in
       let was = h.start_is in
       let free_is = h.room_is in
-      let more = sum_by-cons width_of last h.behind in
-      let all = ap length h.parts ∙ length-append left h.behind in
-      let here = ap columns (at_left left h.behind start h.parts h.start_is) in
+      let more = sum_by-cons width_of last h.following in
+      let all = ap length h.parts ∙ length-append left h.following in
+      let here = ap columns (at_left left h.following start h.parts h.start_is) in
       let before : start - 1 ≡ length front = omega arith in
-      let one = ap columns (at_left front (last ∷ h.behind) (start - 1) (h.parts ∙ ap (λ t. t ++ h.behind) e ∙ append_assoc front (last ∷ []) h.behind) before) in
+      let one = ap columns (at_left front (last ∷ h.following) (start - 1) (h.parts ∙ ap (λ t. t ++ h.following) e ∙ append_assoc front (last ∷ []) h.following) before) in
       lowest_is room ps start (record {
         within = omega arith;
         fits = omega arith;
@@ -97,11 +97,11 @@ module _ (room : ℕ) (ps : List (List ℕ)) where
   IsCounting-end left start free h e =
       let was = h.start_is ∙ ap length e in
       let free_is = h.room_is in
-      let all = ap length h.parts ∙ length-append left h.behind in
-      let here = ap columns (at_left left h.behind start h.parts h.start_is) in
+      let all = ap length h.parts ∙ length-append left h.following in
+      let here = ap columns (at_left left h.following start h.parts h.start_is) in
       lowest_is room ps start (record { within = omega arith; fits = omega arith; lowest = λ other lt. absurd (omega arith) })
 
--- ---- the place that is chosen
+-- ---- the index that is chosen
 
 first_fits : (room : ℕ) (c : List ℕ) (cs : List (List ℕ)) (b : Bool) → nat_le (columns (c ∷ cs)) room ≡ b → IsLowest room cs (start_in room cs)
     → IsLowest room (c ∷ cs) (if b then 0 else suc (start_in room cs))
@@ -120,29 +120,30 @@ unfolding start_in
 start_lowest room [] = record { within = omega arith; fits = omega arith; lowest = λ other lt. absurd (omega arith) }
 start_lowest room (c ∷ cs) = first_fits room c cs (nat_le (columns (c ∷ cs)) room) refl (start_lowest room cs)
 
--- where the text behind takes `behind` columns, the greatest place from which on no columns are left free
-record IsHighest (width behind low high : ℕ) (ps : List (List ℕ)) : Type 0 where
+-- if the text after the cursor takes `following` columns: the greatest index from which on no column stays empty that text
+-- could fill
+record IsHighest (width following low high : ℕ) (ps : List (List ℕ)) : Type 0 where
   within : high ≤ length ps
   above : low ≤ high
-  filled : (other : ℕ) → other < high → width ≤ columns_from ps other + behind
-  free : (other : ℕ) → high < other → other ≤ length ps → columns_from ps high + behind < width
+  filled : (other : ℕ) → other < high → width ≤ columns_from ps other + following
+  free : (other : ℕ) → high < other → other ≤ length ps → columns_from ps high + following < width
 
-is_highest : (width behind kept : ℕ) (ps : List (List ℕ)) (b : Bool) → nat_lt behind width ≡ b → kept ≤ max behind 1
-    → IsHighest width behind (start_in (width - kept) ps) (if b then start_in (width - 1 - behind) ps else length ps) ps
-is_highest width behind kept ps true e k =
-    let lt : behind < width = grind (arith, nat_tests) in
-    let high = start_lowest (width - 1 - behind) ps in
+is_highest : (width following kept : ℕ) (ps : List (List ℕ)) (b : Bool) → nat_lt following width ≡ b → kept ≤ max following 1
+    → IsHighest width following (start_in (width - kept) ps) (if b then start_in (width - 1 - following) ps else length ps) ps
+is_highest width following kept ps true e k =
+    let lt : following < width = grind (arith, nat_tests) in
+    let high = start_lowest (width - 1 - following) ps in
     let low = start_lowest (width - kept) ps in
     let fits = high.fits in
     record {
       within = high.within;
-      above = ⊎_elim (λ (lower : start_in (width - 1 - behind) ps < start_in (width - kept) ps). let wide = low.lowest _ lower in absurd (omega arith)) (λ le. le)
-          (cases_lt (start_in (width - 1 - behind) ps) (start_in (width - kept) ps));
+      above = ⊎_elim (λ (lower : start_in (width - 1 - following) ps < start_in (width - kept) ps). let wide = low.lowest _ lower in absurd (omega arith)) (λ le. le)
+          (cases_lt (start_in (width - 1 - following) ps) (start_in (width - kept) ps));
       filled = λ other earlier. let wide = high.lowest other earlier in omega arith;
       free = λ other later inside. omega arith;
     }
-is_highest width behind kept ps false e k =
-    let le : width ≤ behind = grind (arith, nat_tests) in
+is_highest width following kept ps false e k =
+    let le : width ≤ following = grind (arith, nat_tests) in
     let low = start_lowest (width - kept) ps in
     record {
       within = omega arith;
@@ -151,7 +152,7 @@ is_highest width behind kept ps false e k =
       free = λ other later inside. absurd (omega arith);
     }
 
--- the columns kept for the cursor are those behind it at most, or one
+-- the columns reserved for the cursor are at most those of the text after it, or one
 kept_of : (ps : List (List ℕ)) → max (columns (take 1 ps)) 1 ≤ max (columns ps) 1
 kept_of ps =
     let split = ap columns (sym (take-append-drop 1 ps)) ∙ sum_by-append width_of (take 1 ps) (drop 1 ps) in
@@ -164,15 +165,15 @@ module _ (mask : Option (List ℕ)) (width : ℕ) (s : TypedText) where
   moves_least : (first : ℕ) → first ≡ min (max s.first (lowest mask width s)) (highest mask width s) → MovesLeast mask width s first
   moves_least first e =
       let ps = shown mask s.before in
-      let behind = columns (shown mask s.after) in
+      let following = columns (shown mask s.after) in
       let low = start_lowest (width - cursor_columns mask s) ps in
-      let high = is_highest width behind (cursor_columns mask s) ps (nat_lt behind width) refl (kept_of (shown mask s.after)) in
+      let high = is_highest width following (cursor_columns mask s) ps (nat_lt following width) refl (kept_of (shown mask s.after)) in
       let above = high.above in
       let inside = high.within in
       let fits = low.fits in
       let fall = columns_fall ps (lowest mask width s) first (omega arith) in
       record {
-        serves = record { within = omega arith; fits = omega arith; filled = λ other lt. high.filled other (omega arith) };
+        is_valid = record { within = omega arith; fits = omega arith; filled = λ other lt. high.filled other (omega arith) };
         least = λ other g.
             let there = g.fits in
             let place = g.within in
@@ -187,5 +188,5 @@ module _ (mask : Option (List ℕ)) (width : ℕ) (s : TypedText) where
   pub is_scrolled : IsScrolled mask width s (scrolled mask width s)
   is_scrolled =
       let moves = moves_least _ refl in
-      let fits = moves.serves.fits in
+      let fits = moves.is_valid.fits in
       record { moves = moves; seen = λ some. omega arith; whole = λ le. omega arith }

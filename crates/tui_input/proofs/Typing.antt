@@ -1,4 +1,4 @@
--- Characters that are typed, one more at a time.
+-- Typed characters, one more at a time.
 use Rattle.std.proofs.Common.{◌≡◌, ℕ, Bool, true, false, ◌&&◌, List, [], ◌∷◌, ◌++◌, if◌then◌else◌, refl}
 use Rattle.tui_input.specs.State.{TypedText, typed, typed_all}
 
@@ -7,7 +7,7 @@ unfolding typed_all
 typed_more s [] c = refl
 typed_more s (d ∷ cs) c = typed_more (typed s d) cs c
 
--- a character that has no room, that is wanted, and that is not
+-- a character for which there is no room; one that is accepted; one that is not
 pub is_full : (room wanted : Bool) (t s : TypedText) → room ≡ false → (if room && wanted then t else s) ≡ s
 is_full true wanted t s e = cc
 is_full false wanted t s e = refl

@@ -1,9 +1,9 @@
--- Laws that the drawing of an input carries: its strokes stay in its footprint.
+-- Laws of drawing an input: its strokes stay in its footprint.
 use Rattle.std.specs.Prelude.{◌≡◌, ◌==◌, Bool, true, false, [], ◌∷◌, length, if◌then◌else◌}
 use Rattle.std.proofs.Common.{arith, refl}
 use Rattle.std.proofs.lemmas.Bool.Decides.{nat_tests}
 use Rattle.tui_cells.specs.declared.rect.Rect.{Rect}
-use Rattle.tui_cells.specs.Cell.{dress}
+use Rattle.tui_cells.specs.Cell.{set_style}
 use Rattle.tui_cells.specs.Layers.{StayIn}
 use Rattle.tui_cells.specs.Rect.{covers}
 use Rattle.tui_cells.specs.Stays.{StayIn-append, StayIn-none, StayIn-stroke}
@@ -33,12 +33,12 @@ unfolding text_layers
 inside_stays i inner s true e = text_stays i inner s (length (text_of s) == 0) e
 inside_stays i inner s false e = StayIn-none
 
--- what stands inside the block stays there
+-- what is drawn inside the block stays there
 pub content_stays : (i : InputData) (inner : Rect) (s : TypedText) → StayIn (covers inner) (content_layers i inner s)
 content_stays i inner s = inside_stays i inner (scrolled i.mask (room_of inner) s) (has_cell inner) refl
 
--- an input changes cells of its footprint alone
+-- an input changes only cells of its footprint
 pub input_stays : (i : InputData) (s : TypedText) (clip : Rect) → StayIn (footprint_if i.block clip) (input_layers i s clip)
 input_stays i s clip =
-    StayIn-append (clip_stays i.block clip (StayIn-stroke (covers clip) (dress i.style) (λ x y out. out)))
+    StayIn-append (clip_stays i.block clip (StayIn-stroke (covers clip) (set_style i.style) (λ x y out. out)))
     (StayIn-append (block_stays_if i.block clip) (inner_stays i.block clip (content_stays i (inner_of i.block clip) s)))

@@ -1,4 +1,4 @@
--- A text with a cursor, and what each edit makes of it.
+-- A text with a cursor, and how each edit changes it.
 use Rattle.std.specs.Prelude.{
   ◌≡◌,
   ◌≤◌,
@@ -30,8 +30,8 @@ use Rattle.tui_input.specs.Ends.{without_last, last_of, without_first, first_of,
 use Rattle.unicode_segmentation.specs.Grapheme.{graphemes, is_grapheme_break}
 use Rattle.unicode_width.specs.Width.{char_width}
 
--- the text left of the cursor and the one right of it, each cut into clusters by itself; how many characters it may have; the first
--- cluster that is shown; whether what comes is pasted
+-- the text left of the cursor and the text right of it, each split into clusters by itself; the greatest number of
+-- characters; the first cluster that is shown; whether a paste is under way
 pub record TypedText : Type 0 where
   pub before : List ℕ
   pub after : List ℕ
@@ -39,7 +39,8 @@ pub record TypedText : Type 0 where
   pub first : ℕ
   pub pasting : Bool
 
--- what is true of every input: the cursor stands between two characters, there is no control character, and there are few enough
+-- the invariant of every input: the cursor is between two characters, there is no control character, and there are at
+-- most `most` characters
 pub record IsInput (text : List ℕ) (at most : ℕ) : Type 0 where
   pub place : IsCharBoundary text at
   pub plain : has_control text ≡ false
@@ -49,29 +50,29 @@ pub record IsInput (text : List ℕ) (at most : ℕ) : Type 0 where
 abbrev pub text_of : TypedText → List ℕ
 text_of s = s.before ++ s.after
 
--- another text on each side of the cursor
+-- other texts on both sides of the cursor
 abbrev pub with_sides : TypedText → List ℕ → List ℕ → TypedText
 with_sides s before after = record s { before = before; after = after }
 
--- a text with the cursor at a byte
+-- a text with the cursor at byte `at`
 abbrev pub input_at : List ℕ → ℕ → ℕ → ℕ → Bool → TypedText
 input_at text at most first pasting = record { before = take at text; after = drop at text; most = most; first = first; pasting = pasting }
 
--- no text yet
+-- an empty text
 abbrev pub empty_input : ℕ → TypedText
 empty_input most = record { before = []; after = []; most = most; first = 0; pasting = false }
 
--- UAX #29 has a boundary at the cursor, between what stands before it, the last character first, and what stands behind it
+-- UAX #29 has a boundary at the cursor, between the text before it (last character first) and the text after it
 abbrev pub breaks_at_cursor : TypedText → Bool
 breaks_at_cursor s = is_grapheme_break true (reverse (chars s.before)) (chars s.after)
 
--- there the clusters of the text are those of both sides; elsewhere each side is cut by itself all the same
-abbrev pub AreOfSides : TypedText → Type 0
-AreOfSides s = breaks_at_cursor s ≡ true → graphemes true (text_of s) ≡ graphemes true s.before ++ graphemes true s.after
+-- at such a boundary the clusters of the text are those of both sides; elsewhere each side is still split by itself
+abbrev pub SplitsAtCursor : TypedText → Type 0
+SplitsAtCursor s = breaks_at_cursor s ≡ true → graphemes true (text_of s) ≡ graphemes true s.before ++ graphemes true s.after
 
 -- ---- moves
 
--- the same text with the cursor at a byte
+-- the same text with the cursor at byte `at`
 abbrev pub moved : TypedText → ℕ → TypedText
 moved s at = with_sides s (take at (text_of s)) (drop at (text_of s))
 
@@ -89,7 +90,7 @@ to_end s = with_sides s (text_of s) []
 
 -- ---- edits
 
--- the text without its bytes from one place to another, where the cursor stands
+-- the text without its bytes `from` to `to`, and the cursor where they were
 abbrev pub cut_out : TypedText → ℕ → ℕ → TypedText
 cut_out s from to = let rest = take from (text_of s) ++ drop to (text_of s) in with_sides s (take from rest) (drop from rest)
 
@@ -105,7 +106,7 @@ cut_to_start s = with_sides s [] s.after
 abbrev pub cut_to_end : TypedText → TypedText
 cut_to_end s = with_sides s s.before []
 
--- a text without the blanks at its end, and the word before them
+-- a text without the white space at its end and the word before it
 abbrev pub without_word : List ℕ → List ℕ
 without_word text = trimmed (is_of_kind false) (trimmed (is_of_kind true) text)
 
@@ -118,26 +119,26 @@ cut_word s = with_sides s (without_word s.before) s.after
 abbrev pub has_columns : ℕ → Bool
 has_columns c = nat_lt 0 (unwrap_or (char_width false c) 0)
 
--- the cluster at the end of a text, whose last character is c, has others too
+-- the cluster at the end of a text, whose last character is `c`, has other characters too
 abbrev pub ends_joined : List ℕ → ℕ → Bool
 ends_joined text c = nat_lt (length (encode_utf8 c)) (length (last_of text))
 
--- no control character, and there is room for one more
+-- `c` is no control character, and there is room for one more
 abbrev pub has_room : TypedText → ℕ → Bool
 has_room s c = not (is_control c) && nat_lt (length (chars (text_of s))) s.most
 
--- a character is taken in: there is room for it, and it has columns, or it joins the cluster before the cursor
-abbrev pub takes : TypedText → ℕ → Bool
-takes s c = has_room s c && (has_columns c || ends_joined (s.before ++ encode_utf8 c) c)
+-- `c` is accepted: there is room for it, and it has columns or joins the cluster before the cursor
+abbrev pub accepts : TypedText → ℕ → Bool
+accepts s c = has_room s c && (has_columns c || ends_joined (s.before ++ encode_utf8 c) c)
 
 abbrev pub inserted : TypedText → ℕ → TypedText
 inserted s c = with_sides s (s.before ++ encode_utf8 c) s.after
 
--- the state behind a character: it stands before the cursor if it is taken in
+-- the state after a character is typed: it is before the cursor if it is accepted
 abbrev pub typed : TypedText → ℕ → TypedText
-typed s c = if takes s c then inserted s c else s
+typed s c = if accepts s c then inserted s c else s
 
--- and behind several
+-- the state after several
 unfoldable pub typed_all : TypedText → List ℕ → TypedText
 typed_all s [] = s
 typed_all s (c ∷ cs) = typed_all (typed s c) cs

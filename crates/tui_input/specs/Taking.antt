@@ -1,14 +1,14 @@
--- What each event makes of a text with a cursor.
+-- How each event changes a text with a cursor.
 use Rattle.std.specs.Prelude.{ℕ, Bool, true, false, ◌||◌, ◌==◌, if◌then◌else◌}
 use Rattle.tui_input.specs.State.{TypedText, cut_to_end, cut_to_start, cut_word, to_end, to_left, to_right, to_start, typed, without_after, without_before}
 use Rattle.tui_keys.specs.declared.event.Event.{Event}
 use Rattle.tui_keys.specs.declared.event.Event.TheVariants as events
 
--- the state within a paste, or behind one
+-- the state in a paste, or after one
 abbrev pub with_pasting : TypedText → Bool → TypedText
 with_pasting s pasting = record s { pasting = pasting }
 
--- a letter with Ctrl: a and e go to the ends, u and k cut up to them, w cuts a word
+-- a letter with Ctrl: a and e move to the ends, u and k delete up to them, w deletes a word
 abbrev pub commanded : TypedText → ℕ → TypedText
 commanded s c =
     if c == 97 then to_start s
@@ -46,25 +46,25 @@ is_key (events.Ctrl c) = is_command c
 is_key events.PasteBegin = true
 is_key event = false
 
--- a newline that is pasted is a blank
+-- a pasted newline becomes a space
 abbrev pub pasted_char : ℕ → ℕ
 pasted_char c = if c == 10 then 32 else c
 
--- within a paste there are characters alone, up to its end
+-- in a paste there are only characters, up to its end
 abbrev pub pasted : TypedText → Event → TypedText
 pasted s (events.Char c) = typed s (pasted_char c)
 pasted s events.PasteEnd = with_pasting s false
 pasted s event = s
 
--- the state behind an event
-abbrev pub took : TypedText → Event → TypedText
-took s event = if s.pasting then pasted s event else keyed s event
+-- the state after an event
+abbrev pub after_event : TypedText → Event → TypedText
+after_event s event = if s.pasting then pasted s event else keyed s event
 
--- an event is a character, which alone wants memory
+-- the event is a character; no other event allocates
 abbrev pub is_character : Event → Bool
 is_character (events.Char c) = true
 is_character event = false
 
--- an event is the input's own: its keys, and all that comes within a paste
-abbrev pub is_used : TypedText → Event → Bool
-is_used s event = s.pasting || is_key event
+-- the input uses the event: it is one of its keys, or part of a paste
+abbrev pub is_handled : TypedText → Event → Bool
+is_handled s event = s.pasting || is_key event

@@ -1,14 +1,14 @@
-//! The clusters at the ends of a text.
+//! The grapheme clusters at the ends of a text.
 
 ghost use Rattle.std.specs.Prelude.{◌≡◌, ◌++◌, take};
 ghost use Rattle.std.specs.Str.{IsCharBoundary, IsUtf8};
-ghost use Rattle.tui_input.specs.Ends.{IsFront, first_of, is_of_kind, last_of, trimmed, without_first, without_last};
+ghost use Rattle.tui_input.specs.Ends.{IsPrefix, first_of, is_of_kind, last_of, trimmed, without_first, without_last};
 ghost use Rattle.tui_input.specs.State.{without_word};
 
 use tui_clusters::is_blank;
 use unicode_segmentation::UnicodeSegmentation;
 
-/// A text without its last cluster, and that cluster, which is empty where there is none.
+/// Returns a text without its last cluster, and that cluster (empty if the text is empty).
 pub(crate) fn split_last(text: &str) -> (&str, &str)
     ensures rest { result.0.now ≡ without_last text.now }
     ensures last { result.1.now ≡ last_of text.now }
@@ -22,7 +22,7 @@ pub(crate) fn split_last(text: &str) -> (&str, &str)
     }
 }
 
-/// The first cluster of a text, which is empty where there is none, and the text without it.
+/// Returns the first cluster of a text (empty if the text is empty), and the text without it.
 pub(crate) fn split_first(text: &str) -> (&str, &str)
     ensures first { result.0.now ≡ first_of text.now }
     ensures rest { result.1.now ≡ without_first text.now }
@@ -36,7 +36,7 @@ pub(crate) fn split_first(text: &str) -> (&str, &str)
     }
 }
 
-/// Whether a cluster is a blank, or is none.
+/// Returns whether a cluster is white space, if `blank` is set, or whether it isn't, otherwise.
 fn is_of_kind(cluster: &str, blank: bool) -> bool
     ensures { result ≡ is_of_kind blank cluster.now }
 {
@@ -47,10 +47,10 @@ fn is_of_kind(cluster: &str, blank: bool) -> bool
     }
 }
 
-/// A text without the blanks at its end, or without what is none.
+/// Returns a text without the white space at its end, if `blank` is set, or else without the other clusters there.
 fn trim_end(text: &str, blank: bool) -> &str
     ensures text { result.now ≡ trimmed (is_of_kind blank) text.now }
-    ensures part { IsFront result.now text.now }
+    ensures part { IsPrefix result.now text.now }
 {
     let mut kept = text;
     let mut left = text.graphemes(true);
@@ -63,7 +63,7 @@ fn trim_end(text: &str, blank: bool) -> &str
     kept
 }
 
-/// Where the last word of a text begins, behind which there are only blanks.
+/// Returns the byte at which the last word of a text begins. Only white space follows that word.
 pub(crate) fn word_start(text: &str) -> usize
     ensures word { take result text.now ≡ without_word text.now }
     ensures place { IsCharBoundary text.now result }

@@ -13,8 +13,9 @@ use tui_cells::{FARTHEST_EDGE, Mem, Position, Rect, Style, Styled};
 use tui_frames::{Block, BlockExt, clone_if_some};
 use tui_text::Span;
 
-/// A text of one line that is typed, in the first row of its area. The text, the cursor and the first grapheme that is shown are kept in an
-/// `InputState`: the text scrolls as far as it has to for the cursor to be seen, and back as far as it then fills the columns.
+/// A single-line text input, drawn in the first row of its area. Its text, its cursor and the first grapheme that is
+/// shown are in an `InputState`. The text scrolls only as far as needed to show the cursor, and scrolls back if columns
+/// would otherwise stay empty.
 #[derive(Debug, PartialEq, Eq, Hash)]
 pub struct Input<'a> {
     block: Option<Block<'a>>,
@@ -23,7 +24,7 @@ pub struct Input<'a> {
     mask: Option<&'a str>,
 }
 
-// Written out, so that a crate above proves nothing of what it holds to let it go.
+// Written out, so that dependent crates need no proofs about the fields to drop the value.
 impl<'a> Drop for Input<'a> {
     fn drop(self) {
         let Input {
@@ -36,7 +37,7 @@ impl<'a> Drop for Input<'a> {
 }
 
 impl<'a> Input<'a> {
-    /// An input without a block, a style, a placeholder and a mask.
+    /// Creates an input without a block, a style, a placeholder or a mask.
     pub fn new() -> Input<'a>
         ensures { input_data result ≡ bare_input }
     {
@@ -48,7 +49,7 @@ impl<'a> Input<'a> {
         }
     }
 
-    /// Puts a block around the text, which then stands in the first row inside.
+    /// Sets the block around the text. The text is then in the first row inside the block.
     pub fn block(mut self, block: Block<'a>) -> Input<'a>
         ensures { input_data result ≡ record (input_data self.entry) { block = Some (block_data block.entry) } }
     {
@@ -56,7 +57,7 @@ impl<'a> Input<'a> {
         self
     }
 
-    /// Sets the style under all.
+    /// Sets the style of the whole area, under the block and the text.
     pub fn style(mut self, style: Style) -> Input<'a>
         ensures { input_data result ≡ record (input_data self.entry) { style = style } }
     {
@@ -64,7 +65,7 @@ impl<'a> Input<'a> {
         self
     }
 
-    /// Sets what is shown where there is no text.
+    /// Sets what is shown while the text is empty.
     pub fn placeholder(mut self, placeholder: Span<'a>) -> Input<'a>
         ensures { input_data result ≡ record (input_data self.entry) { placeholder = span_data placeholder.entry } }
     {
@@ -72,8 +73,8 @@ impl<'a> Input<'a> {
         self
     }
 
-    /// Sets the symbol that is shown in place of each grapheme of the text, in as many columns as it is wide. An empty symbol shows
-    /// nothing, and the cursor stays in the first column.
+    /// Sets the symbol that is shown in place of each grapheme of the text, in as many columns as the symbol is wide.
+    /// An empty symbol shows nothing, and the cursor stays in the first column.
     pub fn mask(mut self, symbol: &'a str) -> Input<'a>
         ensures { input_data result ≡ record (input_data self.entry) { mask = Some symbol.now } }
     {
@@ -81,8 +82,8 @@ impl<'a> Input<'a> {
         self
     }
 
-    /// Where the cursor stands in the area of the input, which lies in the buffer: right behind what is shown left of it. Behind a drawing
-    /// it is seen, unless there is no cell inside.
+    /// Returns the position of the cursor: right after what is shown left of it. `area` is the area of the input, and
+    /// lies in the buffer. After a drawing the cursor is visible, unless there is no cell inside the block.
     pub fn cursor(&self, area: Rect, state: &InputState) -> Option<Position>
         ensures { result ≡ cursor_in (input_data self.now) area state.now }
     {
@@ -91,7 +92,7 @@ impl<'a> Input<'a> {
         position_in(self.block.inner_if_some(area), column)
     }
 
-    /// An equal input of its own. `NoMemory` where there is none for the block.
+    /// Returns an equal input. Fails with `NoMemory` if there is no memory for a copy of the block.
     pub fn clone(&self) -> Mem<Input<'a>>
         ensures { IfOk result (λ input. input_data input ≡ input_data self.now) }
     {
@@ -104,7 +105,7 @@ impl<'a> Input<'a> {
     }
 }
 
-/// A position in the first row of an area, if it lies there.
+/// Returns a position in the first row of an area, if it is in the area.
 fn position_in(area: Rect, column: usize) -> Option<Position>
     ensures { result ≡ place_in area column }
 {

@@ -1,4 +1,4 @@
-//! A text of one line that is typed.
+//! A single-line text input.
 #![tactic(auto)]
 
 mod ends;

@@ -3,7 +3,7 @@
 ghost use Rattle.std.specs.Option.{option_copied};
 ghost use Rattle.std.specs.Prelude.{◌≡◌, ◌-◌, drop, length, map, max, min, take, true, unwrap_or};
 ghost use Rattle.tui_clusters.specs.Width.{saturated, width_of};
-ghost use Rattle.tui_input.specs.Scroll.{columns, highest, lowest, shown, shown_from, start_in};
+ghost use Rattle.tui_input.specs.Scroll.{columns, highest, lowest, shown, with_first, start_in};
 ghost use Rattle.tui_input.specs.Scroll.{IsScrolled, scrolled};
 ghost use Rattle.unicode_segmentation.specs.Grapheme.{graphemes};
 ghost use Rattle.unicode_segmentation.specs.Iter.{graphemes_left};
@@ -12,7 +12,7 @@ use crate::state::InputState;
 use tui_clusters::cell_width;
 use unicode_segmentation::{Graphemes, UnicodeSegmentation};
 
-/// A grapheme as it is shown.
+/// Returns a grapheme as it is shown: the mask, or the grapheme itself.
 pub(crate) fn masked<'a>(mask: Option<&'a str>, grapheme: &'a str) -> &'a str
     ensures { result.now ≡ unwrap_or (option_copied mask.entry) grapheme.now }
 {
@@ -22,14 +22,14 @@ pub(crate) fn masked<'a>(mask: Option<&'a str>, grapheme: &'a str) -> &'a str
     }
 }
 
-/// The columns of a grapheme as it is shown.
+/// Returns the columns of a grapheme as it is shown.
 fn masked_width(mask: Option<&str>, grapheme: &str) -> u16
     ensures { result ≡ width_of (unwrap_or (option_copied mask.entry) grapheme.now) }
 {
     cell_width(masked(mask, grapheme))
 }
 
-/// The columns of a text's first grapheme, but at least one.
+/// Returns the columns of a text's first grapheme as it is shown, but at least one.
 fn first_columns(mask: Option<&str>, text: &str) -> u16
     ensures { result ≡ max (columns (take 1 (shown (option_copied mask.entry) text.now))) 1 }
 {
@@ -45,7 +45,7 @@ fn count(text: &str) -> usize
     text.graphemes(true).count()
 }
 
-/// The first place from which on the graphemes of a text fit in a room.
+/// Returns the first index from which on the graphemes of a text fit in `room` columns.
 fn start_in(mask: Option<&str>, room: u16, text: &str) -> usize
     ensures { result ≡ start_in room (shown (option_copied mask.entry) text.now) }
 {
@@ -63,18 +63,18 @@ fn start_in(mask: Option<&str>, room: u16, text: &str) -> usize
     start
 }
 
-/// The graphemes of a text from one of them on.
+/// Returns the graphemes of a text from the one at index `first` on.
 pub(crate) fn graphemes_from(text: &str, first: usize) -> Graphemes<'_>
     ensures { graphemes_left result ≡ drop first (graphemes true text.now) }
 {
     let mut left = text.graphemes(true);
     for _place in 0..first {
-        pass(&mut left);
+        skip_one(&mut left);
     }
     left
 }
 
-fn pass(left: &mut Graphemes<'_>)
+fn skip_one(left: &mut Graphemes<'_>)
     ensures { graphemes_left left.new ≡ drop 1 (graphemes_left left.old) }
 {
     match left.next() {
@@ -83,7 +83,7 @@ fn pass(left: &mut Graphemes<'_>)
     }
 }
 
-/// The columns of graphemes together, cut at the greatest number of 64 bits.
+/// Returns the columns of all graphemes together, saturating at 2^64 - 1.
 pub(crate) fn columns(mask: Option<&str>, graphemes: Graphemes<'_>) -> usize
     ensures { result ≡ saturated (columns (map (unwrap_or (option_copied mask.entry)) (graphemes_left graphemes.entry))) }
 {
@@ -107,18 +107,18 @@ impl InputState {
         ensures { result ≡ highest (option_copied mask.entry) width self.now }
     {
         let (before, after) = self.sides();
-        let behind = columns(mask, after.graphemes(true));
-        if behind < usize::from(width) {
-            start_in(mask, width - 1 - behind as u16, before)
+        let following = columns(mask, after.graphemes(true));
+        if following < usize::from(width) {
+            start_in(mask, width - 1 - following as u16, before)
         } else {
             count(before)
         }
     }
 
-    /// The first grapheme that a drawing in `width` columns shows.
+    /// Returns the index of the first grapheme that a drawing in `width` columns shows.
     pub(crate) fn first_in(&self, mask: Option<&str>, width: u16) -> usize
-        ensures is { shown_from self.now result ≡ scrolled (option_copied mask.entry) width self.now }
-        ensures moves { IsScrolled (option_copied mask.entry) width self.now (shown_from self.now result) }
+        ensures is { with_first self.now result ≡ scrolled (option_copied mask.entry) width self.now }
+        ensures moves { IsScrolled (option_copied mask.entry) width self.now (with_first self.now result) }
     {
         let lowest = self.lowest_first(mask, width);
         let highest = self.highest_first(mask, width);

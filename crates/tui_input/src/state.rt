@@ -4,7 +4,7 @@ ghost use Rattle.std.specs.Prelude.{◌≤◌, ◌≡◌, ◌==◌, ◌++◌, �
 ghost use Rattle.std.specs.Str.{IsCharBoundary, IsUtf8};
 ghost use Rattle.tui_clusters.specs.Shown.{has_control};
 ghost use Rattle.tui_input.specs.State.{
-  AreOfSides,
+  SplitsAtCursor,
   cut_out,
   cut_to_end,
   cut_to_start,
@@ -15,7 +15,7 @@ ghost use Rattle.tui_input.specs.State.{
   has_room,
   inserted,
   moved,
-  takes,
+  accepts,
   text_of,
   to_end,
   to_left,
@@ -26,7 +26,7 @@ ghost use Rattle.tui_input.specs.State.{
   without_after,
   without_before,
 };
-ghost use Rattle.tui_input.specs.Scroll.{shown_from};
+ghost use Rattle.tui_input.specs.Scroll.{with_first};
 ghost use Rattle.tui_input.specs.Taking.{with_pasting};
 
 use crate::ends::{split_first, split_last, word_start};
@@ -35,19 +35,21 @@ use std::marker::Model;
 use tui_cells::Mem;
 use unicode_width::UnicodeWidthChar;
 
-/// A text of one line that is typed, with a cursor that stands at the end of a grapheme of the text before it: what is typed there stays
-/// left of it, whatever it would join with what stands behind. At most `most` characters are taken, none of them a control character.
-/// What a drawing begins with, the first grapheme that is shown, is kept too. Only a character wants memory.
+/// The state of a single-line text input: the text, the cursor and the first grapheme that is shown.
+///
+/// The text before the cursor is split into graphemes by itself. A typed character thus stays left of the cursor, even
+/// if it would combine with the text after it. The text has at most `most` characters, and no control character. Only
+/// inserting a character allocates.
 pub struct InputState {
     text: String,
-    /// The byte at which the cursor stands.
+    /// The byte of the text at which the cursor is.
     at: usize,
     most: usize,
     first: usize,
     pasting: bool,
 }
 
-// Written out, so that a crate above proves nothing of what it holds to let it go.
+// Written out, so that dependent crates need no proofs about the fields to drop the value.
 impl Drop for InputState {
     fn drop(self) {
         let InputState {
@@ -72,7 +74,7 @@ impl Model for InputState {
 }
 
 impl InputState {
-    /// An empty text, which may have up to `most` characters. It takes no memory.
+    /// Creates a state with an empty text, which may grow to `most` characters. Does not allocate.
     pub fn new(alloc: Global, most: usize) -> InputState
         ensures { result ≡ empty_input most }
     {
@@ -85,8 +87,8 @@ impl InputState {
         }
     }
 
-    /// The state behind a text that is typed into an empty one: the characters that are not taken are left out, and the cursor stands
-    /// behind the others.
+    /// Creates a state by typing a text into an empty one. Characters that aren't accepted are left out, and the cursor
+    /// is after the others.
     pub fn with_text(alloc: Global, most: usize, text: &str) -> Mem<InputState>
         ensures { IfOk result (λ state. state ≡ typed_all (empty_input most) (chars text.now)) }
     {
@@ -97,7 +99,7 @@ impl InputState {
         Ok(state)
     }
 
-    /// The text. It has no control character, and at most as many characters as it may.
+    /// Returns the text. It has no control character, and at most `most` characters.
     pub fn text(&self) -> &str
         ensures text { result.now ≡ text_of self.now }
         ensures plain { has_control (text_of self.now) ≡ false }
@@ -106,22 +108,22 @@ impl InputState {
         self.text.as_str()
     }
 
-    /// Whether there is no text.
+    /// Returns whether the text is empty.
     pub fn is_empty(&self) -> bool
         ensures { result ≡ (length (text_of self.now) == 0) }
     {
         self.text().len() == 0
     }
 
-    /// The text left of the cursor, and the one right of it. Where the whole text has a grapheme boundary at the cursor (UAX #29), its
-    /// graphemes are those of both sides.
+    /// Returns the text left of the cursor, and the text right of it. If the whole text has a grapheme boundary at the
+    /// cursor (UAX #29), its graphemes are those of both sides.
     pub fn sides(&self) -> (&str, &str)
         ensures before { result.0.now ≡ self.now.before }
         ensures after { result.1.now ≡ self.now.after }
         ensures before_utf8 { IsUtf8 result.0.now }
         ensures plain { has_control (text_of self.now) ≡ false }
         ensures utf8 { IsUtf8 result.1.now }
-        ensures whole { AreOfSides self.now }
+        ensures whole { SplitsAtCursor self.now }
     {
         self.text.as_str().split_at(self.at)
     }
@@ -143,7 +145,7 @@ impl InputState {
         self.move_to(at);
     }
 
-    /// Moves the cursor behind the grapheme right of it.
+    /// Moves the cursor after the grapheme right of it.
     pub fn right(&mut self)
         ensures { self.new ≡ to_right self.old }
     {
@@ -153,14 +155,14 @@ impl InputState {
         self.move_to(at);
     }
 
-    /// Moves the cursor before the text.
+    /// Moves the cursor to the start of the text.
     pub fn home(&mut self)
         ensures { self.new ≡ to_start self.old }
     {
         self.at = 0;
     }
 
-    /// Moves the cursor behind the text.
+    /// Moves the cursor to the end of the text.
     pub fn end(&mut self)
         ensures { self.new ≡ to_end self.old }
     {
@@ -181,11 +183,12 @@ impl InputState {
         self.text().chars().count()
     }
 
-    /// Puts a character before the cursor and answers whether it is taken: a control character is not, nor one past the most that there
-    /// may be, nor one without columns that does not join the grapheme before the cursor. At `NoMemory` nothing has changed.
+    /// Inserts a character before the cursor, and returns whether it was accepted. Three kinds are not: control
+    /// characters, characters beyond the limit `most`, and characters without columns that don't join the grapheme
+    /// before the cursor. On `NoMemory` nothing has changed.
     pub fn insert(&mut self, c: char) -> Mem<bool>
         ensures ok { OnOk result (self.new ≡ typed self.old c) }
-        ensures taken { IfOk result (λ taken. taken ≡ takes self.old c) }
+        ensures accepted { IfOk result (λ accepted. accepted ≡ accepts self.old c) }
         ensures err { OnErr result (self.new ≡ self.old) }
     {
         if !self.has_room(c) {
@@ -193,7 +196,7 @@ impl InputState {
         }
         let (before, _) = self.sides();
         let from = before.len();
-        self.put(c)?;
+        self.insert_char(c)?;
         if self.may_stay(c) {
             return Ok(true);
         }
@@ -203,7 +206,7 @@ impl InputState {
         Ok(false)
     }
 
-    fn put(&mut self, c: char) -> Mem<()>
+    fn insert_char(&mut self, c: char) -> Mem<()>
         requires { has_room self.old c ≡ true }
         ensures ok { OnOk result (self.new ≡ inserted self.old c) }
         ensures err { OnErr result (self.new ≡ self.old) }
@@ -213,7 +216,7 @@ impl InputState {
         Ok(())
     }
 
-    /// Whether a character that was put before the cursor has columns, or is not a grapheme by itself.
+    /// Returns whether the character just inserted before the cursor may stay: it has columns, or joined a grapheme.
     fn may_stay(&self, c: char) -> bool
         ensures { result ≡ (has_columns c || ends_joined self.now.before c) }
     {
@@ -222,7 +225,7 @@ impl InputState {
         has_columns(c) || last.len() > c.len_utf8()
     }
 
-    /// Takes out the bytes from one place to another. It takes no memory.
+    /// Removes the bytes from `from` to `to`. Does not allocate.
     fn cut(&mut self, from: usize, to: usize)
         requires order { from ≤ to }
         requires start { IsCharBoundary (text_of self.old) from }
@@ -231,12 +234,12 @@ impl InputState {
     {
         match self.text.replace_range(from..to, "") {
             Ok(()) => self.at = from,
-            // No bytes are put in the place of these, so no room is wanted.
+            // Nothing replaces the removed bytes, so no allocation is needed.
             Err(_) => unreachable!(),
         }
     }
 
-    /// Takes out the grapheme left of the cursor.
+    /// Deletes the grapheme left of the cursor.
     pub fn backspace(&mut self)
         ensures { self.new ≡ without_before self.old }
     {
@@ -247,7 +250,7 @@ impl InputState {
         self.cut(from, to);
     }
 
-    /// Takes out the grapheme right of the cursor.
+    /// Deletes the grapheme right of the cursor.
     pub fn delete(&mut self)
         ensures { self.new ≡ without_after self.old }
     {
@@ -258,7 +261,7 @@ impl InputState {
         self.cut(from, to);
     }
 
-    /// Takes out the text left of the cursor.
+    /// Deletes the text left of the cursor.
     pub fn delete_to_start(&mut self)
         ensures { self.new ≡ cut_to_start self.old }
     {
@@ -267,14 +270,14 @@ impl InputState {
         self.cut(0, to);
     }
 
-    /// Takes out the text right of the cursor.
+    /// Deletes the text right of the cursor.
     pub fn delete_to_end(&mut self)
         ensures { self.new ≡ cut_to_end self.old }
     {
         self.text.truncate(self.at);
     }
 
-    /// Takes out the blanks left of the cursor and the word before them.
+    /// Deletes the white space left of the cursor and the word before it.
     pub fn delete_word(&mut self)
         ensures { self.new ≡ cut_word self.old }
     {
@@ -284,15 +287,15 @@ impl InputState {
         self.cut(from, to);
     }
 
-    /// The first grapheme of the text left of the cursor that the last drawing has shown.
+    /// Returns the index of the first grapheme, among those left of the cursor, that the last drawing showed.
     pub fn first(&self) -> usize
         ensures { result ≡ self.now.first }
     {
         self.first
     }
 
-    pub(crate) fn show_from(&mut self, first: usize)
-        ensures { self.new ≡ shown_from self.old first }
+    pub(crate) fn set_first(&mut self, first: usize)
+        ensures { self.new ≡ with_first self.old first }
     {
         self.first = first;
     }

@@ -1,33 +1,39 @@
-//! What a text input makes of events.
+//! How a text input handles events.
 
 ghost use Rattle.std.specs.Prelude.{◌≡◌, false, IfOk, IsOk, OnErr, OnOk};
-ghost use Rattle.tui_input.specs.Taking.{commanded, is_character, is_command, is_key, is_used, keyed, pasted, pasted_char, took, with_pasting};
+ghost use Rattle.tui_input.specs.Taking.{commanded, is_character, is_command, is_key, is_handled, keyed, pasted, pasted_char, after_event, with_pasting};
 
 use crate::state::InputState;
 use tui_cells::Mem;
 use tui_keys::Event;
 
 impl InputState {
-    /// Takes an event, and answers whether it is one of the input's own: a character, as `insert` takes it; Backspace, Delete, Left,
-    /// Right, Home and End; with Ctrl, a and e as Home and End, u and k to take out the text left and right of the cursor, w to take out
-    /// a word; and a paste, of which the characters are taken, each newline as a blank, and nothing is a command. Any other event
-    /// changes nothing. Only a character wants memory. At `NoMemory` nothing has changed.
+    /// Handles an event, and returns whether the input used it. It uses:
+    ///
+    /// - a character, which it inserts as `insert` does;
+    /// - Backspace, Delete, Left, Right, Home and End;
+    /// - with Ctrl: a and e as Home and End, u and k to delete the text left and right of the cursor, w to delete a
+    ///   word;
+    /// - a paste: every event is used up to its end, each character is inserted, a newline as a space, and nothing is a
+    ///   command.
+    ///
+    /// Any other event changes nothing. Only a character allocates. On `NoMemory` nothing has changed.
     pub fn take(&mut self, event: Event) -> Mem<bool>
-        ensures ok { OnOk result (self.new ≡ took self.old event) }
-        ensures used { IfOk result (λ used. used ≡ is_used self.old event) }
-        ensures light { is_character event ≡ false → IsOk result }
+        ensures ok { OnOk result (self.new ≡ after_event self.old event) }
+        ensures used { IfOk result (λ used. used ≡ is_handled self.old event) }
+        ensures allocation_free { is_character event ≡ false → IsOk result }
         ensures err { OnErr result (self.new ≡ self.old) }
     {
         if self.is_pasting() {
-            self.take_pasted(event)?;
+            self.handle_pasted(event)?;
             return Ok(true);
         }
-        self.take_key(event)
+        self.handle_key(event)
     }
 
-    fn take_pasted(&mut self, event: Event) -> Mem<()>
+    fn handle_pasted(&mut self, event: Event) -> Mem<()>
         ensures ok { OnOk result (self.new ≡ pasted self.old event) }
-        ensures light { is_character event ≡ false → IsOk result }
+        ensures allocation_free { is_character event ≡ false → IsOk result }
         ensures err { OnErr result (self.new ≡ self.old) }
     {
         match event {
@@ -43,10 +49,10 @@ impl InputState {
         }
     }
 
-    fn take_key(&mut self, event: Event) -> Mem<bool>
+    fn handle_key(&mut self, event: Event) -> Mem<bool>
         ensures ok { OnOk result (self.new ≡ keyed self.old event) }
         ensures used { IfOk result (λ used. used ≡ is_key event) }
-        ensures light { is_character event ≡ false → IsOk result }
+        ensures allocation_free { is_character event ≡ false → IsOk result }
         ensures err { OnErr result (self.new ≡ self.old) }
     {
         match event {
@@ -60,15 +66,15 @@ impl InputState {
             Event::Right => self.right(),
             Event::Home => self.home(),
             Event::End => self.end(),
-            Event::Ctrl(c) => return Ok(self.obey(c)),
+            Event::Ctrl(c) => return Ok(self.apply_ctrl(c)),
             Event::PasteBegin => self.set_pasting(true),
             _ => return Ok(false),
         }
         Ok(true)
     }
 
-    /// Does what a letter with Ctrl stands for, if it is a command.
-    fn obey(&mut self, c: char) -> bool
+    /// Runs the command of a letter with Ctrl, if it has one, and returns whether it has.
+    fn apply_ctrl(&mut self, c: char) -> bool
         ensures does { self.new ≡ commanded self.old c }
         ensures is { result ≡ is_command c }
     {

@@ -1,4 +1,4 @@
--- What is known of a number in a range, of a text of a greatest length, and of an array of this many values.
+-- Lemmas on a number in a range, a string of limited length, and an array of limited length.
 use Rattle.std.proofs.Common.{◌≡◌, ℕ, ◌≤◌, Option, Some, None, option_and_then, arith}
 use Rattle.std.proofs.lemmas.Bool.Decides.{nat_tests}
 use Rattle.serde_json.specs.Data.{Data}

@@ -1,4 +1,4 @@
--- What is inside a value: the members of an object, the values of an array; and tables of names.
+-- What is inside a value: the members of an object and the values of an array. And lookup tables of names.
 use Rattle.std.specs.Prelude.{ℕ, List, [], ◌∷◌, ◌&&◌, nat_le, if◌then◌else◌, Option, Some, None, option_map, option_and_then}
 use Rattle.std.specs.Str.{bytes_eq}
 use Rattle.serde_json.specs.Data.{Data, null, boolean, number, string, array, object, Items, no_items, item}
@@ -9,7 +9,7 @@ infixl 10 ◌>>=◌
 abbrev pub ◌>>=◌ : {A B : Type 0} → Option A → (A → Option B) → Option B
 o >>= f = option_and_then f o
 
--- a value that is not null
+-- the value, unless it is null
 abbrev pub unless_null : Data → Option Data
 unless_null null = None
 unless_null (boolean b) = Some (boolean b)
@@ -18,7 +18,7 @@ unless_null (string s) = Some (string s)
 unless_null (array ds) = Some (array ds)
 unless_null (object ms) = Some (object ms)
 
--- nothing, or a value of a kind
+-- None if there is no value; otherwise the value, which has to be of the kind
 abbrev pub if_any : {A : Type 0} → (Data → Option A) → Option Data → Option (Option A)
 if_any kind None = Some None
 if_any kind (Some d) = option_map Some (kind d)
@@ -51,11 +51,11 @@ each_of kind (item d ds) = do
 unfoldable pub list_of : {A : Type 0} → (Data → Option A) → Data → Option (List A)
 list_of kind d = option_and_then (each_of kind) (as_array d)
 
--- values, if there are at least and at most this many
+-- the values, if there are at least `least` and at most `most`
 abbrev pub if_counted : ℕ → ℕ → Items → Option Items
 if_counted least most ds = if nat_le least (items_len ds) && nat_le (items_len ds) most then Some ds else None
 
--- the values of an array that has at least and at most this many
+-- the values of an array of at least `least` and at most `most`
 unfoldable pub elements_within : ℕ → ℕ → Data → Option Items
 elements_within least most d = option_and_then (if_counted least most) (as_array d)
 
@@ -71,7 +71,7 @@ pair_in first second _ = None
 unfoldable pub pair_of : {A B : Type 0} → (Data → Option A) → (Data → Option B) → Data → Option (A × B)
 pair_of first second d = option_and_then (pair_in first second) (as_array d)
 
--- what a table has at a name
+-- the entry of a table with this name
 abbrev pub named : {A : Type 0} → List (List ℕ × A) → List ℕ → Option A
 named [] s = None
 named (p ∷ ps) s = if bytes_eq s p.0 then Some p.1 else named ps s

@@ -1,4 +1,4 @@
--- Enums, by the names of their variants, and the law that these names read as the variants.
+-- Enums by the names of their variants, and the law that parsing such a name gives the variant.
 use Rattle.std.specs.Prelude.{◌≡◌, ◌≢◌, ℕ, List, [], ◌∷◌, map, Bool, true, false, Option, Some, None, option_and_then, Result, Ok, Err, refl}
 use Rattle.std.specs.Result.{result_ok}
 use Rattle.std.specs.Str.{bytes_eq}
@@ -14,7 +14,7 @@ use Rattle.tui_json.specs.Members.{named}
 abbrev pub first_named : {A : Type 0} → (A → List ℕ) → List A → List ℕ → Option A
 first_named name values text = named (map (λ value. (name value, value)) values) text
 
--- The values of an enum and their names, no two alike.
+-- The values of an enum and their names, which all differ.
 pub record Names (A : Type 0) : Type 0 where
   pub name : A → List ℕ
   pub values : List A
@@ -24,7 +24,7 @@ pub record Names (A : Type 0) : Type 0 where
 abbrev pub value_named : {A : Type 0} → Names A → List ℕ → Option A
 value_named names text = first_named names.name names.values text
 
--- a text that is a name
+-- the value whose name this string is
 abbrev pub named_of : {A : Type 0} → Names A → Data → Option A
 named_of names d = option_and_then (value_named names) (as_str d)
 
@@ -39,7 +39,7 @@ no_name : {A : Type 0} (name : A → List ℕ) (values : List A) (text : List �
 no_name name [] text other = refl
 no_name name (v ∷ vs) text other = rw (differs text (name v) (other v)) (no_name name vs text other)
 
--- what is read of a text by these names is the value of the name
+-- parsing a string gives the value of this name
 pub reads_named : {A : Type 0} (names : Names A) (text : List ℕ) (answer : Result A ParseError) →
     IsParsed names.name text answer → result_ok answer ≡ value_named names text
 reads_named names text (Ok value) is = rw is (sym (names.found value))

@@ -1,4 +1,4 @@
--- The names of the enums that need no widget.
+-- The names of the enums that belong to no widget.
 use Rattle.std.specs.Prelude.{[], ◌∷◌, refl}
 use Rattle.tui_cells.specs.Strategies as strategy
 use Rattle.tui_cells.specs.declared.merge_strategy.MergeStrategy.{MergeStrategy}
@@ -14,7 +14,7 @@ use Rattle.tui_layout.specs.declared.highlight_spacing.HighlightSpacing.{Highlig
 use Rattle.tui_layout.specs.declared.highlight_spacing.HighlightSpacing.TheVariants.{Always, WhenSelected, Never}
 use Rattle.tui_json.specs.Named.{Names}
 
--- the names of the strategies: all of them, and none is left out
+-- the names of all strategies
 abbrev pub merge_strategies : Names MergeStrategy
 merge_strategies = record {
   name = strategy.name_of;
@@ -22,7 +22,7 @@ merge_strategies = record {
   found = elim [ Replace ↦ refl | Exact ↦ refl | Fuzzy ↦ refl ];
 }
 
--- likewise those of the spacings beside a selected row
+-- the names of all spacings beside a selected row
 abbrev pub highlight_spacings : Names HighlightSpacing
 highlight_spacings = record {
   name = highlight_spacing.name_of;

@@ -1,9 +1,9 @@
--- Whole numbers and truth values.
+-- Whole numbers and booleans.
 use Rattle.std.specs.Prelude.{ℕ, ℤ, pos, negsuc, ◌^◌, ◌&&◌, Option, Some, None, option_and_then, nat_le, nat_lt, if◌then◌else◌}
 use Rattle.serde_json.specs.Data.{Data}
 use Rattle.serde_json.specs.Find.{as_i64, as_number, as_u64}
 
--- a whole number below 2^64; what is written with a fraction or an exponent is none
+-- a whole number below 2^64; a number written with a fraction or an exponent is not one
 abbrev pub u64_of : Data → Option ℕ
 u64_of d = option_and_then as_u64 (as_number d)
 
@@ -19,7 +19,7 @@ u16_of d = option_and_then (below 65536) (u64_of d)
 unfoldable pub u32_of : Data → Option ℕ
 u32_of d = option_and_then (below (2 ^ 32)) (u64_of d)
 
--- a number in a range, both ends in it
+-- a number in a range, with both its ends
 abbrev pub between : ℕ → ℕ → ℕ → Option ℕ
 between low high n = if nat_le low n && nat_le n high then Some n else None
 
@@ -36,7 +36,7 @@ in_signed limit (negsuc n) = if nat_lt n limit then Some (negsuc n) else None
 abbrev pub signed_of : ℕ → Data → Option ℤ
 signed_of limit d = option_and_then (in_signed limit) (option_and_then as_i64 (as_number d))
 
--- whole numbers of 8, 16 and 32 bits, one of them for the sign
+-- signed whole numbers of 8, 16 and 32 bits
 unfoldable pub i8_of : Data → Option ℤ
 i8_of = signed_of 128
 

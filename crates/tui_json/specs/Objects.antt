@@ -11,7 +11,7 @@ is_object d = is_some (as_object d)
 abbrev pub object_of : Data → Option Data
 object_of d = if is_object d then Some d else None
 
--- whether each value is one
+-- whether every value is an object
 unfoldable pub are_objects : Items → Bool
 are_objects no_items = true
 are_objects (item d ds) = is_object d && are_objects ds

@@ -10,7 +10,7 @@ use crate::kind::{Kind, KindError};
 use serde_json::Value;
 use std::alloc::Global;
 
-/// The values of an array; `WrongKind` where the value is none. Takes no memory.
+/// Returns the values of an array. Fails with `WrongKind` if the value is no array. Does not allocate.
 pub fn elements<'v>(value: &'v Value) -> Result<&'v [Value], KindError>
     ensures { Reads (λ v. items_view v.now) result (as_array (view value.now)) }
 {
@@ -20,16 +20,16 @@ pub fn elements<'v>(value: &'v Value) -> Result<&'v [Value], KindError>
     }
 }
 
-/// The values of an array of at least `LEAST` and at most `MOST`. Takes no memory.
+/// The values of an array of at least `LEAST` and at most `MOST` values. Reading it does not allocate.
 #[derive(Drop)]
 pub struct Counted<'v, const LEAST: usize, const MOST: usize>(pub &'v [Value]);
 
 impl<'v, F, const LEAST: usize, const MOST: usize> Kind<'v, F> for Counted<'v, LEAST, MOST> {
     ghost use Rattle.serde_json.specs.Data.{Items};
 
-    ghost Seen = { Items };
+    ghost AsData = { Items };
 
-    ghost seen = { λ values. items_view values.0.now };
+    ghost as_data = { λ values. items_view values.0.now };
 
     ghost kind = { elements_within LEAST MOST };
 
@@ -44,12 +44,12 @@ impl<'v, F, const LEAST: usize, const MOST: usize> Kind<'v, F> for Counted<'v, L
     }
 }
 
-/// Each of these values as one kind, in order; `WrongKind` where one of them is not of it.
+/// Reads each of these values as one kind, in order. Fails with `WrongKind` if one of them is not of it.
 pub fn each<'v, T: Kind<'v, F> + Drop, F>(
     alloc: Global,
     values: &'v [Value],
 ) -> Result<Vec<T>, KindError>
-    ensures { Reads (λ v. map T.seen v.items) result (each_of T.kind (items_view values.now)) }
+    ensures { Reads (λ v. map T.as_data v.items) result (each_of T.kind (items_view values.now)) }
 {
     let mut read = Vec::with_capacity(alloc, values.len())?;
     for value in values {
@@ -60,9 +60,9 @@ pub fn each<'v, T: Kind<'v, F> + Drop, F>(
 
 /// An array of values of one kind.
 impl<'v, F, T: Kind<'v, F> + Drop> Kind<'v, F> for Vec<T> {
-    ghost Seen = { List T.Seen };
+    ghost AsData = { List T.AsData };
 
-    ghost seen = { λ v. map T.seen v.items };
+    ghost as_data = { λ v. map T.as_data v.items };
 
     ghost kind = { list_of T.kind };
 
@@ -74,9 +74,9 @@ impl<'v, F, T: Kind<'v, F> + Drop> Kind<'v, F> for Vec<T> {
 
 /// An array of two values.
 impl<'v, F, A: Kind<'v, F> + Drop, B: Kind<'v, F>> Kind<'v, F> for (A, B) {
-    ghost Seen = { A.Seen × B.Seen };
+    ghost AsData = { A.AsData × B.AsData };
 
-    ghost seen = { λ p. (A.seen p.0, B.seen p.1) };
+    ghost as_data = { λ p. (A.as_data p.0, B.as_data p.1) };
 
     ghost kind = { pair_of A.kind B.kind };
 

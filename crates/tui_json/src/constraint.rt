@@ -1,4 +1,4 @@
-//! Widths of columns: a number, or an object with one of some members.
+//! Column widths: a number, or an object with one of several members.
 
 ghost use Rattle.std.specs.Prelude.{◌≡◌};
 ghost use Rattle.serde_json.specs.View.{view};
@@ -20,9 +20,9 @@ fn ratio_of(value: &Value) -> Option<Constraint>
     Some(Constraint::Ratio(u32_of(part)?, u32_of(whole)?))
 }
 
-/// The constraint that the value is: a whole number below 65536 is a Length; an object is what the first key says that it has of
-/// `length`, `min`, `max`, `percentage`, `fill` and `ratio`, null or not. None exactly where the value is no such constraint; a
-/// percentage may be above 100. Takes no memory.
+/// Returns the constraint that the value is. A whole number below 65536 is a `Length`. In an object, the first of the
+/// keys `length`, `min`, `max`, `percentage`, `fill` and `ratio` that it has decides, even if its value is null.
+/// Returns None exactly if the value is no such constraint. A percentage may be above 100. Does not allocate.
 #[tactic(auto, unfolding(crate::specs::Constraint::constraint_of))]
 pub fn constraint_of(value: &Value) -> Option<Constraint>
     ensures { result ≡ constraint_of (view value.now) }
@@ -47,9 +47,9 @@ pub fn constraint_of(value: &Value) -> Option<Constraint>
 impl<'v, F> Kind<'v, F> for Constraint {
     ghost use Rattle.tui_layout.specs.declared.constraint.Constraint.{Constraint};
 
-    ghost Seen = { Constraint };
+    ghost AsData = { Constraint };
 
-    ghost seen = { λ constraint. constraint };
+    ghost as_data = { λ constraint. constraint };
 
     ghost kind = { constraint_of };
 

@@ -1,14 +1,14 @@
-//! Why a value is no input.
+//! Why a value is no valid input.
 
 use std::alloc::{AllocError, AllocFailed};
 use tui_cells::NoMemory;
 
-/// Why a value is no input of a program, which refuses it with an `R`.
+/// Why a value is no valid input of a program. `R` is what the program rejects it with.
 #[derive(Clone, Copy, Debug, PartialEq, Eq)]
 pub enum InputError<R> {
-    /// The first of its tests that fails refuses it.
+    /// The error of the first test that fails.
     Refused(R),
-    /// The memory that the input takes was not there.
+    /// There was not enough memory for the input.
     NoMemory,
 }
 

@@ -1,4 +1,4 @@
-//! What each kind of value has.
+//! Kinds of value: types that are read from JSON.
 
 ghost use Rattle.std.specs.Prelude.{◌≡◌, Option};
 ghost use Rattle.serde_json.specs.Data.{Data};
@@ -9,28 +9,28 @@ use serde_json::Value;
 use std::alloc::{AllocError, AllocFailed, Global};
 use tui_cells::NoMemory;
 
-/// A type that is read from JSON in one way, as a value of the fields `F`; texts are borrowed from the value. `F` is a type of the
-/// crate that has the fields, so that it can say how types of other crates are read.
+/// A type that is read from JSON in one way, for the fields `F`. Strings are borrowed from the value. `F` is a type of
+/// the crate that defines the fields. It lets that crate implement this trait for types of other crates.
 pub trait Kind<'v, F>: Sized {
-    // What a value of this type stands for, as plain data.
-    ghost Seen: { Type 0 };
+    // What a value of this type means, as plain data.
+    ghost AsData: { Type 0 };
 
-    ghost seen: { Self → Seen };
+    ghost as_data: { Self → AsData };
 
-    // What the data of a JSON value is as this kind: None where it is not of it, anywhere inside.
-    ghost kind: { Data → Option Seen };
+    // The JSON value as this kind. None if the value, or one inside it, is not of this kind.
+    ghost kind: { Data → Option AsData };
 
-    /// The value as this kind. It is refused where it, or a value inside it, is not of its kind.
+    /// Reads the value as this kind. Fails with `WrongKind` if the value, or one inside it, is not of its kind.
     fn read(alloc: Global, value: &'v Value) -> Result<Self, KindError>
-        ensures { Reads seen result (kind (view value.now)) };
+        ensures { Reads as_data result (kind (view value.now)) };
 }
 
-/// Why a value is not read as a kind.
+/// Why a value was not read as a kind.
 #[derive(Clone, Copy, Debug, PartialEq, Eq)]
 pub enum KindError {
     /// The value, or one inside it, is not of its kind.
     WrongKind,
-    /// The memory that the value takes was not there.
+    /// There was not enough memory for the value.
     NoMemory,
 }
 

@@ -1,4 +1,4 @@
-//! The inputs of programs in JSON: kinds of value, the members of an object, and the first field whose test fails.
+//! The JSON input of programs: kinds of value, the members of an object, and the first field whose test fails.
 #![tactic(auto)]
 
 mod array;

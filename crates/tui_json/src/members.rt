@@ -10,21 +10,21 @@ use crate::kind::{Kind, KindError};
 use serde_json::Value;
 use std::alloc::Global;
 
-/// The member of this name, where it is there and not null.
+/// Returns the member of this name, if it is there and not null.
 fn present<'v>(value: &'v Value, name: &str) -> Option<&'v Value>
     ensures { option_map (λ v. view v.now) result ≡ option_and_then unless_null (get name.now (view value.now)) }
 {
     value.get(name).filter(|member| !member.is_null())
 }
 
-/// The member of this name, which has to be there: `WrongKind` where it is absent or not of its kind. What is no object has no
-/// members.
+/// Reads the member of this name, which has to be there. Fails with `WrongKind` if it is absent or not of its kind. A
+/// value that is no object has no members.
 pub fn member<'v, T: Kind<'v, F>, F>(
     alloc: Global,
     value: &'v Value,
     name: &str,
 ) -> Result<T, KindError>
-    ensures { Reads T.seen result (member T.kind name.now (view value.now)) }
+    ensures { Reads T.as_data result (member T.kind name.now (view value.now)) }
 {
     match value.get(name) {
         Some(member) => T::read(alloc, member),
@@ -32,13 +32,13 @@ pub fn member<'v, T: Kind<'v, F>, F>(
     }
 }
 
-/// The member of this name, which may be absent or null; then it is None.
+/// Reads the member of this name, which may be absent or null; both give None.
 pub fn optional_member<'v, T: Kind<'v, F>, F>(
     alloc: Global,
     value: &'v Value,
     name: &str,
 ) -> Result<Option<T>, KindError>
-    ensures { Reads (option_map T.seen) result (optional_member T.kind name.now (view value.now)) }
+    ensures { Reads (option_map T.as_data) result (optional_member T.kind name.now (view value.now)) }
 {
     match present(value, name) {
         Some(member) => Ok(Some(T::read(alloc, member)?)),
@@ -46,13 +46,13 @@ pub fn optional_member<'v, T: Kind<'v, F>, F>(
     }
 }
 
-/// The member of this name, which may be absent. Null is a value of its own, if it is one of the kind.
+/// Reads the member of this name, which may be absent, which gives None. Null is read as a value of the kind.
 pub fn given_member<'v, T: Kind<'v, F>, F>(
     alloc: Global,
     value: &'v Value,
     name: &str,
 ) -> Result<Option<T>, KindError>
-    ensures { Reads (option_map T.seen) result (given_member T.kind name.now (view value.now)) }
+    ensures { Reads (option_map T.as_data) result (given_member T.kind name.now (view value.now)) }
 {
     match value.get(name) {
         Some(member) => Ok(Some(T::read(alloc, member)?)),
@@ -60,13 +60,13 @@ pub fn given_member<'v, T: Kind<'v, F>, F>(
     }
 }
 
-/// Null, which is None, or a value.
+/// Null, which gives None, or a value.
 impl<'v, F, T: Kind<'v, F>> Kind<'v, F> for Option<T> {
     ghost use Rattle.std.specs.Prelude.{Option};
 
-    ghost Seen = { Option T.Seen };
+    ghost AsData = { Option T.AsData };
 
-    ghost seen = { option_map T.seen };
+    ghost as_data = { option_map T.as_data };
 
     ghost kind = { or_null T.kind };
 

@@ -1,4 +1,4 @@
-//! Enums, by the name of the variant.
+//! Enums, read by the names of their variants.
 
 ghost use Rattle.std.specs.Prelude.{◌≡◌, ℕ, List, Result};
 ghost use Rattle.std.specs.Result.{result_ok};
@@ -20,31 +20,32 @@ use std::str::FromStr;
 use tui_cells::{MergeStrategy, ParseError};
 use tui_layout::{Direction, Flex, HighlightSpacing};
 
-/// An enum that is read by its `FromStr`, from the name of a variant, where the fields are `F`.
+/// An enum that is read from the name of a variant by its `FromStr`, for the fields `F`.
 pub trait Named<F>: FromStr<Err = ParseError> {
     // The values and their names.
     ghost names: { Names Self };
 
-    // What is read of a text is the value of this name.
+    // Parsing a string returns the value of this name.
     ghost reads: { (text : List ℕ) (answer : Result Self ParseError) → Self.from_str_gives text answer
         → result_ok answer ≡ value_named names text };
 }
 
-/// The value of the enum whose name the text is; None where it is no text or no name. Takes no memory.
+/// Returns the value of the enum that has this name. Returns None if the JSON value is no string, or no name. Does not
+/// allocate.
 pub fn by_name<T: Named<F>, F>(value: &Value) -> Option<T>
     ensures { result ≡ named_of T.names (view value.now) }
 {
     value.as_str()?.parse().ok()
 }
 
-/// The value of such an enum, as the kind that its name is. Takes no memory.
+/// A value of such an enum, as the kind that is read from its name. Reading it does not allocate.
 #[derive(Drop)]
 pub struct ByName<T>(pub T);
 
 impl<'v, F, T: Named<F>> Kind<'v, F> for ByName<T> {
-    ghost Seen = { T };
+    ghost AsData = { T };
 
-    ghost seen = { λ value. value.0 };
+    ghost as_data = { λ value. value.0 };
 
     ghost kind = { named_of T.names };
 
@@ -56,7 +57,7 @@ impl<'v, F, T: Named<F>> Kind<'v, F> for ByName<T> {
     }
 }
 
-/// The member of this name, which may be absent or null, as the value of such an enum.
+/// Reads the member of this name, which may be absent or null, as a value of such an enum.
 pub fn optional_named_member<'v, T: Named<F>, F>(
     alloc: Global,
     value: &'v Value,
@@ -70,7 +71,8 @@ pub fn optional_named_member<'v, T: Named<F>, F>(
     }
 }
 
-/// A field that may be absent or null, as the value of such an enum. It is refused where it is there and no name of one.
+/// Reads a field that may be absent or null, as a value of such an enum. Rejects the input if the field is there and is
+/// no name of one.
 pub fn optional_named<'v, T: Named<F>, F: Fields>(
     alloc: Global,
     at: Option<usize>,

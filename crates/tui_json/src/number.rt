@@ -1,4 +1,4 @@
-//! Whole numbers and truth values.
+//! Whole numbers and booleans.
 
 ghost use Rattle.std.specs.Prelude.{◌≡◌};
 ghost use Rattle.serde_json.specs.View.{view};
@@ -12,9 +12,9 @@ impl<'v, F> Kind<'v, F> for u64 {
     ghost use Rattle.std.specs.Prelude.{ℕ};
     ghost use Rattle.tui_json.specs.Number.{u64_of};
 
-    ghost Seen = { ℕ };
+    ghost AsData = { ℕ };
 
-    ghost seen = { λ n. n };
+    ghost as_data = { λ n. n };
 
     ghost kind = { u64_of };
 
@@ -23,7 +23,7 @@ impl<'v, F> Kind<'v, F> for u64 {
     }
 }
 
-/// The number, where it is a whole one below 2^16.
+/// Returns the number, if it is a whole one below 2^16.
 #[tactic(auto, unfolding(crate::specs::Number::u16_of))]
 pub(crate) fn u16_of(value: &Value) -> Option<u16>
     ensures { result ≡ u16_of (view value.now) }
@@ -34,7 +34,7 @@ pub(crate) fn u16_of(value: &Value) -> Option<u16>
     }
 }
 
-/// The number, where it is a whole one below 2^32.
+/// Returns the number, if it is a whole one below 2^32.
 #[tactic(auto, unfolding(crate::specs::Number::u32_of))]
 pub(crate) fn u32_of(value: &Value) -> Option<u32>
     ensures { result ≡ u32_of (view value.now) }
@@ -48,9 +48,9 @@ pub(crate) fn u32_of(value: &Value) -> Option<u32>
 impl<'v, F> Kind<'v, F> for u16 {
     ghost use Rattle.std.specs.Prelude.{ℕ};
 
-    ghost Seen = { ℕ };
+    ghost AsData = { ℕ };
 
-    ghost seen = { λ n. n };
+    ghost as_data = { λ n. n };
 
     ghost kind = { u16_of };
 
@@ -59,16 +59,16 @@ impl<'v, F> Kind<'v, F> for u16 {
     }
 }
 
-/// A whole number from `LOW` to `HIGH`. Takes no memory.
+/// A whole number from `LOW` to `HIGH`. Reading it does not allocate.
 #[derive(Drop)]
 pub struct Within<const LOW: u16, const HIGH: u16>(pub u16);
 
 impl<'v, F, const LOW: u16, const HIGH: u16> Kind<'v, F> for Within<LOW, HIGH> {
     ghost use Rattle.std.specs.Prelude.{ℕ};
 
-    ghost Seen = { ℕ };
+    ghost AsData = { ℕ };
 
-    ghost seen = { λ n. n.0 };
+    ghost as_data = { λ n. n.0 };
 
     ghost kind = { within LOW HIGH };
 
@@ -85,9 +85,9 @@ impl<'v, F> Kind<'v, F> for i8 {
     ghost use Rattle.std.specs.Prelude.{ℤ};
     ghost use Rattle.tui_json.specs.Number.{i8_of};
 
-    ghost Seen = { ℤ };
+    ghost AsData = { ℤ };
 
-    ghost seen = { λ n. n };
+    ghost as_data = { λ n. n };
 
     ghost kind = { i8_of };
 
@@ -104,9 +104,9 @@ impl<'v, F> Kind<'v, F> for i16 {
     ghost use Rattle.std.specs.Prelude.{ℤ};
     ghost use Rattle.tui_json.specs.Number.{i16_of};
 
-    ghost Seen = { ℤ };
+    ghost AsData = { ℤ };
 
-    ghost seen = { λ n. n };
+    ghost as_data = { λ n. n };
 
     ghost kind = { i16_of };
 
@@ -123,9 +123,9 @@ impl<'v, F> Kind<'v, F> for i32 {
     ghost use Rattle.std.specs.Prelude.{ℤ};
     ghost use Rattle.tui_json.specs.Number.{i32_of};
 
-    ghost Seen = { ℤ };
+    ghost AsData = { ℤ };
 
-    ghost seen = { λ n. n };
+    ghost as_data = { λ n. n };
 
     ghost kind = { i32_of };
 
@@ -142,9 +142,9 @@ impl<'v, F> Kind<'v, F> for bool {
     ghost use Rattle.std.specs.Prelude.{Bool};
     ghost use Rattle.serde_json.specs.Find.{as_bool};
 
-    ghost Seen = { Bool };
+    ghost AsData = { Bool };
 
-    ghost seen = { λ b. b };
+    ghost as_data = { λ b. b };
 
     ghost kind = { as_bool };
 

@@ -9,7 +9,7 @@ use crate::kind::{Kind, KindError};
 use serde_json::Value;
 use std::alloc::Global;
 
-/// A value that is an object. Takes no memory.
+/// A value that is an object. Reading it does not allocate.
 #[derive(Drop)]
 pub struct Object<'v>(pub &'v Value);
 
@@ -18,9 +18,9 @@ impl<'v, F> Kind<'v, F> for Object<'v> {
     ghost use Rattle.serde_json.specs.View.{view};
     ghost use Rattle.tui_json.specs.Objects.{object_of};
 
-    ghost Seen = { Data };
+    ghost AsData = { Data };
 
-    ghost seen = { λ object. view object.0.now };
+    ghost as_data = { λ object. view object.0.now };
 
     ghost kind = { object_of };
 
@@ -33,7 +33,7 @@ impl<'v, F> Kind<'v, F> for Object<'v> {
     }
 }
 
-/// The objects of an array of at least `LEAST` and at most `MOST`. Takes no memory.
+/// The values of an array of at least `LEAST` and at most `MOST` objects. Reading it does not allocate.
 #[derive(Drop)]
 pub struct Objects<'v, const LEAST: usize, const MOST: usize>(pub &'v [Value]);
 
@@ -42,9 +42,9 @@ impl<'v, F, const LEAST: usize, const MOST: usize> Kind<'v, F> for Objects<'v, L
     ghost use Rattle.serde_json.specs.View.{items_view};
     ghost use Rattle.tui_json.specs.Objects.{objects_within};
 
-    ghost Seen = { Items };
+    ghost AsData = { Items };
 
-    ghost seen = { λ objects. items_view objects.0.now };
+    ghost as_data = { λ objects. items_view objects.0.now };
 
     ghost kind = { objects_within LEAST MOST };
 

@@ -1,4 +1,4 @@
-//! Texts.
+//! Strings.
 
 use crate::kind::{Kind, KindError};
 use serde_json::Value;
@@ -8,9 +8,9 @@ impl<'v, F> Kind<'v, F> for &'v str {
     ghost use Rattle.std.specs.Prelude.{ℕ, List};
     ghost use Rattle.serde_json.specs.Find.{as_str};
 
-    ghost Seen = { List ℕ };
+    ghost AsData = { List ℕ };
 
-    ghost seen = { λ text. text.now };
+    ghost as_data = { λ text. text.now };
 
     ghost kind = { as_str };
 
@@ -19,7 +19,7 @@ impl<'v, F> Kind<'v, F> for &'v str {
     }
 }
 
-/// A text of at most `MOST` bytes. Takes no memory.
+/// A string of at most `MOST` bytes. Reading it does not allocate.
 #[derive(Drop)]
 pub struct Short<'v, const MOST: usize>(pub &'v str);
 
@@ -27,9 +27,9 @@ impl<'v, F, const MOST: usize> Kind<'v, F> for Short<'v, MOST> {
     ghost use Rattle.std.specs.Prelude.{ℕ, List};
     ghost use Rattle.tui_json.specs.Text.{short};
 
-    ghost Seen = { List ℕ };
+    ghost AsData = { List ℕ };
 
-    ghost seen = { λ text. text.0.now };
+    ghost as_data = { λ text. text.0.now };
 
     ghost kind = { short MOST };
 

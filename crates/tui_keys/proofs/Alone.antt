@@ -1,4 +1,4 @@
--- What is sent for one event, as all of a read.
+-- The bytes of one event, if they are all of a read.
 use Rattle.std.proofs.Common.{◌≡◌, ◌≢◌, ℕ, ◌<◌, Bool, true, false, List, [], ◌∷◌, ◌++◌, refl, sym, ap, subst, ◌∙◌, arith}
 use Rattle.std.specs.Prelude.{codes}
 use Rattle.std.proofs.lemmas.Bool.Decides.{nat_tests}
@@ -7,26 +7,26 @@ use Rattle.tui_keys.proofs.Sending.{alt_read, escape_read, escaped_step, event_r
 use Rattle.tui_keys.proofs.Texts.{encode_one, escaped}
 use Rattle.tui_keys.specs.declared.event.Event.{Event}
 use Rattle.tui_keys.specs.declared.event.Event.TheVariants as events
-use Rattle.tui_keys.specs.declared.keys.Keys.{Keys}
+use Rattle.tui_keys.specs.declared.keys.KeyDecoder.{KeyDecoder}
 use Rattle.tui_keys.specs.declared.keys.Pending.TheVariants.{Opened}
-use Rattle.tui_keys.specs.Events.{events_read, keys_after, keys_read, made}
+use Rattle.tui_keys.specs.Events.{events_of_short_read, keys_after, keys_after_short_read, events_in}
 use Rattle.tui_keys.specs.Laws.{AloneIsRead, AreRead, IsReadAlone}
-use Rattle.tui_keys.specs.Sent.{IsNoneOf, IsPlain, IsTold, sent_for}
+use Rattle.tui_keys.specs.Sent.{IsNoneOf, IsPlain, IsUnambiguous, sent_for}
 use Rattle.tui_keys.specs.Steps.{after_escape, opens_answer, paused, start, waits}
 use lib.Utf8.{encode}
 
--- bytes that leave nothing pending, or what the end of a read makes one event
-ends : (e : Event) (k : Keys) (es : List Event) → AreRead start (sent_for e) es k → es ++ made (paused k) ≡ e ∷ [] → (paused k).keys ≡ start → IsReadAlone e
-unfolding events_read keys_read
+-- bytes that leave nothing pending, or whose pending rest becomes the event at the end of the read
+ends : (e : Event) (k : KeyDecoder) (es : List Event) → AreRead start (sent_for e) es k → es ++ events_in (paused k) ≡ e ∷ [] → (paused k).keys ≡ start → IsReadAlone e
+unfolding events_of_short_read keys_after_short_read
 ends e k es h is pending = record {
-  events = ap (λ (l : List Event). l ++ made (paused (keys_after start (sent_for e)))) h.events ∙ ap (λ (j : Keys). es ++ made (paused j)) h.pending ∙ is;
-  pending = ap (λ (j : Keys). (paused j).keys) h.pending ∙ pending;
+  events = ap (λ (l : List Event). l ++ events_in (paused (keys_after start (sent_for e)))) h.events ∙ ap (λ (j : KeyDecoder). es ++ events_in (paused j)) h.pending ∙ is;
+  pending = ap (λ (j : KeyDecoder). (paused j).keys) h.pending ∙ pending;
 }
 
-told_alone : (e : Event) → IsTold e → IsReadAlone e
-told_alone e is = ends e start (e ∷ []) (event_read e is) refl refl
+unambiguous_alone : (e : Event) → IsUnambiguous e → IsReadAlone e
+unambiguous_alone e is = ends e start (e ∷ []) (event_read e is) refl refl
 
-abbrev pub opened : ℕ → Keys
+abbrev pub opened : ℕ → KeyDecoder
 opened c = record { pasting = false; pending = Opened c }
 
 opener_small : (c : ℕ) → opens_answer c ≡ true → c < 127
@@ -62,28 +62,28 @@ unfolding sent_for
 escape_alone = ends events.Esc escaped [] escape_read refl refl
 
 pub alone_is_read : AloneIsRead
-alone_is_read (events.Char c) is = told_alone (events.Char c) is
-alone_is_read events.Enter is = told_alone events.Enter is
-alone_is_read events.Tab is = told_alone events.Tab is
-alone_is_read events.BackTab is = told_alone events.BackTab is
-alone_is_read events.Backspace is = told_alone events.Backspace is
+alone_is_read (events.Char c) is = unambiguous_alone (events.Char c) is
+alone_is_read events.Enter is = unambiguous_alone events.Enter is
+alone_is_read events.Tab is = unambiguous_alone events.Tab is
+alone_is_read events.BackTab is = unambiguous_alone events.BackTab is
+alone_is_read events.Backspace is = unambiguous_alone events.Backspace is
 alone_is_read events.Esc is = escape_alone
-alone_is_read events.Up is = told_alone events.Up is
-alone_is_read events.Down is = told_alone events.Down is
-alone_is_read events.Left is = told_alone events.Left is
-alone_is_read events.Right is = told_alone events.Right is
-alone_is_read events.Home is = told_alone events.Home is
-alone_is_read events.End is = told_alone events.End is
-alone_is_read events.PageUp is = told_alone events.PageUp is
-alone_is_read events.PageDown is = told_alone events.PageDown is
-alone_is_read events.Insert is = told_alone events.Insert is
-alone_is_read events.Delete is = told_alone events.Delete is
-alone_is_read (events.F n) is = told_alone (events.F n) is
-alone_is_read (events.Ctrl c) is = told_alone (events.Ctrl c) is
+alone_is_read events.Up is = unambiguous_alone events.Up is
+alone_is_read events.Down is = unambiguous_alone events.Down is
+alone_is_read events.Left is = unambiguous_alone events.Left is
+alone_is_read events.Right is = unambiguous_alone events.Right is
+alone_is_read events.Home is = unambiguous_alone events.Home is
+alone_is_read events.End is = unambiguous_alone events.End is
+alone_is_read events.PageUp is = unambiguous_alone events.PageUp is
+alone_is_read events.PageDown is = unambiguous_alone events.PageDown is
+alone_is_read events.Insert is = unambiguous_alone events.Insert is
+alone_is_read events.Delete is = unambiguous_alone events.Delete is
+alone_is_read (events.F n) is = unambiguous_alone (events.F n) is
+alone_is_read (events.Ctrl c) is = unambiguous_alone (events.Ctrl c) is
 alone_is_read (events.Alt c) is = alt_alone c is.0 is.1
-alone_is_read (events.With m motion) is = told_alone (events.With m motion) is
+alone_is_read (events.With m motion) is = unambiguous_alone (events.With m motion) is
 alone_is_read events.PasteBegin is = absurd is
 alone_is_read events.PasteEnd is = absurd is
-alone_is_read (events.Resize columns rows) is = told_alone (events.Resize columns rows) is
-alone_is_read events.Tick is = told_alone events.Tick is
+alone_is_read (events.Resize columns rows) is = unambiguous_alone (events.Resize columns rows) is
+alone_is_read events.Tick is = unambiguous_alone events.Tick is
 alone_is_read events.Unknown is = absurd is

@@ -1,4 +1,4 @@
--- Numbers and letters of events are within their bounds, and which bytes begin or end a paste.
+-- Numbers and letters of events are within their bounds; which bytes begin or end a paste.
 use Rattle.std.proofs.Common.{◌≡◌, ◌≢◌, ◌⊎◌, inl, inr, ◌<◌, ◌≤◌, ℕ, sym, subst, ◌∙◌, ◌+◌, ◌-◌, ◌*◌, ◌%◌, Bool, true, false, ◌&&◌, ◌||◌, not, ◌==◌, nat_lt, [], ◌∷◌, All, Option, None, Some, refl, if◌then◌else◌, arith}
 use Rattle.std.specs.Prelude.{⊤}
 use Rattle.std.specs.Option.{option_map}
@@ -9,18 +9,18 @@ use Rattle.tui_keys.specs.declared.event.Event.{Event}
 use Rattle.tui_keys.specs.declared.event.Event.TheVariants as events
 use Rattle.tui_keys.specs.declared.event.Motion.{Motion}
 use Rattle.tui_keys.specs.declared.event.Motion.TheVariants as motions
-use Rattle.tui_keys.specs.declared.keys.Begun.{Begun}
-use Rattle.tui_keys.specs.declared.keys.Keys.{Keys}
+use Rattle.tui_keys.specs.declared.keys.PartialCharacter.{PartialCharacter}
+use Rattle.tui_keys.specs.declared.keys.KeyDecoder.{KeyDecoder}
 use Rattle.tui_keys.specs.declared.keys.Numbers.{Numbers}
 use Rattle.tui_keys.specs.declared.keys.Pending.{Pending}
 use Rattle.tui_keys.specs.declared.keys.Pending.TheVariants.{Nothing, Escape, Bracket, Ss3, Console, Sequence, Opened, Answer, AnswerEscape, Character}
-use Rattle.tui_keys.specs.declared.keys.Step.{Step}
-use Rattle.tui_keys.specs.Events.{events_of, made, some_of}
+use Rattle.tui_keys.specs.declared.keys.Decoded.{Decoded}
+use Rattle.tui_keys.specs.Events.{events_of, events_in, some_of}
 use Rattle.tui_keys.specs.Laws.{EventsAreBounded, IsMark}
 use Rattle.tui_keys.specs.Sent.{IsBounded, IsSize}
-use Rattle.tui_keys.specs.Steps.{after_bracket, after_escape, after_pasted_escape, after_ss3, begin, begins_paste, broken_by, character_of, console_key, ends_answer, in_answer, in_character, in_console, in_paste, in_sequence, is_mark, is_size, lead, letter, marked, modifiers_of, moved, no_numbers, nul, one, opens_answer, pasted, pasted_event, plain, sequence_of, size_of, stepped, tilde, told, typed, waits}
+use Rattle.tui_keys.specs.Steps.{after_bracket, after_escape, after_pasted_escape, after_ss3, ground, begins_paste, broken_by, character_of, console_key, ends_answer, in_answer, in_character, in_console, in_paste, in_sequence, is_mark, is_size, lead, letter, marked, modifiers_of, moved, no_numbers, nul, one, opens_answer, pasted, pasted_event, plain, sequence_of, size_of, stepped, tilde, character_event, typed, waits}
 
--- none that begins or ends a paste
+-- an event that neither begins nor ends a paste
 abbrev pub IsKey : Event → Type 0
 IsKey events.PasteBegin = ⊥
 IsKey events.PasteEnd = ⊥
@@ -42,17 +42,17 @@ no_begin : (e : Event) → IsKey e → begins_paste e ≡ false
 no_begin events.PasteBegin h = absurd h
 no_begin e h = refl
 
--- a step that begins and ends no paste
-pub record Fits (s : Step) : Type 0 where
+-- a step that neither begins nor ends a paste
+pub record Fits (s : Decoded) : Type 0 where
   pub first : All IsTyped (some_of s.first)
   pub second : All IsTyped (some_of s.second)
   pub opens : s.keys.pasting ≡ false
 
-choose : (b : Bool) (s t : Step) → Fits s → Fits t → Fits (if b then s else t)
+choose : (b : Bool) (s t : Decoded) → Fits s → Fits t → Fits (if b then s else t)
 choose true s t h g = h
 choose false s t h g = g
 
-choose_by : (b : Bool) (s t : Step) → (b ≡ true → Fits s) → (b ≡ false → Fits t) → Fits (if b then s else t)
+choose_by : (b : Bool) (s t : Decoded) → (b ≡ true → Fits s) → (b ≡ false → Fits t) → Fits (if b then s else t)
 choose_by true s t h g = h refl
 choose_by false s t h g = g refl
 
@@ -90,8 +90,8 @@ control_fits b low eight nine ten thirteen high =
       tt,
     )
 
-of_begin : (b : ℕ) → 0 < b → Fits (begin b)
-unfolding begin
+of_begin : (b : ℕ) → 0 < b → Fits (ground b)
+unfolding ground
 of_begin b low =
     choose_by (b == 8) _ _ (λ e. of_one events.Backspace (tt, tt)) (λ eight. choose_by (b == 9) _ _ (λ e. of_one events.Tab (tt, tt))
     (λ nine. choose_by (b == 10) _ _ (λ e. of_one events.Enter (tt, tt)) (λ ten. choose_by (b == 13) _ _ (λ e. of_one events.Enter (tt, tt))
@@ -202,17 +202,17 @@ of_answer : (b : ℕ) → Fits (in_answer b)
 unfolding in_answer
 of_answer b = choose (b == 7) _ _ (of_waits _) (choose (b == 27) _ _ (of_waits _) (of_waits _))
 
-of_told : (alt : Bool) (c : ℕ) → IsTyped (told alt c)
-of_told true c = (tt, tt)
-of_told false c = (tt, tt)
+of_character_event : (alt : Bool) (c : ℕ) → IsTyped (character_event alt c)
+of_character_event true c = (tt, tt)
+of_character_event false c = (tt, tt)
 
 of_character_of : (alt : Bool) (least code : ℕ) → IsTyped (character_of alt least code)
 unfolding character_of
 of_character_of alt least code =
-    either (nat_lt code least) events.Unknown _ (tt, tt) (either (nat_lt code 55296) _ _ (of_told alt code) (either
-    (nat_lt code 57344) events.Unknown _ (tt, tt) (either (nat_lt code 1114112) _ events.Unknown (of_told alt code) (tt, tt))))
+    either (nat_lt code least) events.Unknown _ (tt, tt) (either (nat_lt code 55296) _ _ (of_character_event alt code) (either
+    (nat_lt code 57344) events.Unknown _ (tt, tt) (either (nat_lt code 1114112) _ events.Unknown (of_character_event alt code) (tt, tt))))
 
-of_character : (p : Begun) (b : ℕ) → 0 < b → Fits (in_character p b)
+of_character : (p : PartialCharacter) (b : ℕ) → 0 < b → Fits (in_character p b)
 unfolding in_character
 of_character p b low =
     choose (nat_lt b 128) _ _ (of_broken events.Unknown b low (tt, tt)) (choose (nat_lt b 192) _ _ (choose (nat_lt p.left 2) _ _ (of_one
@@ -227,11 +227,11 @@ of_end : (b : ℕ) → 0 < b → Fits (ends_answer b)
 unfolding ends_answer
 of_end b low = choose (b == 92) _ _ (of_waits _) (of_escape b low)
 
--- a byte of a sequence: at its mark this event, and else what fits
-pub record IsMet (number : ℕ) (event : Event) (p : Pending) (b : ℕ) (s : Step) : Type 0 where
+-- a byte of a sequence: it ends the mark and is this event, or it is not at the mark
+pub record IsMet (number : ℕ) (event : Event) (p : Pending) (b : ℕ) (s : Decoded) : Type 0 where
   pub met : (IsMark number p b × (s ≡ one event)) ⊎ ((IsMark number p b → ⊥) × Fits s)
 
-pub away : (number : ℕ) (event : Event) (p : Pending) (b : ℕ) (s : Step) → (IsMark number p b → ⊥) → Fits s → IsMet number event p b s
+pub away : (number : ℕ) (event : Event) (p : Pending) (b : ℕ) (s : Decoded) → (IsMark number p b → ⊥) → Fits s → IsMet number event p b s
 away number event p b s none f = record { met = inr (none, f) }
 
 mark_is : (number : ℕ) (n : Numbers) (b : ℕ) → is_mark number n b ≡ true → IsMark number (Sequence n) b
@@ -285,7 +285,7 @@ of_in_paste Answer b low = away 201 events.PasteEnd Answer b _ (λ m. m) (of_ans
 of_in_paste AnswerEscape b low = away 201 events.PasteEnd AnswerEscape b _ (λ m. m) (of_end b low)
 of_in_paste (Character p) b low = away 201 events.PasteEnd (Character p) b _ (λ m. m) (of_character p b low)
 
--- within a paste there are none of these numbers
+-- within a paste no event has a number or letter with a bound
 of_pasted_event : (e : Event) → IsBounded (pasted_event e)
 of_pasted_event (events.Char c) = tt
 of_pasted_event events.Enter = tt
@@ -314,7 +314,7 @@ of_pasted_event events.Tick = tt
 of_pasted_event events.Unknown = tt
 
 -- a step whose events are within their bounds
-record Bounded (s : Step) : Type 0 where
+record Bounded (s : Decoded) : Type 0 where
   first : All IsBounded (some_of s.first)
   second : All IsBounded (some_of s.second)
 
@@ -322,17 +322,17 @@ of_pasted_option : (o : Option Event) → All IsBounded (some_of (option_map pas
 of_pasted_option None = All-nil IsBounded
 of_pasted_option (Some e) = All-cons IsBounded (pasted_event e) [] (of_pasted_event e) (All-nil IsBounded)
 
-of_pasted : (s : Step) → Bounded (pasted s)
+of_pasted : (s : Decoded) → Bounded (pasted s)
 of_pasted s = record { first = of_pasted_option s.first; second = of_pasted_option s.second }
 
 nul_bounded : (q : Bool) → IsBounded (if q then events.Unknown else events.Tick)
 nul_bounded true = tt
 nul_bounded false = tt
 
-of_nul : (keys : Keys) → Bounded (nul keys)
+of_nul : (keys : KeyDecoder) → Bounded (nul keys)
 of_nul keys = record { first = All-nil IsBounded; second = All-cons IsBounded _ [] (nul_bounded keys.pasting) (All-nil IsBounded) }
 
-weaker : (s : Step) → Fits s → Bounded s
+weaker : (s : Decoded) → Fits s → Bounded s
 weaker s f = record {
   first = All-weaker IsTyped IsBounded (λ e h. h.0) (some_of s.first) f.first;
   second = All-weaker IsTyped IsBounded (λ e h. h.0) (some_of s.second) f.second;
@@ -341,13 +341,13 @@ weaker s f = record {
 begin_bounded : Bounded (one events.PasteBegin)
 begin_bounded = record { first = All-nil IsBounded; second = All-cons IsBounded events.PasteBegin [] tt (All-nil IsBounded) }
 
-typed_bounded : (p : Pending) (b : ℕ) (s : Step) → IsMet 200 events.PasteBegin p b s → Bounded s
+typed_bounded : (p : Pending) (b : ℕ) (s : Decoded) → IsMet 200 events.PasteBegin p b s → Bounded s
 typed_bounded p b s is = elim is.met [
-  | inl mark ↦ subst (λ (k : Step). Bounded k) (sym mark.1) begin_bounded
+  | inl mark ↦ subst (λ (k : Decoded). Bounded k) (sym mark.1) begin_bounded
   | inr other ↦ weaker s other.1
 ]
 
-by : (t q : Bool) (u s v : Step) → Bounded u → Bounded s → (t ≡ false → Bounded v) → Bounded (if t then u else if q then s else v)
+by : (t q : Bool) (u s v : Decoded) → Bounded u → Bounded s → (t ≡ false → Bounded v) → Bounded (if t then u else if q then s else v)
 by true q u s v h g f = h
 by false true u s v h g f = g
 by false false u s v h g f = f refl
@@ -355,7 +355,7 @@ by false false u s v h g f = f refl
 pub positive : (b : ℕ) → (b == 0) ≡ false → 0 < b
 positive b e = grind (arith, nat_tests)
 
-of_step : (keys : Keys) (b : ℕ) → Bounded (stepped keys b)
+of_step : (keys : KeyDecoder) (b : ℕ) → Bounded (stepped keys b)
 unfolding stepped
 of_step keys b =
     by (b == 0) keys.pasting (nul keys) (pasted (in_paste keys.pending b)) (typed keys.pending b) (of_nul keys) (of_pasted (in_paste keys.pending b))
@@ -366,6 +366,6 @@ unfolding events_of
 bounded keys [] = All-nil IsBounded
 bounded keys (b ∷ bs) =
     let here = of_step keys b in
-    All-append IsBounded (made (stepped keys b)) (events_of (stepped keys b).keys bs)
+    All-append IsBounded (events_in (stepped keys b)) (events_of (stepped keys b).keys bs)
     (All-append IsBounded (some_of (stepped keys b).first) (some_of (stepped keys b).second) here.first here.second)
     (bounded (stepped keys b).keys bs)

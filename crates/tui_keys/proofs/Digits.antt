@@ -1,4 +1,4 @@
--- Decimal digits in a sequence are its number.
+-- The decimal digits in a sequence give its number.
 use Rattle.std.proofs.Common.{◌≡◌, inl, inr, ℕ, ◌+◌, ◌-◌, ◌*◌, ◌/◌, ◌%◌, ◌≤◌, ◌<◌, Bool, true, false, List, [], ◌∷◌, refl, sym, ap, subst, ◌∙◌, ◌==◌, if◌then◌else◌, arith}
 use Rattle.std.specs.Prelude.{decimal, suc}
 use Rattle.std.specs.Fmt.{digits, digits_onto, digit_glyph}
@@ -6,14 +6,14 @@ use Rattle.std.proofs.lemmas.Bool.{cases_lt}
 use Rattle.std.proofs.lemmas.Bool.Decides.{nat_tests}
 use Rattle.tui_keys.proofs.Decoding.{joined, no_step}
 use Rattle.tui_keys.specs.declared.event.Event.TheVariants.{PasteBegin}
-use Rattle.tui_keys.specs.declared.keys.Keys.{Keys}
+use Rattle.tui_keys.specs.declared.keys.KeyDecoder.{KeyDecoder}
 use Rattle.tui_keys.specs.declared.keys.Numbers.{Numbers}
 use Rattle.tui_keys.specs.declared.keys.Pending.TheVariants.{Sequence}
 use Rattle.tui_keys.specs.Laws.{AreRead}
 use Rattle.tui_keys.specs.Steps.{in_sequence, is_mark, marked, more, one, stepped, nul, waits, with_digit}
 
 -- in a sequence outside a paste
-abbrev pub in_numbers : Numbers → Keys
+abbrev pub in_numbers : Numbers → KeyDecoder
 in_numbers n = record { pasting = false; pending = Sequence n }
 
 -- one more digit
@@ -65,7 +65,7 @@ unfolding digits
 three_digits n low high =
     more_digits 63 n [] (omega arith) ∙ more_digits 62 (n / 10) _ (omega arith) ∙ last_digit 61 (n / 10 / 10) _ (omega arith)
 
--- a place in a sequence, which takes digits
+-- a parameter of a sequence, to which digits are added
 abbrev pub Takes : (ℕ → Numbers) → Type 0
 Takes put = (m d : ℕ) → with_digit (put m) d ≡ put (more m d)
 

@@ -1,4 +1,4 @@
--- Which bytes stand before the last one of a beginning or an end of a paste.
+-- Which bytes come before the last byte of the sequences that begin and end a paste.
 use Rattle.std.proofs.Common.{◌≡◌, ◌≢◌, ◌<◌, ◌≤◌, ℕ, sym, subst, ap, ◌∙◌, ◌+◌, ◌-◌, ◌*◌, min, Bool, true, false, ◌==◌, List, [], ◌∷◌, ◌++◌, All, length, refl, if◌then◌else◌, append_assoc, arith}
 use Rattle.std.specs.Prelude.{nat_lt, ⊤}
 use Rattle.std.specs.Char.{digit_value}
@@ -10,23 +10,23 @@ use Rattle.std.proofs.lemmas.List.{append-nil}
 use Rattle.std.proofs.lemmas.List.Elements.{All-head, All-tail}
 use Rattle.tui_keys.specs.declared.event.Event.{Event}
 use Rattle.tui_keys.specs.declared.event.Event.TheVariants as events
-use Rattle.tui_keys.specs.declared.keys.Begun.{Begun}
-use Rattle.tui_keys.specs.declared.keys.Keys.{Keys}
+use Rattle.tui_keys.specs.declared.keys.PartialCharacter.{PartialCharacter}
+use Rattle.tui_keys.specs.declared.keys.KeyDecoder.{KeyDecoder}
 use Rattle.tui_keys.specs.declared.keys.Numbers.{Numbers}
 use Rattle.tui_keys.specs.declared.keys.Pending.{Pending}
 use Rattle.tui_keys.specs.declared.keys.Pending.TheVariants.{Nothing, Escape, Bracket, Ss3, Console, Sequence, Opened, Answer, AnswerEscape, Character}
-use Rattle.tui_keys.specs.declared.keys.Step.{Step}
+use Rattle.tui_keys.specs.declared.keys.Decoded.{Decoded}
 use Rattle.tui_keys.specs.Events.{keys_after}
 use Rattle.tui_keys.specs.Laws.{EndsInNumber, IsMark}
-use Rattle.tui_keys.specs.Steps.{after_bracket, after_escape, after_pasted_escape, after_ss3, begin, broken_by, ends_answer, in_answer, in_character, in_console, in_paste, in_sequence, is_mark, lead, marked, more, no_numbers, one, opens_answer, pasted, start, stepped, typed, with_digit, with_next}
+use Rattle.tui_keys.specs.Steps.{after_bracket, after_escape, after_pasted_escape, after_ss3, ground, broken_by, ends_answer, in_answer, in_character, in_console, in_paste, in_sequence, is_mark, lead, marked, more, no_numbers, one, opens_answer, pasted, start, stepped, typed, with_digit, with_next}
 
--- ---- what stands behind some bytes
+-- ---- what some bytes end with
 
 record IsEnd (tail bs : List ℕ) : Type 0 where
   before : List ℕ
   whole : bs ≡ before ++ tail
 
--- ESC [ and digits, whose number is counted up to 65535
+-- ESC [ and digits, whose number saturates at 65535
 record NumberEnd (f : ℕ) (bs : List ℕ) : Type 0 where
   before : List ℕ
   digits : List ℕ
@@ -34,24 +34,24 @@ record NumberEnd (f : ℕ) (bs : List ℕ) : Type 0 where
   all : AllDigits 10 digits
   value : min (digits_value 10 digits) 65535 ≡ f
 
-abbrev Behind : Pending → List ℕ → Type 0
-Behind Escape bs = IsEnd (27 ∷ []) bs
-Behind AnswerEscape bs = IsEnd (27 ∷ []) bs
-Behind Bracket bs = IsEnd (27 ∷ 91 ∷ []) bs
-Behind (Sequence n) bs = n.is_plain ≡ true → n.place ≡ 0 → NumberEnd n.first bs
-Behind p bs = ⊤
+abbrev EndsAfter : Pending → List ℕ → Type 0
+EndsAfter Escape bs = IsEnd (27 ∷ []) bs
+EndsAfter AnswerEscape bs = IsEnd (27 ∷ []) bs
+EndsAfter Bracket bs = IsEnd (27 ∷ 91 ∷ []) bs
+EndsAfter (Sequence n) bs = n.is_plain ≡ true → n.place ≡ 0 → NumberEnd n.first bs
+EndsAfter p bs = ⊤
 
-record After (s : Step) (bs : List ℕ) : Type 0 where
-  is : Behind s.keys.pending bs
+record After (s : Decoded) (bs : List ℕ) : Type 0 where
+  is : EndsAfter s.keys.pending bs
 
-choose : (t : Bool) (s u : Step) (bs : List ℕ) → (t ≡ true → After s bs) → (t ≡ false → After u bs) → After (if t then s else u) bs
+choose : (t : Bool) (s u : Decoded) (bs : List ℕ) → (t ≡ true → After s bs) → (t ≡ false → After u bs) → After (if t then s else u) bs
 choose true s u bs f g = f refl
 choose false s u bs f g = g refl
 
 done : (e : Event) (bs : List ℕ) → After (one e) bs
 done e bs = record { is = tt }
 
--- ---- bytes that begin
+-- ---- first bytes
 
 lead_after : (alt : Bool) (b : ℕ) (bs : List ℕ) → After (lead alt b) bs
 unfolding lead
@@ -64,8 +64,8 @@ esc_end b bs e =
     let esc : b ≡ 27 = grind (arith, nat_tests) in
     record { before = bs; whole = ap (λ (c : ℕ). bs ++ c ∷ []) esc }
 
-begin_after : (b : ℕ) (bs : List ℕ) → After (begin b) (bs ++ b ∷ [])
-unfolding begin
+begin_after : (b : ℕ) (bs : List ℕ) → After (ground b) (bs ++ b ∷ [])
+unfolding ground
 begin_after b bs =
     let to = bs ++ b ∷ [] in
     choose (b == 8) _ _ to (λ e. done _ to) (λ e. choose (b == 9) _ _ to (λ f. done _ to) (λ f. choose (b == 10) _ _ to (λ g. done _ to)
@@ -121,7 +121,7 @@ console_after b bs =
     let to = bs ++ b ∷ [] in
     choose (nat_lt b 32) _ _ to (λ e. broken _ b bs) (λ e. choose (nat_lt b 127) _ _ to (λ f. done _ to) (λ f. broken _ b bs))
 
-character_after : (p : Begun) (b : ℕ) (bs : List ℕ) → After (in_character p b) (bs ++ b ∷ [])
+character_after : (p : PartialCharacter) (b : ℕ) (bs : List ℕ) → After (in_character p b) (bs ++ b ∷ [])
 unfolding in_character
 character_after p b bs =
     let to = bs ++ b ∷ [] in
@@ -152,7 +152,7 @@ number_push f b bs low high end =
           ∙ capped (digits_value 10 end.digits) f (b - 48) end.value;
     }
 
--- a digit is put in its place
+-- a digit is added to the current parameter
 abbrev placed : Bool → Bool → Bool → Numbers → ℕ → Numbers
 placed t u v n d =
     if t then record n { first = more n.first d }
@@ -172,8 +172,8 @@ same_plain false true v n d = refl
 same_plain false false true n d = refl
 same_plain false false false n d = refl
 
-digit_after : (n : Numbers) (b : ℕ) (bs : List ℕ) → nat_lt b 48 ≡ false → nat_lt b 58 ≡ true → Behind (Sequence n) bs →
-    Behind (Sequence (with_digit n (b - 48))) (bs ++ b ∷ [])
+digit_after : (n : Numbers) (b : ℕ) (bs : List ℕ) → nat_lt b 48 ≡ false → nat_lt b 58 ≡ true → EndsAfter (Sequence n) bs →
+    EndsAfter (Sequence (with_digit n (b - 48))) (bs ++ b ∷ [])
 unfolding with_digit
 digit_after n b bs below above end =
     let d = b - 48 in
@@ -193,11 +193,11 @@ next_place false n e zero_place =
     let high : 3 ≤ n.place = grind (arith, nat_tests) in
     absurd (omega (arith, zero_place))
 
-next_after : (n : Numbers) (bs : List ℕ) → Behind (Sequence (with_next n)) bs
+next_after : (n : Numbers) (bs : List ℕ) → EndsAfter (Sequence (with_next n)) bs
 unfolding with_next
 next_after n bs = λ plain place. absurd (next_place (nat_lt n.place 3) n refl place)
 
-sequence_after : (n : Numbers) (b : ℕ) (bs : List ℕ) → Behind (Sequence n) bs → After (in_sequence n b) (bs ++ b ∷ [])
+sequence_after : (n : Numbers) (b : ℕ) (bs : List ℕ) → EndsAfter (Sequence n) bs → After (in_sequence n b) (bs ++ b ∷ [])
 unfolding in_sequence
 sequence_after n b bs end =
     let to = bs ++ b ∷ [] in
@@ -206,7 +206,7 @@ sequence_after n b bs end =
     (λ h. choose (nat_lt b 64) _ _ to (λ i. record { is = λ plain. absurd (true≢false (sym plain)) }) (λ i. choose (nat_lt b 127) _ _ to (λ j. done _ to)
     (λ j. broken _ b bs))))))
 
-marked_after : (number : ℕ) (event : Event) (n : Numbers) (b : ℕ) (bs : List ℕ) → Behind (Sequence n) bs → After (marked number event n b) (bs ++ b ∷ [])
+marked_after : (number : ℕ) (event : Event) (n : Numbers) (b : ℕ) (bs : List ℕ) → EndsAfter (Sequence n) bs → After (marked number event n b) (bs ++ b ∷ [])
 unfolding marked
 marked_after number event n b bs end =
     choose (is_mark number n b) _ _ (bs ++ b ∷ []) (λ e. done _ (bs ++ b ∷ [])) (λ e. sequence_after n b bs end)
@@ -221,7 +221,7 @@ bracket_after b bs end =
 
 -- ---- any bytes
 
-typed_after : (p : Pending) (b : ℕ) (bs : List ℕ) → Behind p bs → After (typed p b) (bs ++ b ∷ [])
+typed_after : (p : Pending) (b : ℕ) (bs : List ℕ) → EndsAfter p bs → After (typed p b) (bs ++ b ∷ [])
 typed_after Nothing b bs end = begin_after b bs
 typed_after Escape b bs end = escape_after b bs end
 typed_after Bracket b bs end = bracket_after b bs end
@@ -233,7 +233,7 @@ typed_after Answer b bs end = answer_after b bs
 typed_after AnswerEscape b bs end = answer_escape_after b bs end
 typed_after (Character c) b bs end = character_after c b bs
 
-in_paste_after : (p : Pending) (b : ℕ) (bs : List ℕ) → Behind p bs → After (in_paste p b) (bs ++ b ∷ [])
+in_paste_after : (p : Pending) (b : ℕ) (bs : List ℕ) → EndsAfter p bs → After (in_paste p b) (bs ++ b ∷ [])
 in_paste_after Nothing b bs end = begin_after b bs
 in_paste_after Escape b bs end = pasted_escape_after b bs end
 in_paste_after Bracket b bs end = bracket_after b bs end
@@ -245,31 +245,31 @@ in_paste_after Answer b bs end = answer_after b bs
 in_paste_after AnswerEscape b bs end = answer_escape_after b bs end
 in_paste_after (Character c) b bs end = character_after c b bs
 
-by : (t q : Bool) (u s v : Step) (bs : List ℕ) → t ≡ false → After s bs → After v bs → After (if t then u else if q then pasted s else v) bs
+by : (t q : Bool) (u s v : Decoded) (bs : List ℕ) → t ≡ false → After s bs → After v bs → After (if t then u else if q then pasted s else v) bs
 by true q u s v bs e f g = absurd (true≢false e)
 by false true u s v bs e f g = record { is = f.is }
 by false false u s v bs e f g = g
 
-step_after : (keys : Keys) (b : ℕ) (bs : List ℕ) → b ≢ 0 → Behind keys.pending bs → After (stepped keys b) (bs ++ b ∷ [])
+step_after : (keys : KeyDecoder) (b : ℕ) (bs : List ℕ) → b ≢ 0 → EndsAfter keys.pending bs → After (stepped keys b) (bs ++ b ∷ [])
 unfolding stepped
 step_after keys b bs some end =
     let e : (b == 0) ≡ false = grind (arith, nat_tests) in
     by (b == 0) keys.pasting _ _ _ (bs ++ b ∷ []) e (in_paste_after keys.pending b bs end) (typed_after keys.pending b bs end)
 
-all_after : (keys : Keys) (bs cs : List ℕ) → All (λ (b : ℕ). b ≢ 0) cs → Behind keys.pending bs → Behind (keys_after keys cs).pending (bs ++ cs)
+all_after : (keys : KeyDecoder) (bs cs : List ℕ) → All (λ (b : ℕ). b ≢ 0) cs → EndsAfter keys.pending bs → EndsAfter (keys_after keys cs).pending (bs ++ cs)
 unfolding keys_after
 all_after keys bs [] all end = rw (append-nil bs) end
 all_after keys bs (c ∷ cs) all end =
     let some = λ (b : ℕ). b ≢ 0 in
     let here = (step_after keys c bs (All-head some c cs all) end).is in
     let rest = all_after (stepped keys c).keys (bs ++ c ∷ []) cs (All-tail some c cs all) here in
-    subst (λ (l : List ℕ). Behind (keys_after (stepped keys c).keys cs).pending l) (append_assoc bs (c ∷ []) cs) rest
+    subst (λ (l : List ℕ). EndsAfter (keys_after (stepped keys c).keys cs).pending l) (append_assoc bs (c ∷ []) cs) rest
 
 some_digits : (ds : List ℕ) → 0 < digits_value 10 ds → 0 < length ds
 some_digits [] h = absurd (omega (arith, h))
 some_digits (d ∷ ds) h = omega arith
 
-number_ends : (number b : ℕ) (p : Pending) (bs : List ℕ) → 0 < number → number < 65535 → IsMark number p b → Behind p bs → EndsInNumber number bs
+number_ends : (number b : ℕ) (p : Pending) (bs : List ℕ) → 0 < number → number < 65535 → IsMark number p b → EndsAfter p bs → EndsInNumber number bs
 number_ends number b (Sequence n) bs low high m end =
     let number_end = end m.0 m.1 in
     let count = digits_value 10 number_end.digits in

@@ -1,11 +1,11 @@
--- What other terminals send, by computing.
+-- What other terminals send, by computation.
 use Rattle.std.proofs.Common.{refl}
 use Rattle.tui_keys.specs.Events.{events_of, keys_after}
 use Rattle.tui_keys.specs.Laws.{OthersAreRead}
-use Rattle.tui_keys.specs.Steps.{after_bracket, after_escape, after_ss3, begin, console_key, ends_answer, in_answer, in_console, in_sequence, letter, marked, modifiers_of, moved, sequence_of, size_of, stepped, tilde, with_digit, with_next}
+use Rattle.tui_keys.specs.Steps.{after_bracket, after_escape, after_ss3, ground, console_key, ends_answer, in_answer, in_console, in_sequence, letter, marked, modifiers_of, moved, sequence_of, size_of, stepped, tilde, with_digit, with_next}
 
 pub others : OthersAreRead
-unfolding events_of keys_after stepped begin after_bracket after_escape after_ss3 console_key ends_answer in_answer in_console in_sequence letter marked modifiers_of moved sequence_of size_of tilde with_digit with_next
+unfolding events_of keys_after stepped ground after_bracket after_escape after_ss3 console_key ends_answer in_answer in_console in_sequence letter marked modifiers_of moved sequence_of size_of tilde with_digit with_next
 others = record {
   newline = record { events = refl; pending = refl };
   control_h = record { events = refl; pending = refl };

@@ -1,4 +1,4 @@
--- Answers to other programs' questions make no event.
+-- Replies to queries of other programs yield no event.
 use Rattle.std.proofs.Common.{◌≡◌, ◌≢◌, inl, inr, ℕ, ◌≤◌, Bool, true, false, List, [], ◌∷◌, ◌++◌, All, refl, sym, ap, subst, ◌∙◌, ◌==◌, if◌then◌else◌, arith}
 use Rattle.std.proofs.lemmas.Bool.Decides.{nat_tests}
 use Rattle.std.proofs.lemmas.List.Elements.{All-head, All-tail}
@@ -6,14 +6,14 @@ use Rattle.tui_keys.proofs.Alone.{opener_step}
 use Rattle.tui_keys.proofs.Decoding.{joined, no_step}
 use Rattle.tui_keys.proofs.Sending.{escape_read, escaped_step}
 use Rattle.tui_keys.proofs.Texts.{escaped}
-use Rattle.tui_keys.specs.declared.keys.Keys.{Keys}
+use Rattle.tui_keys.specs.declared.keys.KeyDecoder.{KeyDecoder}
 use Rattle.tui_keys.specs.declared.keys.Pending.{Pending}
 use Rattle.tui_keys.specs.declared.keys.Pending.TheVariants.{Nothing, Opened, Answer, AnswerEscape}
 use Rattle.tui_keys.specs.Laws.{AnswersPassOver, AreRead, EndsAnswer, IsAnswerByte}
 use Rattle.tui_keys.specs.Steps.{ends_answer, in_answer, nul, opens_answer, start, stepped, typed, waits}
 
--- outside a paste, in an answer
-abbrev outside : Pending → Keys
+-- outside a paste, in a reply
+abbrev outside : Pending → KeyDecoder
 outside pending = record { pasting = false; pending = pending }
 
 abbrev IsAnswer : Pending → Type 0

@@ -1,4 +1,4 @@
--- What comes within a paste.
+-- What is sent within a paste.
 use Rattle.std.proofs.Common.{◌≡◌, ◌⊎◌, inl, inr, ℕ, Bool, true, false, List, [], ◌∷◌, ◌++◌, All, map, Option, None, Some, refl, sym, subst, ◌==◌, if◌then◌else◌}
 use Rattle.std.specs.Prelude.{encode_utf8_all}
 use Rattle.std.specs.Option.{option_map}
@@ -7,13 +7,13 @@ use Rattle.tui_keys.proofs.Decoding.{joined, nothing_read}
 use Rattle.tui_keys.proofs.Texts.{plain_read}
 use Rattle.tui_keys.specs.declared.event.Event.{Event}
 use Rattle.tui_keys.specs.declared.event.Event.TheVariants as events
-use Rattle.tui_keys.specs.declared.keys.Keys.{Keys}
+use Rattle.tui_keys.specs.declared.keys.KeyDecoder.{KeyDecoder}
 use Rattle.tui_keys.specs.declared.keys.Pending.{Pending}
-use Rattle.tui_keys.specs.declared.keys.Step.{Step}
-use Rattle.tui_keys.specs.Events.{events_of, keys_after, made, some_of}
+use Rattle.tui_keys.specs.declared.keys.Decoded.{Decoded}
+use Rattle.tui_keys.specs.Events.{events_of, keys_after, events_in, some_of}
 use Rattle.tui_keys.specs.Laws.{AreRead, IsPasted, PasteIsItself, PastedIsPasted}
 use Rattle.tui_keys.specs.Sent.{IsPlain, sent_for}
-use Rattle.tui_keys.specs.Steps.{after_bracket, after_escape, at_rest, begin, in_paste, in_sequence, marked, nul, pasted, pasted_event, after_pasted_escape, start, stepped, with_digit}
+use Rattle.tui_keys.specs.Steps.{after_bracket, after_escape, at_rest, ground, in_paste, in_sequence, marked, nul, pasted, pasted_event, after_pasted_escape, start, stepped, with_digit}
 use lib.Utf8.{encode}
 
 event_is_pasted : (e : Event) → IsPasted (pasted_event e)
@@ -48,32 +48,32 @@ option_is_pasted None = All-nil IsPasted
 option_is_pasted (Some e) = All-cons IsPasted (pasted_event e) [] (event_is_pasted e) (All-nil IsPasted)
 
 -- a decoder within a paste
-abbrev pasting : Pending → Keys
+abbrev pasting : Pending → KeyDecoder
 pasting pending = record { pasting = true; pending = pending }
 
-choice_is_pasted : (t : Bool) (p : Pending) (s : Step) → All IsPasted (made (if t then nul (pasting p) else pasted s))
+choice_is_pasted : (t : Bool) (p : Pending) (s : Decoded) → All IsPasted (events_in (if t then nul (pasting p) else pasted s))
 choice_is_pasted true p s = All-cons IsPasted events.Unknown [] tt (All-nil IsPasted)
 choice_is_pasted false p s = All-append IsPasted (some_of (option_map pasted_event s.first)) (some_of (option_map pasted_event s.second))
     (option_is_pasted s.first) (option_is_pasted s.second)
 
-pasting_is_pasted : (p : Pending) (b : ℕ) → All IsPasted (made (stepped (pasting p) b))
+pasting_is_pasted : (p : Pending) (b : ℕ) → All IsPasted (events_in (stepped (pasting p) b))
 unfolding stepped
 pasting_is_pasted p b = choice_is_pasted (b == 0) p (in_paste p b)
 
 pub pasted_is_pasted : PastedIsPasted
 pasted_is_pasted keys b is =
-    subst (λ (q : Bool). All IsPasted (made (stepped (record { pasting = q; pending = keys.pending }) b))) (sym is) (pasting_is_pasted keys.pending b)
+    subst (λ (q : Bool). All IsPasted (events_in (stepped (record { pasting = q; pending = keys.pending }) b))) (sym is) (pasting_is_pasted keys.pending b)
 
 -- a pasted text
 abbrev IsText : ℕ → Type 0
 IsText c = IsPlain c ⊎ ((c ≡ 9) ⊎ (c ≡ 10))
 
 tab_read : AreRead (at_rest true) (9 ∷ []) (events.Char 9 ∷ []) (at_rest true)
-unfolding events_of keys_after stepped begin
+unfolding events_of keys_after stepped ground
 tab_read = record { events = refl; pending = refl }
 
 newline_read : AreRead (at_rest true) (10 ∷ []) (events.Char 10 ∷ []) (at_rest true)
-unfolding events_of keys_after stepped begin
+unfolding events_of keys_after stepped ground
 newline_read = record { events = refl; pending = refl }
 
 read_as : (a b : ℕ) → b ≡ a → AreRead (at_rest true) (encode a) (events.Char a ∷ []) (at_rest true) →
@@ -101,11 +101,11 @@ text_read (c ∷ cs) all =
     (text_character c (All-head IsText c cs all)) (text_read cs (All-tail IsText c cs all))
 
 begin_read : AreRead start (sent_for events.PasteBegin) (events.PasteBegin ∷ []) (at_rest true)
-unfolding events_of keys_after stepped begin after_escape after_bracket in_sequence marked with_digit sent_for
+unfolding events_of keys_after stepped ground after_escape after_bracket in_sequence marked with_digit sent_for
 begin_read = record { events = refl; pending = refl }
 
 end_read : AreRead (at_rest true) (sent_for events.PasteEnd) (events.PasteEnd ∷ []) start
-unfolding events_of keys_after stepped begin after_pasted_escape after_bracket in_sequence marked with_digit sent_for
+unfolding events_of keys_after stepped ground after_pasted_escape after_bracket in_sequence marked with_digit sent_for
 end_read = record { events = refl; pending = refl }
 
 pub paste_is_itself : PasteIsItself

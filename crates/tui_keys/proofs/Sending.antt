@@ -1,4 +1,4 @@
--- What is sent for events is read as these events.
+-- The bytes sent for events decode to these events.
 use Rattle.std.proofs.Common.{◌≡◌, ◌≢◌, inl, inr, ℕ, ◌+◌, ◌-◌, ◌*◌, min, ◌≤◌, ◌<◌, Bool, true, false, ◌||◌, List, [], ◌∷◌, ◌++◌, get_or, None, Some, refl, sym, ap, subst, ◌∙◌, ◌==◌, if◌then◌else◌, arith}
 use Rattle.std.specs.Prelude.{decimal, codes, flat_map, zero, suc}
 use Rattle.std.proofs.lemmas.Bool.{cases_lt}
@@ -15,19 +15,19 @@ use Rattle.tui_keys.specs.declared.event.Motion.TheVariants as motions
 use Rattle.tui_keys.specs.declared.keys.Numbers.{Numbers}
 use Rattle.tui_keys.specs.Events.{events_of, keys_after}
 use Rattle.tui_keys.specs.Laws.{AreRead, SentIsRead}
-use Rattle.tui_keys.specs.Sent.{IsNoneOf, IsPlain, IsSize, IsTold, csi, escape, function_texts, held_number, motion_text, sent_for}
-use Rattle.tui_keys.specs.Steps.{after_bracket, after_escape, after_ss3, at_rest, begin, begins_paste, in_sequence, is_size, letter, marked, modifiers_of, moved, one, opens_answer, sequence_of, size_of, start, stepped, tilde, with_digit, with_next}
+use Rattle.tui_keys.specs.Sent.{IsNoneOf, IsPlain, IsSize, IsUnambiguous, csi, escape, function_texts, modifier_number, motion_text, sent_for}
+use Rattle.tui_keys.specs.Steps.{after_bracket, after_escape, after_ss3, at_rest, ground, begins_paste, in_sequence, is_size, letter, marked, modifiers_of, moved, one, opens_answer, sequence_of, size_of, start, stepped, tilde, with_digit, with_next}
 use lib.Utf8.{encode}
 
 -- ---- keys by themselves
 
 pub escape_read : AreRead start (27 ∷ []) [] escaped
-unfolding events_of keys_after stepped begin
+unfolding events_of keys_after stepped ground
 escape_read = record { events = refl; pending = refl }
 
 -- F1 to F12
 function_read : (k : ℕ) → k < 12 → AreRead start (escape (get_or function_texts k [])) (events.F (k + 1) ∷ []) start
-unfolding events_of keys_after stepped begin after_escape after_bracket after_ss3 in_sequence marked with_digit sequence_of letter tilde
+unfolding events_of keys_after stepped ground after_escape after_bracket after_ss3 in_sequence marked with_digit sequence_of letter tilde
 function_read zero h = record { events = refl; pending = refl }
 function_read (suc zero) h = record { events = refl; pending = refl }
 function_read (suc (suc zero)) h = record { events = refl; pending = refl }
@@ -49,12 +49,12 @@ any_function_read n low high =
 
 -- a letter with Ctrl
 control_step : (c : ℕ) → 97 ≤ c → c ≤ 122 → c ≢ 104 → c ≢ 105 → c ≢ 106 → c ≢ 109 → stepped start (c - 96) ≡ one (events.Ctrl c)
-unfolding stepped begin
+unfolding stepped ground
 control_step c low high h i j m =
     let back : c - 96 + 96 ≡ c = omega arith in
     let some : ((c - 96) == 0) ≡ false = grind (arith, nat_tests) in
-    let e : begin (c - 96) ≡ one (events.Ctrl (c - 96 + 96)) = grind (arith, nat_tests) in
-    ap (λ (b : Bool). if b then record { keys = start; first = None; second = Some events.Tick } else begin (c - 96)) some
+    let e : ground (c - 96) ≡ one (events.Ctrl (c - 96 + 96)) = grind (arith, nat_tests) in
+    ap (λ (b : Bool). if b then record { keys = start; first = None; second = Some events.Tick } else ground (c - 96)) some
     ∙ e ∙ ap (λ (k : ℕ). one (events.Ctrl k)) back
 
 control_read : (c : ℕ) → 97 ≤ c → c ≤ 122 → IsNoneOf (codes "hijm") c → AreRead start ((c - 96) ∷ []) (events.Ctrl c ∷ []) start
@@ -92,8 +92,8 @@ alt_read c is bracket ss3 none =
 no_opener : (c : ℕ) → c ≢ 93 → c ≢ 80 → c ≢ 88 → c ≢ 94 → c ≢ 95 → opens_answer c ≡ false
 no_opener c osc dcs sos pm apc = grind (arith, nat_tests)
 
-told_alt_read : (c : ℕ) → IsPlain c → IsNoneOf (codes "[O]PX^_") c → AreRead start (27 ∷ encode c) (events.Alt c ∷ []) start
-told_alt_read c is none =
+unambiguous_alt_read : (c : ℕ) → IsPlain c → IsNoneOf (codes "[O]PX^_") c → AreRead start (27 ∷ encode c) (events.Alt c ∷ []) start
+unambiguous_alt_read c is none =
     let bracket : c ≢ 91 = none 0 0 (omega arith) in
     let ss3 : c ≢ 79 = none 1 0 (omega arith) in
     let osc : c ≢ 93 = none 2 0 (omega arith) in
@@ -103,14 +103,14 @@ told_alt_read c is none =
     let apc : c ≢ 95 = none 6 0 (omega arith) in
     alt_read c is bracket ss3 (no_opener c osc dcs sos pm apc)
 
--- ---- a motion with what is held down
+-- ---- a motion with modifiers
 
--- behind CSI 1 ;
+-- after CSI 1 ;
 abbrev second_number : ℕ → Numbers
 second_number n = record { first = 1; second = n; third = 0; place = 1; is_plain = true }
 
 one_and_read : AreRead start (27 ∷ 91 ∷ codes "1;") [] (in_numbers (second_number 0))
-unfolding events_of keys_after stepped begin after_escape after_bracket in_sequence marked with_digit with_next
+unfolding events_of keys_after stepped ground after_escape after_bracket in_sequence marked with_digit with_next
 one_and_read = record { events = refl; pending = refl }
 
 second_takes : (m d : ℕ) → with_digit (second_number m) d ≡ second_number (min (m * 10 + d) 65535)
@@ -118,7 +118,7 @@ unfolding with_digit
 second_takes m d = refl
 
 held_is : (shift alt ctrl : Bool) (motion : Motion) → (shift || alt || ctrl) ≡ true →
-    moved (held_number (record { shift = shift; alt = alt; ctrl = ctrl })) motion ≡ events.With (record { shift = shift; alt = alt; ctrl = ctrl }) motion
+    moved (modifier_number (record { shift = shift; alt = alt; ctrl = ctrl })) motion ≡ events.With (record { shift = shift; alt = alt; ctrl = ctrl }) motion
 unfolding moved modifiers_of
 held_is true true true motion e = refl
 held_is true true false motion e = refl
@@ -145,7 +145,7 @@ motion_read n motions.Home e is typed =
 motion_read n motions.End e is typed =
     one_step _ start 70 e (ap one is ∙ ap (λ (b : Bool). record { keys = at_rest b; first = None; second = Some e }) typed)
 
-held_small : (shift alt ctrl : Bool) → held_number (record { shift = shift; alt = alt; ctrl = ctrl }) ≤ 1000
+held_small : (shift alt ctrl : Bool) → modifier_number (record { shift = shift; alt = alt; ctrl = ctrl }) ≤ 1000
 held_small true true true = omega arith
 held_small true true false = omega arith
 held_small true false true = omega arith
@@ -156,12 +156,12 @@ held_small false false true = omega arith
 held_small false false false = omega arith
 
 with_read : (m : Modifiers) (motion : Motion) → (m.shift || m.alt || m.ctrl) ≡ true →
-    AreRead start (csi (codes "1;" ++ (decimal (held_number m) ++ motion_text motion))) (events.With m motion ∷ []) start
+    AreRead start (csi (codes "1;" ++ (decimal (modifier_number m) ++ motion_text motion))) (events.With m motion ∷ []) start
 with_read m motion some =
-    joined start (in_numbers (second_number 0)) start (27 ∷ 91 ∷ codes "1;") (decimal (held_number m) ++ motion_text motion) [] _ one_and_read
-    (joined _ (in_numbers (second_number (held_number m))) start (decimal (held_number m)) (motion_text motion) [] _
-    (number_read second_number second_takes (held_number m) (held_small m.shift m.alt m.ctrl))
-    (motion_read (held_number m) motion (events.With m motion) (held_is m.shift m.alt m.ctrl motion some) refl))
+    joined start (in_numbers (second_number 0)) start (27 ∷ 91 ∷ codes "1;") (decimal (modifier_number m) ++ motion_text motion) [] _ one_and_read
+    (joined _ (in_numbers (second_number (modifier_number m))) start (decimal (modifier_number m)) (motion_text motion) [] _
+    (number_read second_number second_takes (modifier_number m) (held_small m.shift m.alt m.ctrl))
+    (motion_read (modifier_number m) motion (events.With m motion) (held_is m.shift m.alt m.ctrl motion some) refl))
 
 -- ---- a size
 
@@ -172,7 +172,7 @@ abbrev columns_number : ℕ → ℕ → Numbers
 columns_number rows n = record { first = 8; second = rows; third = n; place = 2; is_plain = true }
 
 eight_read : AreRead start (27 ∷ 91 ∷ codes "8;") [] (in_numbers (rows_number 0))
-unfolding events_of keys_after stepped begin after_escape after_bracket in_sequence marked with_digit with_next
+unfolding events_of keys_after stepped ground after_escape after_bracket in_sequence marked with_digit with_next
 eight_read = record { events = refl; pending = refl }
 
 rows_take : (m d : ℕ) → with_digit (rows_number m) d ≡ rows_number (min (m * 10 + d) 65535)
@@ -216,8 +216,8 @@ size_read columns rows c r =
 
 -- ---- any event
 
-pub event_read : (e : Event) → IsTold e → AreRead start (sent_for e) (e ∷ []) start
-unfolding events_of keys_after stepped begin after_escape after_bracket in_sequence marked with_digit sequence_of letter tilde moved modifiers_of sent_for
+pub event_read : (e : Event) → IsUnambiguous e → AreRead start (sent_for e) (e ∷ []) start
+unfolding events_of keys_after stepped ground after_escape after_bracket in_sequence marked with_digit sequence_of letter tilde moved modifiers_of sent_for
 event_read (events.Char c) is = plain_read false c is
 event_read events.Enter is = record { events = refl; pending = refl }
 event_read events.Tab is = record { events = refl; pending = refl }
@@ -236,7 +236,7 @@ event_read events.Insert is = record { events = refl; pending = refl }
 event_read events.Delete is = record { events = refl; pending = refl }
 event_read (events.F n) is = any_function_read n is.0 is.1
 event_read (events.Ctrl c) is = control_read c is.0 is.1 is.2
-event_read (events.Alt c) is = told_alt_read c is.0 is.1
+event_read (events.Alt c) is = unambiguous_alt_read c is.0 is.1
 event_read (events.With m motion) is = with_read m motion is
 event_read events.PasteBegin is = absurd is
 event_read events.PasteEnd is = absurd is
@@ -247,5 +247,5 @@ event_read events.Unknown is = absurd is
 pub sent_is_read : SentIsRead
 sent_is_read [] all = nothing_read start
 sent_is_read (e ∷ es) all =
-    joined start start start (sent_for e) (flat_map sent_for es) (e ∷ []) es (event_read e (All-head IsTold e es all)) (sent_is_read es
-    (All-tail IsTold e es all))
+    joined start start start (sent_for e) (flat_map sent_for es) (e ∷ []) es (event_read e (All-head IsUnambiguous e es all)) (sent_is_read es
+    (All-tail IsUnambiguous e es all))

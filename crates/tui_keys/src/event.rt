@@ -1,9 +1,9 @@
-//! Events.
+//! The events that a terminal sends.
 
-/// What a terminal, or what stands between it and the program, has sent.
+/// An event from the terminal, or from a program between it and this one, such as `./live`.
 #[derive(Clone, Copy, Debug, PartialEq, Eq)]
 pub enum Event {
-    /// A character that is no control character of ASCII; within a paste also a newline or a tab.
+    /// A character that is not an ASCII control character. Within a paste also a newline or a tab.
     Char(char),
     Enter,
     Tab,
@@ -23,24 +23,25 @@ pub enum Event {
     Delete,
     /// A function key, from 1 to 12.
     F(u8),
-    /// A small letter with Ctrl. Those that terminals send as Backspace, Tab and Enter (h, i, j and m) come as these.
+    /// A lowercase letter with Ctrl. Terminals send Ctrl with h, i, j and m as Backspace, Tab and Enter, so
+    /// these are reported.
     Ctrl(char),
     /// A character with Alt.
     Alt(char),
     /// An arrow, Home or End with Shift, Alt or Ctrl.
     With(Modifiers, Motion),
-    /// What is pasted begins: up to its end each event is a character or unknown.
+    /// The beginning of pasted text. Up to `PasteEnd` each event is a character or unknown.
     PasteBegin,
     PasteEnd,
-    /// Columns and rows, each from 1 to 1000.
+    /// The new size of the terminal: columns and rows, each from 1 to 1000.
     Resize(u16, u16),
-    /// A second has passed: the byte 0, which Ctrl with the space bar sends too.
+    /// A second has passed. This is the byte 0, which Ctrl with the space bar sends too.
     Tick,
-    /// What is none of these.
+    /// Anything else.
     Unknown,
 }
 
-/// What is held down with a key.
+/// The modifier keys that are held down with a key.
 #[derive(Clone, Copy, Debug, PartialEq, Eq)]
 pub struct Modifiers {
     pub shift: bool,

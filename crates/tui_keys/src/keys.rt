@@ -1,28 +1,28 @@
-//! A decoder of what a terminal sends.
+//! An incremental decoder of terminal input.
 
 ghost use Rattle.std.specs.Prelude.{◌≡◌};
-ghost use Rattle.tui_keys.specs.Steps.{nul, paused, start, stays, stepped, typed};
+ghost use Rattle.tui_keys.specs.Steps.{nul, paused, start, unchanged, stepped, typed};
 
-use crate::begin::{begin, one};
 use crate::character::in_character;
 use crate::escape::{after_bracket, after_escape, after_ss3, ends_answer, in_answer, in_console};
 use crate::event::Event;
+use crate::ground::{ground, one};
 use crate::paste::{in_paste, pasted};
 use crate::sequence::marked;
 
-/// ESC [ 200 ~ begins a paste.
+/// The number of ESC [ 200 ~, which begins a paste.
 const PASTE_BEGIN: u16 = 200;
 
-/// What is known behind the bytes so far: a few numbers, so a decoder takes no memory.
+/// The state of a decoder after the bytes so far. It is small and `Copy`, and the decoder never allocates.
 #[derive(Clone, Copy, Debug, PartialEq, Eq)]
-pub struct Keys {
-    /// Whether what comes is pasted.
+pub struct KeyDecoder {
+    /// Whether the input is within a paste.
     pub pasting: bool,
-    /// What has begun and not ended.
+    /// What has begun and is not complete.
     pub pending: Pending,
 }
 
-/// What has begun and not ended.
+/// What has begun and is not complete.
 #[derive(Clone, Copy, Debug, PartialEq, Eq)]
 pub enum Pending {
     Nothing,
@@ -34,19 +34,21 @@ pub enum Pending {
     Ss3,
     /// ESC [ [, with which the Linux console begins F1 to F5.
     Console,
-    /// ESC [ and what follows but for its last byte.
+    /// ESC [ and what follows, without the last byte.
     Sequence(Numbers),
-    /// ESC and one of ] P X ^ _, with which an answer to another program's question begins, unless it is Alt with this character.
+    /// ESC and one of ] P X ^ _. This begins a reply to a query of another program, or is Alt
+    /// with this character.
     Opened(u8),
-    /// Such an answer.
+    /// Within such a reply.
     Answer,
-    /// An ESC in it.
+    /// An ESC within the reply.
     AnswerEscape,
     /// The first bytes of a character.
-    Character(Begun),
+    Character(PartialCharacter),
 }
 
-/// The first three numbers of a sequence, at most 65535 each; how many semicolons came, at most 3; and whether nothing else came.
+/// The first three numbers of a sequence, at most 65535 each; the number of semicolons so far, at most 3; and
+/// whether there was nothing else.
 #[derive(Clone, Copy, Debug, PartialEq, Eq)]
 pub struct Numbers {
     pub first: u16,
@@ -56,29 +58,30 @@ pub struct Numbers {
     pub is_plain: bool,
 }
 
-/// Whether ESC stood before a character, how many of its bytes are left, the least code that needs this many bytes, and the code so far.
+/// A character that is not complete: whether ESC came before it, the number of bytes that are left, the least
+/// code that needs this many bytes, and the code so far.
 #[derive(Clone, Copy, Debug, PartialEq, Eq)]
-pub struct Begun {
+pub struct PartialCharacter {
     pub alt: bool,
     pub left: u8,
     pub least: u32,
     pub code: u32,
 }
 
-/// What a byte makes: what is known then, and up to two events, in their order.
+/// The result of one byte: the next state, and up to two events in order.
 #[derive(Clone, Copy, Debug, PartialEq, Eq)]
-pub struct Step {
-    pub keys: Keys,
+pub struct Decoded {
+    pub keys: KeyDecoder,
     pub first: Option<Event>,
     pub second: Option<Event>,
 }
 
-impl Keys {
-    /// Before the first byte.
-    pub fn new() -> Keys
+impl KeyDecoder {
+    /// Creates a decoder, before the first byte.
+    pub fn new() -> KeyDecoder
         ensures { result ≡ start }
     {
-        Keys {
+        KeyDecoder {
             pasting: false,
             pending: Pending::Nothing,
         }
@@ -86,10 +89,10 @@ impl Keys {
 
     /// Takes one byte.
     #[tactic(auto, unfolding(crate::specs::Steps::stepped))]
-    pub fn step(self, byte: u8) -> Step
+    pub fn step(self, byte: u8) -> Decoded
         ensures { result ≡ stepped self byte }
     {
-        if byte == 0 {
+        if byte == b'\0' {
             nul(self)
         } else if self.pasting {
             pasted(in_paste(self.pending, byte))
@@ -98,38 +101,39 @@ impl Keys {
         }
     }
 
-    /// The end of a read that was not full, so that nothing more has come yet: a lone ESC is the key, and ESC with one of ] P X ^ _ is Alt
-    /// with this character. All else that has begun may still end. Within a paste nothing changes.
-    pub fn pause(self) -> Step
+    /// Handles the end of a short read, after which nothing more has come yet. A lone ESC is the Esc key, and
+    /// ESC with one of ] P X ^ _ is Alt with this character. Anything else that has begun stays pending.
+    /// Within a paste nothing changes.
+    pub fn pause(self) -> Decoded
         ensures { result ≡ paused self }
     {
         if self.pasting {
-            return stays(self);
+            return unchanged(self);
         }
         match self.pending {
             Pending::Escape => one(Event::Esc),
             Pending::Opened(opener) => one(Event::Alt(char::from(opener))),
-            _ => stays(self),
+            _ => unchanged(self),
         }
     }
 }
 
-/// No event, and what is known stays.
-fn stays(keys: Keys) -> Step
-    ensures { result ≡ stays keys }
+/// No event, and no change.
+fn unchanged(keys: KeyDecoder) -> Decoded
+    ensures { result ≡ unchanged keys }
 {
-    Step {
+    Decoded {
         keys,
         first: None,
         second: None,
     }
 }
 
-/// The byte 0 breaks nothing that has begun.
-fn nul(keys: Keys) -> Step
+/// The byte 0 does not interrupt a pending sequence or character.
+fn nul(keys: KeyDecoder) -> Decoded
     ensures { result ≡ nul keys }
 {
-    Step {
+    Decoded {
         keys,
         first: None,
         second: Some(if keys.pasting {
@@ -141,11 +145,11 @@ fn nul(keys: Keys) -> Step
 }
 
 /// A byte outside a paste.
-pub(crate) fn typed(pending: Pending, byte: u8) -> Step
+pub(crate) fn typed(pending: Pending, byte: u8) -> Decoded
     ensures { result ≡ typed pending byte }
 {
     match pending {
-        Pending::Nothing => begin(byte),
+        Pending::Nothing => ground(byte),
         Pending::Escape => after_escape(byte),
         Pending::Bracket => after_bracket(byte),
         Pending::Ss3 => after_ss3(byte),
@@ -154,6 +158,6 @@ pub(crate) fn typed(pending: Pending, byte: u8) -> Step
         Pending::Opened(_) => in_answer(byte),
         Pending::Answer => in_answer(byte),
         Pending::AnswerEscape => ends_answer(byte),
-        Pending::Character(begun) => in_character(begun, byte),
+        Pending::Character(partial) => in_character(partial, byte),
     }
 }

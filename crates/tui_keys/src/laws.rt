@@ -1,4 +1,4 @@
-//! What holds of all bytes, each law a function that does nothing.
+//! What holds for all bytes. Each law is a function with an empty body.
 
 ghost use Rattle.tui_keys.specs.Laws.{
   AloneIsRead,
@@ -19,8 +19,9 @@ ghost use Rattle.tui_keys.specs.Laws.{
   TextIsItself,
 };
 
-/// Bytes in pieces have the events that they have in one, and so have those of two reads, unless the end of the first makes an event; there are
-/// at most two a byte; the byte 0 breaks nothing; numbers and letters are within their bounds.
+/// Bytes in pieces yield the same events as in one piece. So do two reads, unless the end of the first yields
+/// an event. There are at most two events a byte. The byte 0 interrupts nothing. Numbers and letters are
+/// within their bounds.
 pub fn event_laws()
     ensures pieces { PiecesAreOne }
     ensures reads { ReadsAreOne }
@@ -29,8 +30,9 @@ pub fn event_laws()
     ensures bounded { EventsAreBounded }
 {}
 
-/// Within a paste there are characters and what is unknown. It begins at the last byte of ESC [ 200 ~ and ends at that of ESC [ 201 ~, with this one
-/// number, and at no other byte; a text that is pasted is its characters.
+/// Within a paste every event is a character, unknown, or the end. A paste begins at the last byte of ESC [
+/// 200 ~, ends at the last byte of ESC [ 201 ~, and does so at no other byte. Both sequences have only this
+/// number. Pasted text decodes to its characters.
 pub fn paste_laws()
     ensures pasted { PastedIsPasted }
     ensures outside { OutsideIsOutside }
@@ -40,8 +42,8 @@ pub fn paste_laws()
     ensures itself { PasteIsItself }
 {}
 
-/// What a terminal sends for events is read as these events. An answer to another program's question that begins with ESC and one of ] P X ^ _ makes
-/// none.
+/// The bytes that a terminal sends for events decode to these events. A reply to a query of another program,
+/// which begins with ESC and one of ] P X ^ _, yields no event.
 pub fn sending_laws()
     ensures text { TextIsItself }
     ensures sent { SentIsRead }

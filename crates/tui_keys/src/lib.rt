@@ -1,10 +1,12 @@
-//! What a terminal sends, as events: `Keys` takes one byte at a time. `Sent`, in specs/, is the table of what is sent for each event.
+//! Decodes what a terminal sends into events. `KeyDecoder` takes one byte at a time. The table of the bytes sent
+//! for each event is `Sent`, in specs/.
 #![tactic(auto)]
 
-mod begin;
+mod bytes;
 mod character;
 mod escape;
 mod event;
+mod ground;
 mod keys;
 mod laws;
 mod meaning;
@@ -12,5 +14,5 @@ mod paste;
 mod sequence;
 
 pub use event::{Event, Modifiers, Motion};
-pub use keys::{Begun, Keys, Numbers, Pending, Step};
+pub use keys::{Decoded, KeyDecoder, Numbers, PartialCharacter, Pending};
 pub use laws::{event_laws, paste_laws, sending_laws};

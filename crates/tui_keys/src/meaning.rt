@@ -6,7 +6,11 @@ ghost use Rattle.tui_keys.specs.Steps.{is_size, letter, modifiers_of, moved, pla
 use crate::event::{Event, Modifiers, Motion};
 use crate::keys::Numbers;
 
-/// The modifiers of xterm's number: 1 and a sum of 1 for Shift, 2 for Alt, 4 for Ctrl, and more for others, which are passed over.
+/// The first number of ESC [ 8 ; rows ; columns t, which reports a size.
+const SIZE: u16 = 8;
+
+/// The modifiers of xterm's number: subtract 1, then 1 is Shift, 2 is Alt, 4 is Ctrl. The other
+/// bits are ignored.
 #[tactic(auto, unfolding(crate::specs::Steps::modifiers_of))]
 fn modifiers_of(number: u16) -> Modifiers
     ensures { result ≡ modifiers_of number }
@@ -19,7 +23,7 @@ fn modifiers_of(number: u16) -> Modifiers
     }
 }
 
-/// A motion by itself.
+/// A motion without modifiers.
 fn plain(motion: Motion) -> Event
     ensures { result ≡ plain motion }
 {
@@ -33,7 +37,7 @@ fn plain(motion: Motion) -> Event
     }
 }
 
-/// A motion with what is held down, if anything is.
+/// A motion with its modifiers, if there are any.
 #[tactic(auto, unfolding(crate::specs::Steps::moved))]
 fn moved(number: u16, motion: Motion) -> Event
     ensures { result ≡ moved number motion }
@@ -46,23 +50,23 @@ fn moved(number: u16, motion: Motion) -> Event
     }
 }
 
-/// The key of a last byte, with the number of its modifiers.
+/// The key of the last byte of a sequence, with the number of its modifiers.
 #[tactic(auto, unfolding(crate::specs::Steps::letter))]
 pub(crate) fn letter(number: u16, last: u8) -> Event
     ensures { result ≡ letter number last }
 {
     match last {
-        65 => moved(number, Motion::Up),
-        66 => moved(number, Motion::Down),
-        67 => moved(number, Motion::Right),
-        68 => moved(number, Motion::Left),
-        70 => moved(number, Motion::End),
-        72 => moved(number, Motion::Home),
-        80 => Event::F(1),
-        81 => Event::F(2),
-        82 => Event::F(3),
-        83 => Event::F(4),
-        90 => Event::BackTab,
+        b'A' => moved(number, Motion::Up),
+        b'B' => moved(number, Motion::Down),
+        b'C' => moved(number, Motion::Right),
+        b'D' => moved(number, Motion::Left),
+        b'F' => moved(number, Motion::End),
+        b'H' => moved(number, Motion::Home),
+        b'P' => Event::F(1),
+        b'Q' => Event::F(2),
+        b'R' => Event::F(3),
+        b'S' => Event::F(4),
+        b'Z' => Event::BackTab,
         _ => Event::Unknown,
     }
 }
@@ -73,14 +77,12 @@ pub(crate) fn tilde(number: u16, key: u16) -> Event
     ensures { result ≡ tilde number key }
 {
     match key {
-        1 => moved(number, Motion::Home),
+        1 | 7 => moved(number, Motion::Home),
         2 => Event::Insert,
         3 => Event::Delete,
-        4 => moved(number, Motion::End),
+        4 | 8 => moved(number, Motion::End),
         5 => Event::PageUp,
         6 => Event::PageDown,
-        7 => moved(number, Motion::Home),
-        8 => moved(number, Motion::End),
         11 => Event::F(1),
         12 => Event::F(2),
         13 => Event::F(3),
@@ -102,7 +104,7 @@ pub(crate) fn tilde(number: u16, key: u16) -> Event
 pub(crate) fn size_of(numbers: Numbers) -> Event
     ensures { result ≡ size_of numbers }
 {
-    if numbers.first == 8
+    if numbers.first == SIZE
         && numbers.place == 2
         && is_size(numbers.second)
         && is_size(numbers.third)
@@ -116,5 +118,5 @@ pub(crate) fn size_of(numbers: Numbers) -> Event
 fn is_size(number: u16) -> bool
     ensures { result ≡ is_size number }
 {
-    number > 0 && number <= 1000
+    matches!(number, 1..=1000)
 }

@@ -1,20 +1,20 @@
-//! A byte within a paste.
+//! Bytes within a paste.
 
 ghost use Rattle.std.specs.Prelude.{◌≡◌, None, Some};
 ghost use Rattle.std.specs.Option.{option_map};
 ghost use Rattle.tui_keys.specs.Steps.{after_pasted_escape, in_paste, is_end, pasted, pasted_event};
 
-use crate::begin::{broken_by, one, waits};
 use crate::event::Event;
-use crate::keys::{Keys, Pending, Step, typed};
+use crate::ground::{broken_by, one, waits};
+use crate::keys::{Decoded, KeyDecoder, Pending, typed};
 use crate::sequence::marked;
 
-/// ESC [ 201 ~ ends it.
+/// The number of ESC [ 201 ~, which ends a paste.
 const PASTE_END: u16 = 201;
 
-/// What a byte makes before its events are those of a paste: as outside, but that ESC begins a sequence or is with one more byte unknown, and
-/// that a sequence may be the end.
-pub(crate) fn in_paste(pending: Pending, byte: u8) -> Step
+/// The step at a byte within a paste, before its events are converted. It is as outside a paste, with two
+/// exceptions: only ESC [ begins a sequence, and a sequence may end the paste.
+pub(crate) fn in_paste(pending: Pending, byte: u8) -> Decoded
     ensures { result ≡ in_paste pending byte }
 {
     match pending {
@@ -25,26 +25,22 @@ pub(crate) fn in_paste(pending: Pending, byte: u8) -> Step
 }
 
 #[tactic(auto, unfolding(crate::specs::Steps::after_pasted_escape))]
-fn after_pasted_escape(byte: u8) -> Step
+fn after_pasted_escape(byte: u8) -> Decoded
     ensures { result ≡ after_pasted_escape byte }
 {
-    if byte == 91 {
-        waits(Pending::Bracket)
-    } else if byte < 32 {
-        broken_by(Event::Unknown, byte)
-    } else if byte < 127 {
-        one(Event::Unknown)
-    } else {
-        broken_by(Event::Unknown, byte)
+    match byte {
+        b'[' => waits(Pending::Bracket),
+        b' '..=b'~' => one(Event::Unknown),
+        _ => broken_by(Event::Unknown, byte),
     }
 }
 
-/// The step within a paste.
-pub(crate) fn pasted(step: Step) -> Step
+/// Converts a step to one within a paste.
+pub(crate) fn pasted(step: Decoded) -> Decoded
     ensures { result ≡ pasted step }
 {
-    Step {
-        keys: Keys {
+    Decoded {
+        keys: KeyDecoder {
             pasting: !is_end(step.second),
             pending: step.keys.pending,
         },
@@ -59,7 +55,7 @@ fn is_end(event: Option<Event>) -> bool
     matches!(event, Some(Event::PasteEnd))
 }
 
-/// What an event is within a paste: a character, the end, or unknown.
+/// An event as it is within a paste: a character, the end of the paste, or unknown.
 fn pasted_event(event: Event) -> Event
     ensures { result ≡ pasted_event event }
 {

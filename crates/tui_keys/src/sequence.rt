@@ -3,9 +3,9 @@
 ghost use Rattle.std.specs.Prelude.{◌≡◌};
 ghost use Rattle.tui_keys.specs.Steps.{in_sequence, is_mark, marked, more, no_numbers, sequence_of, with_digit, with_next};
 
-use crate::begin::{broken_by, one, waits};
 use crate::event::Event;
-use crate::keys::{Numbers, Pending, Step};
+use crate::ground::{broken_by, one, waits};
+use crate::keys::{Decoded, Numbers, Pending};
 use crate::meaning::{letter, size_of, tilde};
 
 /// Before the first number.
@@ -22,9 +22,9 @@ pub(crate) fn no_numbers() -> Numbers
     }
 }
 
-/// A sequence which with this number alone, before a tilde, is an event.
+/// A byte of a sequence that is this event if it has only this number, before a tilde.
 #[tactic(auto, unfolding(crate::specs::Steps::marked))]
-pub(crate) fn marked(number: u16, event: Event, numbers: Numbers, byte: u8) -> Step
+pub(crate) fn marked(number: u16, event: Event, numbers: Numbers, byte: u8) -> Decoded
     ensures { result ≡ marked number event numbers byte }
 {
     if is_mark(number, numbers, byte) {
@@ -38,38 +38,27 @@ pub(crate) fn marked(number: u16, event: Event, numbers: Numbers, byte: u8) -> S
 fn is_mark(number: u16, numbers: Numbers, byte: u8) -> bool
     ensures { result ≡ is_mark number numbers byte }
 {
-    byte == 126 && numbers.is_plain && numbers.place == 0 && numbers.first == number
+    byte == b'~' && numbers.is_plain && numbers.place == 0 && numbers.first == number
 }
 
-/// Digits and semicolons make numbers, a byte from 64 to 126 is the last one.
+/// Digits and semicolons form numbers, and a byte from `@` to `~` ends the sequence.
 #[tactic(auto, unfolding(crate::specs::Steps::in_sequence))]
-pub(crate) fn in_sequence(numbers: Numbers, byte: u8) -> Step
+pub(crate) fn in_sequence(numbers: Numbers, byte: u8) -> Decoded
     ensures { result ≡ in_sequence numbers byte }
 {
-    if byte < 32 {
-        broken_by(Event::Unknown, byte)
-    } else if byte < 48 {
-        waits(Pending::Sequence(Numbers {
+    match byte {
+        b'0'..=b'9' => waits(Pending::Sequence(with_digit(numbers, byte - b'0'))),
+        b';' => waits(Pending::Sequence(with_next(numbers))),
+        b' '..=b'?' => waits(Pending::Sequence(Numbers {
             is_plain: false,
             ..numbers
-        }))
-    } else if byte < 58 {
-        waits(Pending::Sequence(with_digit(numbers, byte - 48)))
-    } else if byte == 59 {
-        waits(Pending::Sequence(with_next(numbers)))
-    } else if byte < 64 {
-        waits(Pending::Sequence(Numbers {
-            is_plain: false,
-            ..numbers
-        }))
-    } else if byte < 127 {
-        one(sequence_of(numbers, byte))
-    } else {
-        broken_by(Event::Unknown, byte)
+        })),
+        b'@'..=b'~' => one(sequence_of(numbers, byte)),
+        _ => broken_by(Event::Unknown, byte),
     }
 }
 
-/// A number with one more digit.
+/// A number with one more digit, saturating at 65535.
 #[inline]
 fn more(number: u16, digit: u8) -> u16
     ensures { result ≡ more number digit }
@@ -81,23 +70,20 @@ fn more(number: u16, digit: u8) -> u16
 fn with_digit(numbers: Numbers, digit: u8) -> Numbers
     ensures { result ≡ with_digit numbers digit }
 {
-    if numbers.place == 0 {
-        Numbers {
+    match numbers.place {
+        0 => Numbers {
             first: more(numbers.first, digit),
             ..numbers
-        }
-    } else if numbers.place == 1 {
-        Numbers {
+        },
+        1 => Numbers {
             second: more(numbers.second, digit),
             ..numbers
-        }
-    } else if numbers.place == 2 {
-        Numbers {
+        },
+        2 => Numbers {
             third: more(numbers.third, digit),
             ..numbers
-        }
-    } else {
-        numbers
+        },
+        _ => numbers,
     }
 }
 
@@ -115,23 +101,19 @@ fn with_next(numbers: Numbers) -> Numbers
     }
 }
 
-/// What a whole sequence says: a key has at most two numbers, of which the second one is its modifiers, and before a letter the first
-/// one is 1 or left out.
+/// The event of a whole sequence. A key has at most two numbers, of which the second encodes its modifiers.
+/// Before a letter the first number is 1 or left out.
 #[tactic(auto, unfolding(crate::specs::Steps::sequence_of))]
 fn sequence_of(numbers: Numbers, last: u8) -> Event
     ensures { result ≡ sequence_of numbers last }
 {
     if !numbers.is_plain {
-        Event::Unknown
-    } else if last == 116 {
-        size_of(numbers)
-    } else if numbers.place > 1 {
-        Event::Unknown
-    } else if last == 126 {
-        tilde(numbers.second, numbers.first)
-    } else if numbers.first > 1 {
-        Event::Unknown
-    } else {
-        letter(numbers.second, last)
+        return Event::Unknown;
+    }
+    match last {
+        b't' => size_of(numbers),
+        b'~' if numbers.place <= 1 => tilde(numbers.second, numbers.first),
+        _ if numbers.place <= 1 && numbers.first <= 1 => letter(numbers.second, last),
+        _ => Event::Unknown,
     }
 }

@@ -1,10 +1,10 @@
 pub mod Found
-pub mod Halving
+pub mod BinarySearchLaws
 pub mod Heights
-pub mod OneWindow
+pub mod UniqueWindow
 pub mod Order
 pub mod Placing
-pub mod Settling
+pub mod StableWindow
 pub mod Shares
 pub mod Splitting
 pub mod Totals

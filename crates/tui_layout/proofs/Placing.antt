@@ -1,21 +1,21 @@
--- Columns by their places.
+-- Columns by their indices.
 use Rattle.std.proofs.Common.{◌≡◌, ℕ, ◌+◌, ◌-◌, ◌*◌, ◌^◌, ◌<◌, ◌≤◌, min, List, [], ◌∷◌, ◌++◌, length, get_or, take, map, refl, sym, ap, ◌∙◌, arith, sum}
 use Rattle.std.proofs.Math.Nat.{suc-mul}
 use Rattle.std.proofs.lemmas.List.{get_or-map, length-map, take_all, take_more}
 use Rattle.std.proofs.lemmas.List.FromFn.{get_or-enumerate_from, length-enumerate_from}
 use Rattle.std.proofs.lemmas.List.Sums.{sum_by_more}
 use Rattle.std.specs.List.{enumerate_from, sum_by}
-use Rattle.tui_layout.specs.Constraint.{wanted}
+use Rattle.tui_layout.specs.Constraint.{requested_width}
 use Rattle.tui_layout.specs.Sharing.{weight}
 use Rattle.tui_layout.specs.Columns.{column_at, columns_in, share, shift, width_at, widths_of}
 use Rattle.tui_layout.specs.declared.constraint.Constraint.{Constraint}
-use Rattle.tui_layout.specs.declared.plan.Plan.{Plan}
+use Rattle.tui_layout.specs.declared.plan.ColumnPlan.{ColumnPlan}
 use Rattle.tui_layout.specs.declared.segment.Segment.{Segment}
 
 pub length-made : {X : Type 0} (f : ℕ → Constraint → X) (cs : List Constraint) → length (map (λ (i, c). f i c) (enumerate_from 0 cs)) ≡ length cs
 length-made f cs = length-map (enumerate_from 0 cs) (λ (i, c). f i c) ∙ length-enumerate_from 0 cs
 
--- what is made at a place from the constraint there
+-- the element at an index is made from the constraint there
 pub made_at : {X : Type 0} (f : ℕ → Constraint → X) (cs : List Constraint) (i : ℕ) (c d : Constraint) (e : X) → i < length cs → c ≡ get_or cs i d
     → get_or (map (λ (i, c). f i c) (enumerate_from 0 cs)) i e ≡ f i c
 made_at f cs i c d e h read =
@@ -34,23 +34,23 @@ pub same_segment : (start width : ℕ) (s : Segment) → start ≡ s.start → w
 unfolding segment
 same_segment start width s e f = segment_along start width s.start s.width e f
 
--- the first columns are placed, and the code's numbers are those of the next place
-pub record IsPlacing (plan : Plan) (cs : List Constraint) (i left before at : ℕ) (columns : List Segment) : Type 0 where
+-- the first columns are placed, and the code's variables describe the next one
+pub record IsPlacing (plan : ColumnPlan) (cs : List Constraint) (i left before at : ℕ) (columns : List Segment) : Type 0 where
   pub placed : columns ≡ take i (columns_in plan cs)
-  pub room : left ≡ plan.space - sum_by (wanted plan.length) (take i cs)
+  pub room : left ≡ plan.space - sum_by (requested_width plan.length) (take i cs)
   pub weighs : before ≡ sum_by (weight plan.sharing) (take i cs)
   pub place : at ≡ sum (take i (widths_of plan cs)) + i * plan.spacing
   pub near : at ≤ i * 2 ^ 18
 
-pub width_is : (plan : Plan) (cs : List Constraint) (i left before : ℕ) (c : Constraint) (took w width : ℕ)
-    → left ≡ plan.space - sum_by (wanted plan.length) (take i cs) → before ≡ sum_by (weight plan.sharing) (take i cs)
-    → took ≡ min (wanted plan.length c) left → w ≡ weight plan.sharing c → width ≡ took + share plan i before w → width ≡ width_at plan cs i c
+pub width_is : (plan : ColumnPlan) (cs : List Constraint) (i left before : ℕ) (c : Constraint) (took w width : ℕ)
+    → left ≡ plan.space - sum_by (requested_width plan.length) (take i cs) → before ≡ sum_by (weight plan.sharing) (take i cs)
+    → took ≡ min (requested_width plan.length c) left → w ≡ weight plan.sharing c → width ≡ took + share plan i before w → width ≡ width_at plan cs i c
 width_is plan cs i left before c took w width l b t e f = rw (f, t, l, b, e) refl
 
--- one column more
-pub placing_more : (plan : Plan) (cs : List Constraint) (i left before at : ℕ) (columns : List Segment) (c d : Constraint) (took w width begin wide : ℕ)
+-- one more column
+pub placing_more : (plan : ColumnPlan) (cs : List Constraint) (i left before at : ℕ) (columns : List Segment) (c d : Constraint) (took w width begin wide : ℕ)
     (less more later : ℕ) (next : List Segment) → IsPlacing plan cs i left before at columns → i < length cs → c ≡ get_or cs i d
-    → took ≡ min (wanted plan.length c) left → w ≡ weight plan.sharing c → width ≡ took + share plan i before w
+    → took ≡ min (requested_width plan.length c) left → w ≡ weight plan.sharing c → width ≡ took + share plan i before w
     → begin ≡ min (at + shift plan i) plan.length → wide ≡ min width plan.length
     → less ≡ left - took → more ≡ before + w → later ≡ at + width + plan.spacing → later ≤ at + 2 ^ 18
     → next ≡ columns ++ record { start = begin; width = wide } ∷ []
@@ -68,12 +68,12 @@ placing_more plan cs i left before at columns c d took w width begin wide less m
     ap (λ y. sum (take i (widths_of plan cs)) + y) (made_at (width_at plan cs) cs i c d 0 h read) in
     record {
       placed = s ∙ ap (λ ys. columns ++ ys ∷ []) here ∙ ap (λ ys. ys ++ column_at plan cs i c ∷ []) x.placed ∙ sym longer;
-      room = omega (arith, l, x.room, t, sum_by_more (wanted plan.length) cs i d h, ap (wanted plan.length) read);
+      room = omega (arith, l, x.room, t, sum_by_more (requested_width plan.length) cs i d h, ap (requested_width plan.length) read);
       weighs = omega (arith, m, x.weighs, e, sum_by_more (weight plan.sharing) cs i d h, ap (weight plan.sharing) read);
       place = omega (arith, n, x.place, sums, own, suc-mul i plan.spacing);
       near = omega (arith, near, x.near);
     }
 
-pub placing_end : (plan : Plan) (cs : List Constraint) (i left before at : ℕ) (columns : List Segment) → length cs ≤ i
+pub placing_end : (plan : ColumnPlan) (cs : List Constraint) (i left before at : ℕ) (columns : List Segment) → length cs ≤ i
     → IsPlacing plan cs i left before at columns → columns ≡ columns_in plan cs
 placing_end plan cs i left before at columns h x = x.placed ∙ take_all i (columns_in plan cs) (omega (arith, length-made (column_at plan cs) cs))

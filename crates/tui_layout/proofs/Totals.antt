@@ -4,17 +4,17 @@ use Rattle.std.proofs.lemmas.List.Sums.{sum_by-cons, sum_by-take-drop, sum_by_mo
 use Rattle.std.proofs.lemmas.List.{take-take, drop-take}
 use Rattle.tui_layout.specs.Sums.{total}
 
--- the sum of the first heights grows with their number
-pub upto_grows : (xs : List ℕ) (a b : ℕ) → a ≤ b → sum (take a xs) ≤ sum (take b xs)
-upto_grows [] zero b h = omega arith
-upto_grows [] (suc a) zero h = omega arith
-upto_grows [] (suc a) (suc b) h = omega arith
-upto_grows (x ∷ xs) zero b h = omega arith
-upto_grows (x ∷ xs) (suc a) zero h = omega arith
-upto_grows (x ∷ xs) (suc a) (suc b) h =
-    omega (arith, sum_by-cons (λ (y : ℕ). y) x (take a xs), sum_by-cons (λ (y : ℕ). y) x (take b xs), upto_grows xs a b (omega arith))
+-- the sum of the first heights grows with their count
+pub prefix_sum_grows : (xs : List ℕ) (a b : ℕ) → a ≤ b → sum (take a xs) ≤ sum (take b xs)
+prefix_sum_grows [] zero b h = omega arith
+prefix_sum_grows [] (suc a) zero h = omega arith
+prefix_sum_grows [] (suc a) (suc b) h = omega arith
+prefix_sum_grows (x ∷ xs) zero b h = omega arith
+prefix_sum_grows (x ∷ xs) (suc a) zero h = omega arith
+prefix_sum_grows (x ∷ xs) (suc a) (suc b) h =
+    omega (arith, sum_by-cons (λ (y : ℕ). y) x (take a xs), sum_by-cons (λ (y : ℕ). y) x (take b xs), prefix_sum_grows xs a b (omega arith))
 
--- a sum is the difference of two sums from the first height on
+-- a sum is the difference of two prefix sums
 pub total_of : (xs : List ℕ) (a m : ℕ) → sum (take a xs) + sum (take m (drop a xs)) ≡ sum (take (a + m) xs)
 total_of xs a m =
     let whole = sum_by-take-drop (λ (y : ℕ). y) (take (a + m) xs) a in
@@ -22,9 +22,9 @@ total_of xs a m =
     let back : sum (drop a (take (a + m) xs)) ≡ sum (take m (drop a xs)) = ap sum (drop-take a m xs) in
     omega (arith, whole, front, back)
 
-pub total-upto : (xs : List ℕ) (a b : ℕ) → a ≤ b → sum (take a xs) + total xs a b ≡ sum (take b xs)
+pub total-prefix_sum : (xs : List ℕ) (a b : ℕ) → a ≤ b → sum (take a xs) + total xs a b ≡ sum (take b xs)
 unfolding total
-total-upto xs a b h =
+total-prefix_sum xs a b h =
     let e : a + (b - a) ≡ b = omega arith in
     let P : ℕ → Type 0 = λ n. sum (take a xs) + sum (take (b - a) (drop a xs)) ≡ sum (take n xs) in
     subst P e (total_of xs a (b - a))
@@ -38,7 +38,7 @@ total-turned xs a b h =
 
 pub total_wider : (xs : List ℕ) (a b c d : ℕ) → c ≤ a → b ≤ d → a ≤ b → total xs a b ≤ total xs c d
 total_wider xs a b c d h k le =
-    omega (arith, total-upto xs a b le, total-upto xs c d (omega arith), upto_grows xs c a h, upto_grows xs b d k)
+    omega (arith, total-prefix_sum xs a b le, total-prefix_sum xs c d (omega arith), prefix_sum_grows xs c a h, prefix_sum_grows xs b d k)
 
 pub total-one : (xs : List ℕ) (s : ℕ) → s < length xs → total xs s (s + 1) ≡ get_or xs s 0
-total-one xs s h = omega (arith, total-upto xs s (s + 1) (omega arith), sum_by_more (λ (y : ℕ). y) xs s 0 h)
+total-one xs s h = omega (arith, total-prefix_sum xs s (s + 1) (omega arith), sum_by_more (λ (y : ℕ). y) xs s 0 h)

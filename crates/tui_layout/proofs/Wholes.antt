@@ -1,25 +1,25 @@
--- Where the rest is shared the columns take the whole space.
+-- If the rest is shared, the columns take the whole space.
 use Rattle.std.proofs.Common.{◌≡◌, ℕ, ◌+◌, ◌-◌, ◌<◌, ◌≤◌, ◌⊎◌, min, Any, List, length, get_or, take, map, refl, sym, ap, subst, inl, inr, ◌∙◌, arith, sum}
 use Rattle.std.proofs.Math.Nat.{mul-div_cancel}
 use Rattle.std.proofs.lemmas.Grind.{common_steps, same_number_lists}
 use Rattle.std.proofs.lemmas.List.{get_or-map, length-map, take_all}
 use Rattle.std.proofs.lemmas.List.Sums.{sum-map, sum_by_more_le}
 use Rattle.std.specs.List.{sum_by}
-use Rattle.tui_layout.specs.Constraint.{wanted}
+use Rattle.tui_layout.specs.Constraint.{requested_width}
 use Rattle.tui_layout.specs.Sharing.{sharing_of, weight}
 use Rattle.tui_layout.specs.Columns.{RestIsShared, Shares, column_at, columns_in, last_share, part, plan_of, share, space_of, width_at, widths_of}
 use Rattle.tui_layout.specs.declared.constraint.Constraint.{Constraint}
 use Rattle.tui_layout.specs.declared.constraint.Constraint.TheVariants.{Fill, Length, Max, Min, Percentage, Ratio}
 use Rattle.tui_layout.specs.declared.flex.Flex.{Flex}
 use Rattle.tui_layout.specs.declared.flex.Flex.TheVariants.{Legacy}
-use Rattle.tui_layout.specs.declared.plan.Plan.{Plan}
+use Rattle.tui_layout.specs.declared.plan.ColumnPlan.{ColumnPlan}
 use Rattle.tui_layout.specs.declared.segment.Segment.{Segment}
 use Rattle.tui_layout.specs.declared.sharing.Sharing.TheVariants.{Fills, Mins, Weights}
 use Rattle.tui_layout.proofs.Shares.{share_grows}
 use Rattle.tui_layout.proofs.Placing.{length-made, made_at}
 use Rattle.tui_layout.proofs.Order.{IsPlanned, edge, given, inside, next_at, planned, weight_before, zero_test}
 
--- in each column that shares the rest some way counts
+-- each constraint that shares the rest has a weight in one of the ways to share it
 counts : (c : Constraint) → Shares c → 1 ≤ weight Fills c + weight Mins c
 counts (Fill w) s = omega arith
 counts (Min w) s = omega arith
@@ -43,7 +43,7 @@ sharing_weighs cs some =
     ]
 
 -- the last column gets what the others were not given
-last_weighs : (plan : Plan) (i before w : ℕ) → 0 < plan.weights → before + w ≡ plan.weights → given plan before + share plan i before w ≡ plan.rest
+last_weighs : (plan : ColumnPlan) (i before w : ℕ) → 0 < plan.weights → before + w ≡ plan.weights → given plan before + share plan i before w ≡ plan.rest
 unfolding given share
 last_weighs plan i before w some all = elim (zero_test plan.weights) [
   | inl z ↦ absurd (omega (arith, z.1))
@@ -57,7 +57,7 @@ last_weighs plan i before w some all = elim (zero_test plan.weights) [
       ))
 ]
 
-last_legacy : (plan : Plan) (i before w : ℕ) → plan.weights ≡ 0 → plan.flex ≡ Legacy → i + 1 ≡ plan.count
+last_legacy : (plan : ColumnPlan) (i before w : ℕ) → plan.weights ≡ 0 → plan.flex ≡ Legacy → i + 1 ≡ plan.count
     → given plan before + share plan i before w ≡ plan.rest
 unfolding given share
 last_legacy plan i before w none legacy last = elim (zero_test plan.weights) [
@@ -68,7 +68,7 @@ last_legacy plan i before w none legacy last = elim (zero_test plan.weights) [
   | inr p ↦ absurd (omega (arith, p.1))
 ]
 
-last_given : (plan : Plan) (cs : List Constraint) (i before w : ℕ) → IsPlanned plan cs → (0 < plan.weights) ⊎ (plan.flex ≡ Legacy) → i + 1 ≡ length cs
+last_given : (plan : ColumnPlan) (cs : List Constraint) (i before w : ℕ) → IsPlanned plan cs → (0 < plan.weights) ⊎ (plan.flex ≡ Legacy) → i + 1 ≡ length cs
     → before + w ≡ plan.weights → given plan before + share plan i before w ≡ plan.rest
 last_given plan cs i before w p shared last all = elim (zero_test plan.weights) [
   | inl z ↦ elim shared [
@@ -78,7 +78,7 @@ last_given plan cs i before w p shared last all = elim (zero_test plan.weights) 
   | inr some ↦ last_weighs plan i before w some.1 all
 ]
 
-widths_whole : (plan : Plan) (cs : List Constraint) → IsPlanned plan cs → (0 < plan.weights) ⊎ (plan.flex ≡ Legacy) → 0 < length cs
+widths_whole : (plan : ColumnPlan) (cs : List Constraint) → IsPlanned plan cs → (0 < plan.weights) ⊎ (plan.flex ≡ Legacy) → 0 < length cs
     → sum (widths_of plan cs) ≡ plan.space
 widths_whole plan cs p shared some =
     let i = length cs - 1 in
@@ -90,7 +90,7 @@ widths_whole plan cs p shared some =
     take_all (i + 1) (widths_of plan cs) (omega (arith, length-made (width_at plan cs) cs)) in
     let weighs : weight_before plan cs i + weight plan.sharing c ≡ plan.weights =
     omega (arith, n.weighs, ap (sum_by (weight plan.sharing)) all, p.weighs) in
-    let wants = ap (sum_by (wanted plan.length)) all in
+    let wants = ap (sum_by (requested_width plan.length)) all in
     omega (
       arith,
       edge plan cs p i (omega arith),
@@ -104,7 +104,7 @@ widths_whole plan cs p shared some =
     )
 
 -- no width is cut
-uncut : (plan : Plan) (cs : List Constraint) (k : ℕ) → IsPlanned plan cs → k < length cs
+uncut : (plan : ColumnPlan) (cs : List Constraint) (k : ℕ) → IsPlanned plan cs → k < length cs
     → get_or (map (λ (s : Segment). s.width) (columns_in plan cs)) k 0 ≡ get_or (widths_of plan cs) k 0
 uncut plan cs k p h =
     let c = get_or cs k (Length 0) in
@@ -115,7 +115,7 @@ uncut plan cs k p h =
     ap (λ (s : Segment). s.width) (made_at (column_at plan cs) cs k c (Length 0) (column_at plan cs k c) h refl) ∙
     wide ∙ sym (made_at (width_at plan cs) cs k c (Length 0) 0 h refl)
 
-sum_uncut : (plan : Plan) (cs : List Constraint) → IsPlanned plan cs → sum_by (λ (s : Segment). s.width) (columns_in plan cs) ≡ sum (widths_of plan cs)
+sum_uncut : (plan : ColumnPlan) (cs : List Constraint) → IsPlanned plan cs → sum_by (λ (s : Segment). s.width) (columns_in plan cs) ≡ sum (widths_of plan cs)
 sum_uncut plan cs p =
     let many = length-made (column_at plan cs) cs in
     let count : length (map (λ (s : Segment). s.width) (columns_in plan cs)) ≡ length cs =

@@ -3,11 +3,11 @@ use Rattle.std.specs.Prelude.{ℕ, ◌*◌, ◌/◌, max}
 use Rattle.tui_layout.specs.declared.constraint.Constraint.{Constraint}
 use Rattle.tui_layout.specs.declared.constraint.Constraint.TheVariants.{Min, Max, Length, Percentage, Ratio, Fill}
 
--- what a column of this length asks for
-abbrev pub wanted : ℕ → Constraint → ℕ
-wanted size (Min width) = width
-wanted size (Max width) = width
-wanted size (Length width) = width
-wanted size (Percentage percent) = size * percent / 100
-wanted size (Ratio part whole) = size * part / max whole 1
-wanted size (Fill weight) = 0
+-- what a constraint asks for, given the length that is split
+abbrev pub requested_width : ℕ → Constraint → ℕ
+requested_width size (Min width) = width
+requested_width size (Max width) = width
+requested_width size (Length width) = width
+requested_width size (Percentage percent) = size * percent / 100
+requested_width size (Ratio part whole) = size * part / max whole 1
+requested_width size (Fill weight) = 0

@@ -1,4 +1,4 @@
--- The names of flexes.
+-- The names of the flex variants.
 use Rattle.std.specs.Prelude.{ℕ, List, codes}
 use Rattle.tui_layout.specs.declared.flex.Flex.{Flex}
 use Rattle.tui_layout.specs.declared.flex.Flex.TheVariants.{Legacy, Start, End, Center, SpaceBetween, SpaceEvenly, SpaceAround}

@@ -3,7 +3,7 @@ pub mod Constraint
 pub mod Direction
 pub mod Flex
 pub mod Found
-pub mod Halves
+pub mod BinarySearch
 pub mod HighlightSpacing
 pub mod Laws
 pub mod Selection

@@ -1,24 +1,24 @@
--- Where a selected place moves, counted from 0.
+-- Moving a selection. Indices count from 0.
 use Rattle.std.specs.Prelude.{ℕ, ◌+◌, ◌-◌, ◌^◌, min, Option, Some, None, unwrap_or}
 
--- the greatest place that 64 bits hold
+-- the greatest index that 64 bits hold
 abbrev pub greatest : ℕ
 greatest = 2 ^ 64 - 1
 
--- one place further on, or the first one
+-- the next index, or the first one
 abbrev pub next_of : Option ℕ → ℕ
 next_of None = 0
 next_of (Some place) = min (place + 1) greatest
 
--- one place back, or the greatest one
+-- the previous index, or the greatest one
 abbrev pub previous_of : Option ℕ → ℕ
 previous_of None = greatest
 previous_of (Some place) = place - 1
 
--- this many places further on, or back, from the first one where nothing is selected
+-- this many indices further on, counted from the first if nothing is selected
 abbrev pub forward_by : Option ℕ → ℕ → ℕ
 forward_by selected amount = min (unwrap_or selected 0 + amount) greatest
 
--- likewise back, at least to the first one
+-- this many indices back, but at least the first one
 abbrev pub back_by : Option ℕ → ℕ → ℕ
 back_by selected amount = unwrap_or selected 0 - amount

@@ -1,11 +1,11 @@
--- Who shares the columns that are left.
+-- Which constraints share the columns that are left.
 use Rattle.std.specs.Prelude.{ℕ, ◌==◌, List, sum_by, if◌then◌else◌}
 use Rattle.tui_layout.specs.declared.constraint.Constraint.{Constraint}
 use Rattle.tui_layout.specs.declared.constraint.Constraint.TheVariants.{Min, Fill}
 use Rattle.tui_layout.specs.declared.sharing.Sharing.{Sharing}
 use Rattle.tui_layout.specs.declared.sharing.Sharing.TheVariants.{Weights, Fills, Mins}
 
--- how much a column counts where the rest is shared
+-- the weight of a column when the rest is shared
 abbrev pub weight : Sharing → Constraint → ℕ
 weight Weights (Fill share) = share
 weight Weights _ = 0
@@ -14,6 +14,7 @@ weight Fills _ = 0
 weight Mins (Min width) = 1
 weight Mins _ = 0
 
--- Fills share the rest by their weights, all alike where these are all 0, and Mins share it where there is no Fill.
+-- Fill constraints share the rest by their weights, or equally if all weights are 0. Without a Fill, the Min
+-- constraints share it.
 abbrev pub sharing_of : List Constraint → Sharing
 sharing_of cs = if sum_by (weight Weights) cs == 0 then (if sum_by (weight Fills) cs == 0 then Mins else Fills) else Weights

@@ -1,4 +1,4 @@
-//! The columns of a length.
+//! Splitting a length into columns.
 
 ghost use Rattle.std.specs.Prelude.{◌≡◌, ◌^◌, ◌<◌, IfOk, length as count_of, sum_by};
 ghost use Rattle.tui_layout.specs.Sharing.{weight};
@@ -6,14 +6,16 @@ ghost use Rattle.tui_layout.specs.Columns.{AreInOrder, RestIsShared, columns_in,
 
 use crate::constraint::Constraint;
 use crate::flex::Flex;
-use crate::plan::Plan;
+use crate::plan::ColumnPlan;
 use crate::segment::Segment;
 use std::alloc::Global;
 use tui_cells::Mem;
 
-/// The columns of a length, one for each constraint, with `spacing` free columns between two. Each in turn takes what it asks for,
-/// as far as there is room. What is left then, the rest, goes to the `Fill`, by their weights; without them to the `Min`, in parts
-/// alike; without these the flex decides. The columns lie in the length, in order and apart.
+/// Splits a length into columns, one for each constraint, with `spacing` free columns between two. The columns take in
+/// turn what they ask for, as far as there is room. What is left then is the rest. The rest goes to the `Fill`
+/// constraints by their weights. Without a `Fill` it goes to the `Min` constraints in equal parts. Without either, the
+/// flex decides. The columns lie in the length, in order, and do not overlap. Fails with `NoMemory` if the list can't
+/// be allocated.
 pub fn split(
     alloc: Global,
     length: u16,
@@ -26,11 +28,11 @@ pub fn split(
     ensures whole { RestIsShared constraints.now flex
         → IfOk result (λ columns. sum_by (λ c. c.width) columns.items ≡ space_of length spacing constraints.now) }
 {
-    let plan = Plan::new(length, spacing, constraints, flex);
+    let plan = ColumnPlan::new(length, spacing, constraints, flex);
     placed(alloc, plan, constraints)
 }
 
-fn placed(alloc: Global, plan: Plan, constraints: &[Constraint]) -> Mem<Vec<Segment>>
+fn placed(alloc: Global, plan: ColumnPlan, constraints: &[Constraint]) -> Mem<Vec<Segment>>
     requires weights { plan.weights ≡ sum_by (weight plan.sharing) constraints.now }
     requires small { plan.weights < 2 ^ 100 }
     requires count { plan.count ≡ count_of constraints.now }

@@ -1,10 +1,10 @@
-//! Which way things follow one another.
+//! The direction in which things follow one another.
 
 use std::fmt;
 use std::str::FromStr;
 use tui_cells::ParseError;
 
-/// Which way things follow one another. `Display` writes the variant's name, and `FromStr` reads it.
+/// The direction in which things follow one another. `Display` writes the variant's name, and `FromStr` reads it.
 #[derive(Clone, Copy, Debug, PartialEq, Eq, Hash)]
 pub enum Direction {
     /// From left to right.
@@ -35,7 +35,7 @@ impl FromStr for Direction {
 
     ghost from_str_gives = { IsParsed name_of };
 
-    /// Answers `VariantNotFound` exactly where the text is no variant's name.
+    /// Fails with `VariantNotFound` exactly if the string is not the name of a variant.
     fn from_str(text: &str) -> Result<Direction, ParseError> {
         match text {
             "Horizontal" => Ok(Direction::Horizontal),

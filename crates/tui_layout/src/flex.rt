@@ -1,4 +1,4 @@
-//! Where columns stand that leave a rest.
+//! Where columns are placed if they leave a rest.
 
 ghost use Rattle.std.specs.Prelude.{◌≡◌};
 
@@ -6,23 +6,23 @@ use std::fmt;
 use std::str::FromStr;
 use tui_cells::ParseError;
 
-/// Where columns stand that leave a rest of their length, where neither a `Fill` nor a `Min` shares it. `Display` writes
-/// the variant's name, and `FromStr` reads it.
+/// Where columns are placed if they leave a rest of their length that neither a `Fill` nor a `Min` shares. `Display`
+/// writes the variant's name, and `FromStr` reads it.
 #[derive(Clone, Copy, Debug, PartialEq, Eq, Hash)]
 pub enum Flex {
-    /// From the beginning on; the last column has the rest.
+    /// At the start. The last column gets the rest.
     Legacy,
-    /// From the beginning on.
+    /// At the start.
     Start,
-    /// Up to the end.
+    /// At the end.
     End,
-    /// In the middle, half of the rest before them, rounded down.
+    /// In the middle, with half of the rest before them, rounded down.
     Center,
-    /// The rest between them, in parts alike.
+    /// With the rest in equal parts between them.
     SpaceBetween,
-    /// The rest between them, before the first and behind the last, in parts alike.
+    /// With the rest in equal parts between them, before the first and after the last.
     SpaceEvenly,
-    /// The rest on both sides of each column, in parts alike.
+    /// With the rest in equal parts on both sides of each column.
     SpaceAround,
 }
 
@@ -62,7 +62,7 @@ impl FromStr for Flex {
 
     ghost from_str_gives = { IsParsed name_of };
 
-    /// Answers `VariantNotFound` exactly where the text is no variant's name.
+    /// Fails with `VariantNotFound` exactly if the string is not the name of a variant.
     fn from_str(text: &str) -> Result<Flex, ParseError> {
         match text {
             "Legacy" => Ok(Flex::Legacy),

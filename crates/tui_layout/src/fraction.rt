@@ -2,11 +2,11 @@
 
 ghost use Rattle.std.specs.Prelude.{◌≡◌};
 
-/// A fraction as it is written. Two are equal where both numbers are, so 1/2 is not 2/4.
+/// A fraction as it is written. Two are equal if both numbers are, so 1/2 is not 2/4.
 #[derive(Clone, Copy, Debug, PartialEq, Eq)]
 pub struct Fraction {
     pub num: u64,
-    /// May be 0: what takes a fraction refuses it then.
+    /// May be 0. Whatever takes a fraction then rejects it.
     pub den: u64,
 }
 

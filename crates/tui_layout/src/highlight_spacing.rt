@@ -1,4 +1,4 @@
-//! When columns are kept for a highlight symbol.
+//! When columns are reserved for a highlight symbol.
 
 ghost use Rattle.std.specs.Prelude.{◌≡◌};
 ghost use Rattle.tui_layout.specs.HighlightSpacing.{should_add};
@@ -7,19 +7,19 @@ use std::fmt;
 use std::str::FromStr;
 use tui_cells::ParseError;
 
-/// When the columns of a highlight symbol are kept free. `Display` writes the variant's name, and `FromStr` reads it.
+/// When columns are reserved for a highlight symbol. `Display` writes the variant's name, and `FromStr` reads it.
 #[derive(Clone, Copy, Debug, PartialEq, Eq, Hash)]
 pub enum HighlightSpacing {
     /// At all times.
     Always,
-    /// Where something is selected.
+    /// If something is selected.
     WhenSelected,
-    /// Never; then the symbol is not drawn either.
+    /// Never. Then the symbol is not drawn either.
     Never,
 }
 
 impl HighlightSpacing {
-    /// Whether the columns are kept, where something is selected or not.
+    /// Whether the columns are reserved, given whether something is selected.
     pub fn should_add(&self, has_selection: bool) -> bool
         ensures { result ≡ should_add self.now has_selection }
     {
@@ -63,7 +63,7 @@ impl FromStr for HighlightSpacing {
 
     ghost from_str_gives = { IsParsed name_of };
 
-    /// Answers `VariantNotFound` exactly where the text is no variant's name.
+    /// Fails with `VariantNotFound` exactly if the string is not the name of a variant.
     fn from_str(text: &str) -> Result<HighlightSpacing, ParseError> {
         match text {
             "Always" => Ok(HighlightSpacing::Always),

@@ -1,11 +1,11 @@
-//! What holds of all windows.
+//! Laws of all windows.
 
-ghost use Rattle.tui_layout.specs.Laws.{SelectedIsShown, WindowIsOne, WindowSettles};
+ghost use Rattle.tui_layout.specs.Laws.{SelectedIsShown, WindowIsUnique, WindowIsStable};
 
-/// For all heights and numbers exactly one window is theirs. A selected item that fits is shown, and what is shown fits. Asked for
-/// again with the first item and the selection that it leaves, a window stays as it is.
+/// For all heights and numbers there is exactly one window. A selected item that fits is shown, and all items in the
+/// window fit. Asking again with the window's first item and the selection that it leaves gives the same window.
 pub fn window_laws()
-    ensures one { WindowIsOne }
+    ensures one { WindowIsUnique }
     ensures selected { SelectedIsShown }
-    ensures again { WindowSettles }
+    ensures again { WindowIsStable }
 {}

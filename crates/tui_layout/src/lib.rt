@@ -1,12 +1,13 @@
-//! Rows and columns: the columns of a length, heights and their sums, the window of a scrolled list, and the moves of a selected place.
+//! Rows and columns: splitting a length into columns, heights and their sums, the window of a scrolled list, and moving
+//! a selection.
 #![tactic(auto)]
 
+mod binary_search;
 pub mod columns;
 pub mod constraint;
 pub mod direction;
 pub mod flex;
 pub mod fraction;
-mod halves;
 pub mod highlight_spacing;
 pub mod laws;
 mod plan;

@@ -1,7 +1,7 @@
 //! What all columns of a length have in common.
 
 ghost use Rattle.std.specs.Prelude.{◌≡◌, ◌+◌, ◌-◌, ◌*◌, ◌<◌, ◌≤◌, ◌^◌, length as count_of, min, sum_by};
-ghost use Rattle.tui_layout.specs.Constraint.{wanted};
+ghost use Rattle.tui_layout.specs.Constraint.{requested_width};
 ghost use Rattle.tui_layout.specs.Columns.{plan_of, shift, share};
 
 use crate::constraint::Constraint;
@@ -10,7 +10,7 @@ use crate::sharing::Sharing;
 
 /// What all columns of a length have in common.
 #[derive(Clone, Copy)]
-pub(crate) struct Plan {
+pub(crate) struct ColumnPlan {
     /// The length that is split.
     pub(crate) length: u16,
     /// The free columns between two columns.
@@ -20,23 +20,28 @@ pub(crate) struct Plan {
     pub(crate) count: usize,
     /// The length without the spacings.
     pub(crate) space: u16,
-    /// What is left of the space when each column has taken what it asks for.
+    /// What is left of the space after each column has taken what it asks for.
     pub(crate) rest: u16,
-    /// Who shares the rest.
+    /// Which constraints share the rest.
     pub(crate) sharing: Sharing,
-    /// What all columns weigh together.
+    /// The sum of the weights of all columns.
     pub(crate) weights: u128,
 }
 
-impl Plan {
-    pub(crate) fn new(length: u16, spacing: u16, constraints: &[Constraint], flex: Flex) -> Plan
+impl ColumnPlan {
+    pub(crate) fn new(
+        length: u16,
+        spacing: u16,
+        constraints: &[Constraint],
+        flex: Flex,
+    ) -> ColumnPlan
         ensures plan { result ≡ plan_of length spacing constraints.now flex }
         ensures small { result.weights ≤ count_of constraints.now * 65535 }
     {
         let count = constraints.len();
         let space = space_of(length, spacing, count);
         let sharing = Sharing::new(constraints);
-        Plan {
+        ColumnPlan {
             length,
             spacing,
             flex,
@@ -48,7 +53,7 @@ impl Plan {
         }
     }
 
-    /// What column `i` gets of the rest, where those before it weigh `before`, and it weighs `weight`.
+    /// Returns what column `i` gets of the rest, if the columns before it weigh `before` and it weighs `weight`.
     #[tactic(auto, using(crate::proofs::Shares::share_small), unfolding(crate::specs::Columns::share))]
     pub(crate) fn share(self, i: usize, before: u128, weight: u16) -> u128
         requires place { i < self.count }
@@ -70,7 +75,7 @@ impl Plan {
         }
     }
 
-    /// How far column `i` is moved.
+    /// Returns how far column `i` is moved.
     #[tactic(auto, unfolding(crate::specs::Columns::shift))]
     pub(crate) fn shift(self, i: usize) -> u128
         requires { i < self.count }
@@ -94,7 +99,7 @@ impl Plan {
         }
     }
 
-    /// A number of columns, cut at the length.
+    /// Cuts a number of columns at the length.
     pub(crate) fn cut(self, number: u128) -> u16
         ensures { result ≡ min number self.length }
     {
@@ -102,7 +107,7 @@ impl Plan {
     }
 }
 
-/// The length without the spacings between its columns.
+/// Returns the length without the spacings between its columns.
 fn space_of(length: u16, spacing: u16, count: usize) -> u16
     ensures { result ≡ length - spacing * (count - 1) }
 {
@@ -114,9 +119,9 @@ fn space_of(length: u16, spacing: u16, count: usize) -> u16
     }
 }
 
-/// What is left of the space when each column has taken what it asks for.
+/// Returns what is left of the space after each column has taken what it asks for.
 fn rest_of(length: u16, space: u16, constraints: &[Constraint]) -> u16
-    ensures { result ≡ space - sum_by (wanted length) constraints.now }
+    ensures { result ≡ space - sum_by (requested_width length) constraints.now }
 {
     let mut left = space;
     for constraint in constraints {

@@ -1,6 +1,6 @@
 //! Columns.
 
-/// A column: where it begins, counted from the beginning of the length, and how many columns of cells it has.
+/// A column: where it begins, counted from the start of the length, and its width in cells.
 #[derive(Clone, Copy, Debug, PartialEq, Eq)]
 pub struct Segment {
     pub start: u16,

@@ -1,9 +1,9 @@
-//! Where a selected place moves, counted from 0.
+//! Moving a selection. Indices count from 0.
 
 ghost use Rattle.std.specs.Prelude.{◌≡◌};
 ghost use Rattle.tui_layout.specs.Selection.{back_by, forward_by, next_of, previous_of};
 
-/// The next place, or the first where none is selected. At the greatest place it stays.
+/// Returns the next index, or the first one if nothing is selected. The greatest index has no next one and stays.
 pub fn next_of(selected: Option<usize>) -> usize
     ensures { result ≡ next_of selected }
 {
@@ -13,7 +13,7 @@ pub fn next_of(selected: Option<usize>) -> usize
     }
 }
 
-/// The place before, or the greatest place where none is selected. At the first place it stays.
+/// Returns the previous index, or the greatest one if nothing is selected. The first index stays.
 pub fn previous_of(selected: Option<usize>) -> usize
     ensures { result ≡ previous_of selected }
 {
@@ -23,14 +23,14 @@ pub fn previous_of(selected: Option<usize>) -> usize
     }
 }
 
-/// So many places further on, counted from the first where none is selected. At the greatest place it stops.
+/// Returns the index `amount` further on, counted from the first if nothing is selected. Stops at the greatest index.
 pub fn forward_by(selected: Option<usize>, amount: u16) -> usize
     ensures { result ≡ forward_by selected amount }
 {
     selected.unwrap_or(0).saturating_add(usize::from(amount))
 }
 
-/// So many places back, counted from the first where none is selected. At the first it stops.
+/// Returns the index `amount` back, counted from the first if nothing is selected. Stops at the first index.
 pub fn back_by(selected: Option<usize>, amount: u16) -> usize
     ensures { result ≡ back_by selected amount }
 {

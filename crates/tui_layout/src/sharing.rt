@@ -1,18 +1,18 @@
-//! Who shares the columns that are left.
+//! Which constraints share the columns that are left.
 
 ghost use Rattle.std.specs.Prelude.{◌≡◌, ◌*◌, ◌≤◌, length, sum_by};
 ghost use Rattle.tui_layout.specs.Sharing.{sharing_of, weight};
 
 use crate::constraint::Constraint;
 
-/// Who shares the columns that are left when each constraint has taken what it asks for.
+/// Which constraints share the columns that are left after each has taken what it asks for.
 #[derive(Clone, Copy)]
 pub(crate) enum Sharing {
     /// Each `Fill`, by its weight.
     Weights,
-    /// Each `Fill`, alike.
+    /// Each `Fill`, equally.
     Fills,
-    /// Each `Min`, alike; without one nobody.
+    /// Each `Min`, equally. Without a `Min`, none.
     Mins,
 }
 
@@ -40,7 +40,7 @@ impl Sharing {
         }
     }
 
-    /// What the constraints weigh together.
+    /// Returns the sum of the weights of the constraints.
     pub(crate) fn sum(self, constraints: &[Constraint]) -> u128
         ensures sum { result ≡ sum_by (weight self) constraints.now }
         ensures small { result ≤ length constraints.now * 65535 }

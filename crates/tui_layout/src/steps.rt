@@ -6,7 +6,7 @@ use std::alloc::Global;
 use std::marker::Model;
 use std::sync::ledger::{Blank, Book, Ledger, Share};
 
-/// How many steps were taken. It takes no bytes, and only `tick` changes it.
+/// A counter of steps. It has no size at run time, and only `tick` changes it.
 #[derive(Drop)]
 pub struct Steps<L: Ledger> {
     book: Book<L>,
@@ -22,8 +22,8 @@ impl<L: Ledger> Model for Steps<L> {
 }
 
 impl<L: Ledger> Steps<L> {
-    /// A counter at 0, from a blank with the name and the parts of its ledger. It takes no memory; the allocator is wanted so that a
-    /// call that has none counts by the counter that it was given, and by no other one.
+    /// Returns a counter at 0, from a blank with the name and the parts of its ledger. Does not allocate. The allocator
+    /// is required so that a function without one can count only with the counter that it was given.
     pub fn new(_alloc: Global, blank: Blank) -> Steps<L>
         requires name { blank.name ≡ L.name }
         requires parts { blank.parts ≡ L.parts }

@@ -1,4 +1,4 @@
-//! Heights, whose sums `window` alone tells.
+//! Heights, whose sums only `window` returns.
 
 ghost use Rattle.std.specs.Prelude.{◌≡◌, ◌+◌, ◌≤◌, ◌++◌, [], ◌∷◌, length, sum, take, IfOk, OnOk, OnErr};
 ghost use Rattle.tui_layout.specs.Sums.{total};
@@ -9,7 +9,8 @@ use std::marker::Model;
 use std::sync::ledger::Ledger;
 use tui_cells::Mem;
 
-/// A list of heights, in rows, kept as the sums of the first ones. `window` is the only way to a sum, and no call tells a height.
+/// A list of heights, in rows, stored as the sums of the first ones. `window` is the only way to a sum, and no call
+/// returns a height.
 #[derive(Drop)]
 pub struct Sums {
     sums: Vec<u128>,
@@ -27,7 +28,7 @@ impl Model for Sums {
 }
 
 impl Sums {
-    /// No heights. It takes no memory.
+    /// Returns a list without heights. Does not allocate.
     pub fn new(alloc: Global) -> Sums
         ensures { result ≡ [] }
     {
@@ -36,7 +37,8 @@ impl Sums {
         }
     }
 
-    /// No heights, and room for this many of them. `NoMemory` where there is none for these.
+    /// Returns a list without heights, with memory for `capacity` of them. Fails with `NoMemory` if it can't be
+    /// allocated.
     pub fn with_capacity(alloc: Global, capacity: usize) -> Mem<Sums>
         ensures { IfOk result (λ sums. sums ≡ []) }
     {
@@ -45,12 +47,12 @@ impl Sums {
         })
     }
 
-    /// Adds a height at the end. Where memory is wanted nothing has changed.
+    /// Adds a height at the end. Fails with `NoMemory` if memory runs out; the list is then unchanged.
     pub fn push(&mut self, height: u64) -> Mem<()>
         ensures ok { OnOk result (self.new ≡ self.old ++ height ∷ []) }
         ensures err { OnErr result (self.new ≡ self.old) }
     {
-        let sum = self.upto(self.len()) + u128::from(height);
+        let sum = self.prefix_sum(self.len()) + u128::from(height);
         self.sums.push(sum)?;
         Ok(())
     }
@@ -62,7 +64,7 @@ impl Sums {
         self.sums.len()
     }
 
-    /// The sum of the heights from place `a` to the one before place `b`. It counts one step.
+    /// Returns the sum of the heights from index `a` up to index `b`, exclusive. Counts one step.
     pub fn window<L: Ledger>(&self, a: usize, b: usize, steps: &mut Steps<L>) -> u128
         requires order { a ≤ b }
         requires within { b ≤ length self.now }
@@ -70,11 +72,11 @@ impl Sums {
         ensures step { steps.new ≡ steps.old + 1 }
     {
         steps.tick();
-        self.upto(b) - self.upto(a)
+        self.prefix_sum(b) - self.prefix_sum(a)
     }
 
-    /// The sum of the first heights, `count` of them.
-    fn upto(&self, count: usize) -> u128
+    /// Returns the sum of the first `count` heights.
+    fn prefix_sum(&self, count: usize) -> u128
         requires { count ≤ length self.now }
         ensures { result ≡ sum (take count self.now) }
     {

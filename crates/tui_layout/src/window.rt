@@ -1,30 +1,31 @@
-//! The part of a scrolled list that is shown.
+//! The visible part of a scrolled list.
 
 ghost use Rattle.std.specs.Prelude.{◌≡◌, ◌-◌, ◌<◌, ◌≤◌, length, min};
-ghost use Rattle.tui_layout.specs.Window.{IsEnd, IsWindow, Reaches};
+ghost use Rattle.tui_layout.specs.Window.{IsEnd, IsWindow, IsFirstForSelected};
 ghost use Rattle.tui_layout.specs.Found.{window_of};
-ghost use Rattle.tui_layout.specs.Halves.{IsProbing};
+ghost use Rattle.tui_layout.specs.BinarySearch.{IsProbeBound};
 
-use crate::halves::{end_from, fits, nearest_start, widest_padding};
+use crate::binary_search::{end_from, fits, nearest_start, widest_padding};
 use crate::steps::Steps;
 use crate::sums::Sums;
 use std::alloc::Global;
 use std::marker::Brand;
 use std::sync::ledger::{Blank, Ledger};
 
-/// The items that a scrolled list shows, by their places.
+/// The items that a scrolled list shows, by their indices.
 #[derive(Clone, Copy, Debug, PartialEq, Eq)]
 pub struct Window {
     /// The first item.
     pub first: usize,
-    /// The item after the last one; `first` itself where that item is taller than the list.
+    /// The item after the last one, or `first` itself if that item is taller than the list.
     pub end: usize,
 }
 
-/// The window of a list with these item heights over `height` rows. It begins at `offset` or at the nearest item from which the
-/// selected one is seen, with as many items of the `padding` around it as fit. An offset or a selection past the end counts
-/// as the last item, and an item that is taller than the list is the first. A step is counted for each sum that is asked
-/// for: for n items at most 1 + 3d, where 2 to the power d is at most 2n. No memory is taken, and no other counter can be made here.
+/// Returns the window of a list with these item heights over `height` rows. It begins at `offset`, or at the nearest
+/// item from which the selected one is visible with as many items of the `padding` around it as fit. An offset or a
+/// selection past the end counts as the last item. A selected item that is taller than the list comes first. Each sum
+/// that is looked up counts one step: for n items at most 1 + 3d, where 2 to the power d is at most 2n. Does not
+/// allocate, and can't create another counter.
 pub fn scroll_window<L: Ledger>(
     sums: &Sums,
     height: u64,
@@ -34,7 +35,7 @@ pub fn scroll_window<L: Ledger>(
     steps: &mut Steps<L>,
 ) -> Window
     ensures window { IsWindow sums.now height offset selected padding result }
-    ensures probes { 0 < length sums.now → IsProbing (length sums.now) steps.old steps.new }
+    ensures probes { 0 < length sums.now → IsProbeBound (length sums.now) steps.old steps.new }
     ensures none { length sums.now ≡ 0 → steps.new ≡ steps.old }
 {
     let count = sums.len();
@@ -51,8 +52,8 @@ pub fn scroll_window<L: Ledger>(
     }
 }
 
-/// The window of a list with these item heights over `height` rows, found as by `scroll_window`, whose steps are not told. It takes
-/// no memory.
+/// Returns the window of a list with these item heights over `height` rows, as `scroll_window` does, but without
+/// reporting its steps. Does not allocate.
 pub fn window_of(
     alloc: Global,
     sums: &Sums,
@@ -95,26 +96,26 @@ fn window_with<L: Ledger>(
     scroll_window(sums, height, offset, selected, padding, &mut steps)
 }
 
-/// The window of some items where one is selected.
+/// Returns the window of at least one item if one is selected.
 fn selected_window<L: Ledger>(
     sums: &Sums,
     height: u64,
     old: usize,
     selected: usize,
-    asked: usize,
+    requested: usize,
     steps: &mut Steps<L>,
 ) -> Window
     requires some { 0 < length sums.now }
-    ensures first { Reaches sums.now height old (min selected (length sums.now - 1)) asked result.first }
+    ensures first { IsFirstForSelected sums.now height old (min selected (length sums.now - 1)) requested result.first }
     ensures ends { IsEnd sums.now height result.first result.end }
-    ensures probes { IsProbing (length sums.now) steps.old steps.new }
+    ensures probes { IsProbeBound (length sums.now) steps.old steps.new }
 {
     let place = selected.min(sums.len() - 1);
     if !fits(sums, height, place, place + 1, steps) {
         let end = end_from(sums, height, place, steps);
         return Window { first: place, end };
     }
-    let padding = widest_padding(sums, height, place, asked, steps);
+    let padding = widest_padding(sums, height, place, requested, steps);
     let first = nearest_start(sums, height, place, padding, old, steps);
     let end = end_from(sums, height, first, steps);
     Window { first, end }

@@ -1,4 +1,4 @@
--- A text that ends in a newline has the same lines where more follows.
+-- A text that ends in a newline keeps its lines when more text follows.
 use Rattle.std.proofs.Common.{◌≡◌, ℕ, ◌<◌, ◌≤◌, Bool, List, [], ◌∷◌, ◌++◌, length, map, take, cond, refl, sym, ap, ◌∙◌, subst, arith, ⊎_elim}
 use Rattle.std.specs.List.{flat_map, onto_first, slice_split}
 use Rattle.std.specs.Str.{IsUtf8}
@@ -22,7 +22,7 @@ use Rattle.tui_line_places.proofs.WrappedLines.{all_lines}
 abbrev pub parts : List ℕ → List (List ℕ)
 parts bytes = slice_split is_newline_byte bytes
 
--- parts up to a newline, and those behind it
+-- the parts up to a newline, and those after it
 record Split (front more : List ℕ) : Type 0 where
   first : List ℕ
   others : List (List ℕ)
@@ -48,7 +48,7 @@ split_at (b ∷ front) more =
     })
     (cases_Bool (is_newline_byte b))
 
--- lines of parts of which others follow
+-- the lines of some parts, followed by those of others
 pub lines_before : (p : List ℕ) (ps : List (List ℕ)) (q : List ℕ) (qs : List (List ℕ)) →
     lines_of_parts (p ∷ (ps ++ q ∷ qs)) ≡ map strip_carriage_return (p ∷ ps) ++ lines_of_parts (q ∷ qs)
 lines_before p [] q qs = refl
@@ -63,7 +63,7 @@ lines_are front more =
     let alone = split_at front [] in
     let (q, qs, e) = some_parts more in
     let same : alone.first ∷ alone.others ≡ s.first ∷ s.others = sym alone.alone ∙ s.alone in
-    let behind : lines (front ++ 10 ∷ more) ≡ map strip_carriage_return (s.first ∷ s.others) ++ lines more =
+    let after : lines (front ++ 10 ∷ more) ≡ map strip_carriage_return (s.first ∷ s.others) ++ lines more =
     ap lines_of_parts (s.whole ∙ ap (λ x. s.first ∷ (s.others ++ x)) e) ∙ (lines_before s.first s.others q qs
     ∙ ap (λ x. map strip_carriage_return (s.first ∷ s.others) ++ lines_of_parts x) (sym e)) in
     let ends : lines (front ++ 10 ∷ []) ≡ map strip_carriage_return (alone.first ∷ alone.others) ++ [] =
@@ -71,7 +71,7 @@ lines_are front more =
     let all : lines (front ++ 10 ∷ []) ++ lines more ≡ map strip_carriage_return (s.first ∷ s.others) ++ lines more =
     ap (λ x. x ++ lines more) ends ∙ (append_assoc (map strip_carriage_return (alone.first ∷ alone.others)) [] (lines more)
     ∙ ap (λ x. map strip_carriage_return x ++ lines more) same) in
-    behind ∙ sym all
+    after ∙ sym all
 
 pub some_lines : (front more : List ℕ) → text_lines (front ++ 10 ∷ more) ≡ lines (front ++ 10 ∷ more)
 some_lines [] more = refl
@@ -102,7 +102,7 @@ same_lines w trim n text part more whole (front, ends) many = λ style alignment
     ∙ (sym (take-append-le n (lines_of (front ++ 10 ∷ [])) (all_lines style w trim alignment (lines more)) n_fits)
     ∙ (sym (ap (take n) (newline_lines style w trim alignment front more)) ∙ sym (ap (λ t. take n (lines_of t)) is)))
 
--- what is said of an answer, as the clause says it
+-- a text that has a rest from line n on has more than n lines
 pub has_more : (w : ℕ) (trim : Bool) (text rest : List ℕ) (n : ℕ) → IsUtf8 rest → IsFromLine w trim n text rest →
     (style : Style) (alignment : Alignment) → n < length (wrapped_lines style alignment w trim text)
 has_more w trim text rest n u from = λ style alignment.

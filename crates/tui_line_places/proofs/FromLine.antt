@@ -8,7 +8,7 @@ use Rattle.std.proofs.lemmas.Str.{IsCharBoundary-at_seam, IsCharBoundary-start}
 use Rattle.std.proofs.Math.Seq.{drop-append_seam}
 use Rattle.tui_cells.specs.Style.{no_style}
 use Rattle.tui_text.specs.declared.alignment.Alignment.TheVariants.{Left}
-use Rattle.tui_line_places.specs.AfterLine.{HasAtMost, HasLineCount, IsFromLine, BeginsLine, wrapped_lines}
+use Rattle.tui_line_places.specs.AfterLine.{HasAtMostLines, HasLineCount, IsFromLine, BeginsLine, wrapped_lines}
 use Rattle.tui_line_places.specs.Reading.{HasPassed}
 use Rattle.tui_line_places.proofs.AfterLine.{has_line}
 
@@ -31,14 +31,14 @@ module _ (w : ℕ) (trim : Bool) (text : List ℕ) where
         let b = count style alignment in
         omega arith
 
-    pub more_lines : IsUtf8 rest → HasAtMost w trim text k → ⊥
+    pub more_lines : IsUtf8 rest → HasAtMostLines w trim text k → ⊥
     more_lines u most =
         let a = ap length (from.lines no_style Left) ∙ length-drop k (wrapped_lines no_style Left w trim text) in
         let b = has_line no_style Left w trim rest u in
         let c = most no_style Left in
         omega arith
 
-    -- the place at which the rest begins
+    -- the offset at which the rest begins
     pub place_from : IsUtf8 rest → BeginsLine w trim text k (length text - length rest)
     place_from u =
         let size = ap length from.whole ∙ length-append from.front rest in
@@ -49,21 +49,21 @@ module _ (w : ℕ) (trim : Bool) (text : List ℕ) where
           from = subst (IsFromLine w trim k text) (sym here) from;
         }
 
--- what is said of an answer, as the clauses say it
+-- what the clauses state about a result
 abbrev pub Found : ℕ → Bool → List ℕ → ℕ → Option (Bor (List ℕ)) → Type 0
-Found w trim text k found = MatchOption found (HasAtMost w trim text k) (λ rest. IsUtf8 rest.now × IsFromLine w trim k text rest.now)
+Found w trim text k found = MatchOption found (HasAtMostLines w trim text k) (λ rest. IsUtf8 rest.now × IsFromLine w trim k text rest.now)
 
 module _ (w : ℕ) (trim : Bool) (text : List ℕ) (k : ℕ) where
-  pub says_past : (found : Option (Bor (List ℕ))) → Found w trim text k found → (found ≡ None) ↔ HasAtMost w trim text k
-  says_past None h = (λ _. h, λ _. refl)
-  says_past (Some rest) h = (λ e. cc, λ most. absurd (more_lines w trim text k rest.now h.1 h.0 most))
+  pub clause_past : (found : Option (Bor (List ℕ))) → Found w trim text k found → (found ≡ None) ↔ HasAtMostLines w trim text k
+  clause_past None h = (λ _. h, λ _. refl)
+  clause_past (Some rest) h = (λ e. cc, λ most. absurd (more_lines w trim text k rest.now h.1 h.0 most))
 
-  pub says_from : (found : Option (Bor (List ℕ))) → Found w trim text k found → IfSome found (λ rest. IsFromLine w trim k text rest.now)
-  says_from None h = tt
-  says_from (Some rest) h = h.1
+  pub clause_from : (found : Option (Bor (List ℕ))) → Found w trim text k found → IfSome found (λ rest. IsFromLine w trim k text rest.now)
+  clause_from None h = tt
+  clause_from (Some rest) h = h.1
 
   -- fewer lines than asked for
-  pub too_few : (i : ℕ) (rest : List ℕ) → i < k → IsFromLine w trim i text rest → HasLineCount w trim rest 1 → HasAtMost w trim text k
+  pub too_few : (i : ℕ) (rest : List ℕ) → i < k → IsFromLine w trim i text rest → HasLineCount w trim rest 1 → HasAtMostLines w trim text k
   too_few i rest less from one = λ style alignment. let a = count_from w trim text i rest from 1 (omega arith) one style alignment in omega arith
 
 module _ (w : ℕ) (trim : Bool) (text rest next : List ℕ) (v : IsUtf8 next) (on : IsFromLine w trim 1 rest next) where

@@ -1,4 +1,4 @@
--- All lines of a list but the last stay where more follows.
+-- All lines of a list but the last stay the same when more follows.
 use Rattle.std.proofs.Common.{◌≡◌, ℕ, zero, suc, ◌≤◌, ◌<◌, List, [], ◌∷◌, ◌++◌, length, take, refl, ap₂, subst, arith}
 use Rattle.std.specs.Prelude.{◌≢◌}
 use Rattle.tui_para.specs.Places.{wrap_kept}
@@ -13,7 +13,7 @@ some_front [] ys some e = some refl
 some_front (x ∷ xs) ys some e = cc
 
 module _ {A : Type 0} (rule : Rule A) where
-  -- a line after which something is left stays, and so do the first lines of which others follow
+  -- a line after which something is left stays the same, and so do the first lines if others follow them
   lines-append : (n : ℕ) (xs ys : List A) (lines all : List (List A)) → n < length lines → HasLines rule xs lines → HasLines rule (xs ++ ys) all
       → (take n all ≡ take n lines) × (n ≤ length all)
   lines-append zero xs ys lines all few h g = (refl, omega arith)

@@ -1,4 +1,4 @@
--- Where `lines` cuts a text for the first time.
+-- Where `lines` splits a text for the first time.
 use Rattle.std.proofs.Common.{◌≡◌, ℕ, ◌+◌, ◌-◌, ◌==◌, Bool, true, false, cond, ◌||◌, List, [], ◌∷◌, ◌++◌, length, take, slice_index, refl, sym, ap, ◌∙◌, subst, inl, inr, ⊎_elim, arith, eqb-true, get_or-append-add, length-append, take_all}
 use Rattle.std.specs.List.{list_any, slice_split, onto_first}
 use Rattle.std.specs.Prelude.{◌⊎◌, if◌then◌else◌}
@@ -12,15 +12,15 @@ use Rattle.std.proofs.lemmas.List.{append_assoc, take_more}
 abbrev pub is_newline_byte : ℕ → Bool
 is_newline_byte b = b == 10
 
--- no newline stands in these bytes
+-- these bytes hold no newline
 abbrev pub OneLine : List ℕ → Type 0
 OneLine bytes = list_any is_newline_byte bytes ≡ false
 
--- the first newline stands behind the line, or behind a carriage return that isn't its own
-pub data Newline (bytes line behind : List ℕ) : Type 0 where
-  none : bytes ≡ line → behind ≡ [] → OneLine line → Newline bytes line behind
-  feed : bytes ≡ line ++ 10 ∷ behind → (EndsInReturn line → ⊥) → OneLine line → Newline bytes line behind
-  both : bytes ≡ line ++ 13 ∷ 10 ∷ behind → OneLine line → Newline bytes line behind
+-- there is no newline, or the first one comes after the line, or after a carriage return that is not part of the line
+pub data Newline (bytes line after : List ℕ) : Type 0 where
+  none : bytes ≡ line → after ≡ [] → OneLine line → Newline bytes line after
+  feed : bytes ≡ line ++ 10 ∷ after → (EndsInReturn line → ⊥) → OneLine line → Newline bytes line after
+  both : bytes ≡ line ++ 13 ∷ 10 ∷ after → OneLine line → Newline bytes line after
 
 abbrev parts : List ℕ → List (List ℕ)
 parts bytes = slice_split is_newline_byte bytes
@@ -28,7 +28,7 @@ parts bytes = slice_split is_newline_byte bytes
 record FirstPart (bytes : List ℕ) : Type 0 where
   line : List ℕ
   one : OneLine line
-  rest : ((bytes ≡ line) × (parts bytes ≡ line ∷ [])) ⊎ ((behind : List ℕ) × (bytes ≡ line ++ 10 ∷ behind) × (parts bytes ≡ line ∷ parts behind))
+  rest : ((bytes ≡ line) × (parts bytes ≡ line ∷ [])) ⊎ ((after : List ℕ) × (bytes ≡ line ++ 10 ∷ after) × (parts bytes ≡ line ∷ parts after))
 
 first_part : (bytes : List ℕ) → FirstPart bytes
 first_part [] = record { line = []; one = refl; rest = inl (refl, refl) }
@@ -61,9 +61,9 @@ some_parts (b ∷ bytes) =
     (λ t. (b ∷ p, ps, ap (λ x. cond x ([] ∷ parts bytes) (onto_first b (parts bytes))) t ∙ ap (onto_first b) e))
     (cases_Bool (b == 10))
 
-first_of_parts : (line behind : List ℕ) → lines_of_parts (line ∷ parts behind) ≡ strip_carriage_return line ∷ lines behind
-first_of_parts line behind =
-    let (p, ps, e) = some_parts behind in
+first_of_parts : (line after : List ℕ) → lines_of_parts (line ∷ parts after) ≡ strip_carriage_return line ∷ lines after
+first_of_parts line after =
+    let (p, ps, e) = some_parts after in
     ap (λ x. lines_of_parts (line ∷ x)) e ∙ ap (λ x. strip_carriage_return line ∷ lines_of_parts x) (sym e)
 
 ends_there : (front : List ℕ) → (slice_index (front ++ 13 ∷ []) (length (front ++ 13 ∷ []) - 1) == 13) ≡ true
@@ -71,7 +71,7 @@ ends_there front =
     let last : length (front ++ 13 ∷ []) - 1 ≡ length front + 0 = omega (arith, length-append front (13 ∷ [])) in
     ap (λ n. slice_index (front ++ 13 ∷ []) n == 13) last ∙ ap (λ x. x == 13) (get_or-append-add front (13 ∷ []) 0 0)
 
--- with the return at its end, or without one
+-- the line does or does not end in a carriage return
 returned : (line : List ℕ) → ((strip_carriage_return line ≡ line) × (EndsInReturn line → ⊥))
     ⊎ ((front : List ℕ) × (line ≡ front ++ 13 ∷ []) × (strip_carriage_return line ≡ front))
 returned [] = inl (refl, λ (front, e). absurd (let l = ap length e ∙ length-append front (13 ∷ []) in omega arith))
@@ -106,29 +106,29 @@ some_bytes b bytes = grind (arith, nat_tests)
 
 pub record FirstLine (bytes : List ℕ) : Type 0 where
   pub line : List ℕ
-  pub behind : List ℕ
-  pub newline : Newline bytes line behind
-  pub lines_are : text_lines bytes ≡ line ∷ lines behind
+  pub after : List ℕ
+  pub newline : Newline bytes line after
+  pub lines_are : text_lines bytes ≡ line ∷ lines after
 
 pub first_line : (bytes : List ℕ) → FirstLine bytes
-first_line [] = record { line = []; behind = []; newline = none refl refl refl; lines_are = refl }
+first_line [] = record { line = []; after = []; newline = none refl refl refl; lines_are = refl }
 first_line (b ∷ bytes) =
     let text = b ∷ bytes in
     let f = first_part text in
     ⊎_elim
     (λ last. record {
       line = text;
-      behind = [];
+      after = [];
       newline = none refl refl (subst OneLine (sym last.0) f.one);
       lines_are = ap lines_of_parts (last.1 ∙ ap (λ x. x ∷ []) (sym last.0)) ∙ ap (λ t. if t then [] else text ∷ []) (some_bytes b bytes);
     })
     (λ more.
     let first = ap lines_of_parts more.2 ∙ first_of_parts f.line more.0 in
     ⊎_elim
-    (λ r. record { line = f.line; behind = more.0; newline = feed more.1 r.1 f.one; lines_are = first ∙ ap (λ x. x ∷ lines more.0) r.0 })
+    (λ r. record { line = f.line; after = more.0; newline = feed more.1 r.1 f.one; lines_are = first ∙ ap (λ x. x ∷ lines more.0) r.0 })
     (λ r. record {
       line = r.0;
-      behind = more.0;
+      after = more.0;
       newline = both (more.1 ∙ ap (λ x. x ++ 10 ∷ more.0) r.1 ∙ append_assoc r.0 (13 ∷ []) (10 ∷ more.0)) (one_parts r.0 (13 ∷ []) (subst OneLine r.1 f.one)).0;
       lines_are = first ∙ ap (λ x. x ∷ lines more.0) r.2;
     })

@@ -1,4 +1,4 @@
--- A text that ends between two printable characters has the same lines but for the last where more follows.
+-- A text that ends between two printable characters keeps all its lines but the last when more text follows.
 use Rattle.std.proofs.Common.{
   ◌≡◌,
   ℕ,
@@ -57,7 +57,7 @@ use Rattle.tui_clusters.proofs.Seams.{graphemes-seam, printable_seam}
 use Rattle.unicode_segmentation.specs.Grapheme.{graphemes}
 use Rattle.tui_line_places.specs.AfterLine.{wrapped_lines}
 use Rattle.tui_line_places.specs.Parts.{EndsBetweenPrintable, EndsInNewline, HaveSameLines, IsBetweenPrintable}
-use Rattle.tui_line_places.specs.Places.{behind_line, line_clusters, shown_in}
+use Rattle.tui_line_places.specs.Places.{text_after_line, line_clusters, shown_in}
 use Rattle.tui_line_places.specs.Rests.{cluster_rule}
 use Rattle.tui_line_places.proofs.AfterLine.{has_line}
 use Rattle.tui_line_places.proofs.FirstPart.{newline_lines, same_lines}
@@ -66,12 +66,12 @@ use Rattle.tui_line_places.proofs.MoreClusters.{wrap-append}
 use Rattle.tui_line_places.proofs.NewLines.{OneLine, is_newline_byte}
 use Rattle.tui_line_places.proofs.WrappedLines.{all_lines, by_first, shown_style, styled}
 
--- clusters without a newline begin the line, whatever follows
+-- clusters without a newline are in the first line, whatever follows
 line_clusters-append : (ps qs : List (List ℕ)) → NoNewline ps → line_clusters (ps ++ qs) ≡ ps ++ line_clusters qs
 line_clusters-append [] qs h = refl
 line_clusters-append (p ∷ ps) qs h = ap (λ b. cond b [] (p ∷ line_clusters (ps ++ qs))) h.0 ∙ ap (λ t. p ∷ t) (line_clusters-append ps qs h.1)
 
--- the clusters of a text are those of its parts
+-- the clusters of a text are those of its two parts, one after the other
 abbrev ArePartsClusters : List ℕ → List ℕ → Type 0
 ArePartsClusters part more = graphemes true (part ++ more) ≡ graphemes true part ++ graphemes true more
 
@@ -102,14 +102,14 @@ module _ (style : Style) (w : ℕ) (trim : Bool) (alignment : Alignment) where
   shown_lines-take n ls =
       take-map (glyph_line alignment) n (styled style w trim ls) ∙ ap (map (glyph_line alignment)) (take-map (map (glyph_in (shown_style style w trim))) n ls)
 
-  -- of one text line
+  -- for one text line
   one_line : (n : ℕ) (part more : List ℕ) → IsUtf8 part → IsUtf8 (part ++ more) → OneLine part → ArePartsClusters part more → n < length (lines_in part)
       → take n (lines_in (part ++ more)) ≡ take n (lines_in part)
   one_line n part more u v one e few =
       let R = cluster_rule w trim in
       let xs = shown_in w part in
       let ys = shown_in w more in
-      let others = all_lines style w trim alignment (lines (behind_line (part ++ more))) in
+      let others = all_lines style w trim alignment (lines (text_after_line (part ++ more))) in
       let alone : lines_in part ≡ shown_lines (wrap_kept R xs) =
       by_first style w trim alignment part u
       ∙ (ap (λ t. shown_lines (wrap_kept R xs) ++ all_lines style w trim alignment (lines (concat t)))
@@ -138,12 +138,12 @@ module _ (style : Style) (w : ℕ) (trim : Bool) (alignment : Alignment) where
             ∙ (sym (take-append-add xs zs (n - length xs)) ∙ sym (ap (λ m. take m (xs ++ zs)) k))))
       ]
 
-  -- of the line behind a newline, and so of the whole
-  behind_newline : (n : ℕ) (front part more : List ℕ) → lines_in part ≡ all_lines style w trim alignment (lines part)
+  -- for the line after a newline, and so for the whole
+  lines_after_newline : (n : ℕ) (front part more : List ℕ) → lines_in part ≡ all_lines style w trim alignment (lines part)
       → lines_in (part ++ more) ≡ all_lines style w trim alignment (lines (part ++ more))
       → take (n - length (lines_in (front ++ 10 ∷ []))) (lines_in (part ++ more)) ≡ take (n - length (lines_in (front ++ 10 ∷ []))) (lines_in part)
       → take n (lines_in (front ++ 10 ∷ (part ++ more))) ≡ take n (lines_in (front ++ 10 ∷ part))
-  behind_newline n front part more e f same =
+  lines_after_newline n front part more e f same =
       let above = lines_in (front ++ 10 ∷ []) in
       ap (take n) (newline_lines style w trim alignment front (part ++ more) ∙ ap (λ t. above ++ t) (sym f))
       ∙ (take-append n above (lines_in (part ++ more)) (lines_in part) same
@@ -153,7 +153,7 @@ some_lines : (text : List ℕ) → 0 < length text → text_lines text ≡ lines
 some_lines [] h = absurd (omega arith)
 some_lines (x ∷ text) h = refl
 
--- the text is one line, or this line stands behind a newline
+-- the text is one line, or ends with a line that comes after a newline
 abbrev HasLast : List ℕ → Type 0
 HasLast text = OneLine text ⊎ ((front : List ℕ) × (line : List ℕ) × (text ≡ front ++ 10 ∷ line) × OneLine line)
 
@@ -168,7 +168,7 @@ has_last (b ∷ text) =
     (λ h. inr (b ∷ h.0, h.1, ap (λ x. b ∷ x) h.2, h.3))
     (has_last text)
 
--- a byte that is not there is no printable one
+-- a byte past the end is not printable
 within : (part more : List ℕ) → is_printable (slice_index (part ++ more) (length part)) ≡ true → length part < length (part ++ more)
 within [] [] e = cc
 within [] (b ∷ more) e = omega arith
@@ -179,7 +179,7 @@ clusters_of_parts part more u some s =
     graphemes-seam (part ++ more) (length part) u (printable_seam (part ++ more) (length part) u some (within part more s.after) s.before s.after)
     ∙ ap₂ (λ a b. graphemes true a ++ graphemes true b) (take-append_seam part more) (drop-append_seam part more)
 
--- the place stands behind a line that has some bytes
+-- a line that ends between two printable characters has some bytes
 seam_in_line : (front line more : List ℕ) → IsBetweenPrintable (front ++ 10 ∷ (line ++ more)) (length (front ++ 10 ∷ line))
     → (0 < length line) × IsBetweenPrintable (line ++ more) (length line)
 seam_in_line front [] more s =
@@ -205,10 +205,10 @@ module _ (style : Style) (w : ℕ) (trim : Bool) (alignment : Alignment) (n : �
   abbrev lines_here : List ℕ → List GlyphLine
   lines_here text = wrapped_lines style alignment w trim text
 
-  behind_front : (front line more : List ℕ) → IsUtf8 (front ++ 10 ∷ line) → IsUtf8 (front ++ 10 ∷ (line ++ more)) → OneLine line
+  lines_after_front : (front line more : List ℕ) → IsUtf8 (front ++ 10 ∷ line) → IsUtf8 (front ++ 10 ∷ (line ++ more)) → OneLine line
       → IsBetweenPrintable (front ++ 10 ∷ (line ++ more)) (length (front ++ 10 ∷ line)) → n < length (lines_here (front ++ 10 ∷ line))
       → take n (lines_here (front ++ 10 ∷ (line ++ more))) ≡ take n (lines_here (front ++ 10 ∷ line))
-  behind_front front line more u v one s few =
+  lines_after_front front line more u v one s few =
       let above = lines_here (front ++ 10 ∷ []) in
       let here = (at_newline front line u).1 in
       let both = (at_newline front (line ++ more) v).1 in
@@ -221,7 +221,7 @@ module _ (style : Style) (w : ℕ) (trim : Bool) (alignment : Alignment) (n : �
       newline_lines style w trim alignment front line ∙ ap (λ t. above ++ t) (sym line_is) in
       let size = ap length all ∙ length-append above (lines_here line) in
       let less : n - length above < length (lines_here line) = omega (arith, few, size, has_line style alignment w trim line here) in
-      behind_newline style w trim alignment n front line more line_is both_are
+      lines_after_newline style w trim alignment n front line more line_is both_are
       (one_line style w trim alignment (n - length above) line more here both one clusters less)
 
   seam_lines : (part more : List ℕ) → IsUtf8 part → IsUtf8 (part ++ more) → 0 < length part → IsBetweenPrintable (part ++ more) (length part) → n < length (lines_here part)
@@ -231,12 +231,12 @@ module _ (style : Style) (w : ℕ) (trim : Bool) (alignment : Alignment) (n : �
       (λ (front, line, e, one).
       let whole : part ++ more ≡ front ++ 10 ∷ (line ++ more) = ap (λ t. t ++ more) e ∙ append_assoc front (10 ∷ line) more in
       ap (λ t. take n (lines_here t)) whole
-      ∙ (behind_front front line more (subst IsUtf8 e u) (subst IsUtf8 whole v) one (subst (λ t. IsBetweenPrintable t (length (front ++ 10 ∷ line))) whole
+      ∙ (lines_after_front front line more (subst IsUtf8 e u) (subst IsUtf8 whole v) one (subst (λ t. IsBetweenPrintable t (length (front ++ 10 ∷ line))) whole
       (subst (λ t. IsBetweenPrintable (part ++ more) (length t)) e s)) (subst (λ t. n < length (lines_here t)) e few)
       ∙ sym (ap (λ t. take n (lines_here t)) e)))
       (has_last part)
 
--- of a part that ends in one of the two ways
+-- for a prefix that ends in one of the two ways
 pub cut_lines : (w : ℕ) (trim : Bool) (n end : ℕ) (text part more : List ℕ) → IsUtf8 text → IsUtf8 part → part ≡ take end text → text ≡ part ++ more
     → EndsInNewline (take end text) ⊎ EndsBetweenPrintable text end → ((style : Style) (alignment : Alignment) → n < length (wrapped_lines style alignment w trim part))
     → HaveSameLines w trim n text part

@@ -9,14 +9,14 @@ use Rattle.tui_clusters.specs.Blank.{is_blank_text}
 use Rattle.tui_clusters.specs.Shown.{has_control, is_shown}
 use Rattle.tui_clusters.specs.Width.{width_of}
 use Rattle.unicode_segmentation.specs.Grapheme.{graphemes}
-use Rattle.tui_line_places.specs.Next.{IsHiddenUpTo, IsOver, IsNextShown}
-use Rattle.tui_line_places.specs.Places.{GoesOnInLine, behind_line, behind_part, is_newline, line_clusters, shown_in}
+use Rattle.tui_line_places.specs.Next.{IsHiddenUpTo, IsEndOfLine, IsNextShown}
+use Rattle.tui_line_places.specs.Places.{GoesOnInLine, text_after_line, after_newline, is_newline, line_clusters, shown_in}
 use Rattle.tui_clusters.proofs.Boundaries.{concat-graphemes}
 
 abbrev fits : ℕ → List ℕ → Bool
 fits w c = nat_le (width_of c) w
 
--- the clusters of a line, those that are shown of them
+-- the clusters of a line that are shown
 abbrev shown : ℕ → List (List ℕ) → List (List ℕ)
 shown w clusters = filter (fits w) (filter is_shown (line_clusters clusters))
 
@@ -24,8 +24,8 @@ module _ (w : ℕ) (text rest c : List ℕ) (clusters : graphemes true text ≡ 
   line_goes : is_newline c ≡ false → line_clusters (graphemes true text) ≡ c ∷ line_clusters (graphemes true rest)
   line_goes other = ap line_clusters clusters ∙ ap (λ b. cond b [] (c ∷ line_clusters (graphemes true rest))) other
 
-  pub behind_goes : is_newline c ≡ false → behind_line rest ≡ behind_line text
-  behind_goes other = sym (ap (λ t. concat (behind_part t)) clusters ∙ ap (λ b. concat (cond b (graphemes true rest) (behind_part (graphemes true rest)))) other)
+  pub after_line_goes : is_newline c ≡ false → text_after_line rest ≡ text_after_line text
+  after_line_goes other = sym (ap (λ t. concat (after_newline t)) clusters ∙ ap (λ b. concat (cond b (graphemes true rest) (after_newline (graphemes true rest)))) other)
 
   pub shown_next : is_newline c ≡ false → has_control c ≡ false → nat_le (width_of c) w ≡ true → shown_in w text ≡ c ∷ shown_in w rest
   shown_next other no_control fit =
@@ -46,27 +46,27 @@ module _ (w : ℕ) (text rest c : List ℕ) (clusters : graphemes true text ≡ 
   hidden other h =
       ap (λ t. filter (fits w) (filter is_shown t)) (line_goes other) ∙ left_out (has_control c) (filter is_shown (line_clusters (graphemes true rest))) h
 
-  pub line_over : IsUtf8 rest → is_newline c ≡ true → (shown_in w text ≡ []) × (behind_line text ≡ rest)
+  pub line_over : IsUtf8 rest → is_newline c ≡ true → (shown_in w text ≡ []) × (text_after_line text ≡ rest)
   line_over u newline = (
     ap (shown w) clusters ∙ ap (λ b. filter (fits w) (filter is_shown (cond b [] (c ∷ line_clusters (graphemes true rest))))) newline,
-    ap (λ t. concat (behind_part t)) clusters ∙ ap (λ b. concat (cond b (graphemes true rest) (behind_part (graphemes true rest)))) newline ∙ concat-graphemes rest u,
+    ap (λ t. concat (after_newline t)) clusters ∙ ap (λ b. concat (cond b (graphemes true rest) (after_newline (graphemes true rest)))) newline ∙ concat-graphemes rest u,
   )
 
-pub nothing_shown : (w : ℕ) (text : List ℕ) → graphemes true text ≡ [] → (shown_in w text ≡ []) × (behind_line text ≡ [])
-nothing_shown w text e = (ap (shown w) e, ap (λ t. concat (behind_part t)) e)
+pub nothing_shown : (w : ℕ) (text : List ℕ) → graphemes true text ≡ [] → (shown_in w text ≡ []) × (text_after_line text ≡ [])
+nothing_shown w text e = (ap (shown w) e, ap (λ t. concat (after_newline t)) e)
 
 module _ (w : ℕ) (text here rest cluster : List ℕ) (u : IsUtf8 rest) (h : IsHiddenUpTo w text here) (clusters : graphemes true here ≡ cluster ∷ graphemes true rest)
     (whole : here ≡ cluster ++ rest) (shorter : length rest < length here) where
   to_rest : text ≡ (h.goes_on.front ++ cluster) ++ rest
   to_rest = h.goes_on.whole ∙ ap (λ t. h.goes_on.front ++ t) whole ∙ sym (append_assoc h.goes_on.front cluster rest)
 
-  pub over : is_newline cluster ≡ true → IsOver w text rest
+  pub over : is_newline cluster ≡ true → IsEndOfLine w text rest
   over newline =
       let o = line_over w here rest cluster clusters u newline in
-      record { front = h.goes_on.front ++ cluster; whole = to_rest; utf8 = u; shown = h.shown ∙ o.0; behind = sym h.goes_on.same ∙ o.1 }
+      record { front = h.goes_on.front ++ cluster; whole = to_rest; utf8 = u; shown = h.shown ∙ o.0; after = sym h.goes_on.same ∙ o.1 }
 
   goes : is_newline cluster ≡ false → GoesOnInLine text rest
-  goes other = record { front = h.goes_on.front ++ cluster; whole = to_rest; utf8 = u; same = behind_goes w here rest cluster clusters other ∙ h.goes_on.same }
+  goes other = record { front = h.goes_on.front ++ cluster; whole = to_rest; utf8 = u; same = after_line_goes w here rest cluster clusters other ∙ h.goes_on.same }
 
   pub next_shown : (width : ℕ) (blank : Bool) → is_newline cluster ≡ false → width ≡ width_of cluster → blank ≡ is_blank_text cluster → (nat_le width w && not (has_control cluster)) ≡ true
       → IsNextShown w text width blank rest
@@ -93,10 +93,10 @@ module _ (w : ℕ) (text here rest cluster : List ℕ) (u : IsUtf8 rest) (h : Is
         no_longer = omega (arith, h.no_longer, shorter);
       }
 
-pub line_ends : (w : ℕ) (text here : List ℕ) → IsHiddenUpTo w text here → graphemes true here ≡ [] → here ≡ [] → IsOver w text here
+pub line_ends : (w : ℕ) (text here : List ℕ) → IsHiddenUpTo w text here → graphemes true here ≡ [] → here ≡ [] → IsEndOfLine w text here
 line_ends w text here h none e =
     let o = nothing_shown w here none in
-    record { front = h.goes_on.front; whole = h.goes_on.whole; utf8 = h.goes_on.utf8; shown = h.shown ∙ o.0; behind = sym h.goes_on.same ∙ o.1 ∙ sym e }
+    record { front = h.goes_on.front; whole = h.goes_on.whole; utf8 = h.goes_on.utf8; shown = h.shown ∙ o.0; after = sym h.goes_on.same ∙ o.1 ∙ sym e }
 
 pub goes_on-refl : (text : List ℕ) → IsUtf8 text → GoesOnInLine text text
 goes_on-refl text u = record { front = []; whole = refl; utf8 = u; same = refl }

@@ -1,4 +1,4 @@
--- The wrapped lines of a text are those of its first line, and those of the text behind it.
+-- The wrapped lines of a text are those of its first line, then those of the text after it.
 use Rattle.std.proofs.Common.{◌≡◌, ℕ, Bool, true, false, cond, List, [], ◌∷◌, ◌++◌, map, filter, append-nil, refl, ap, ap₂, ◌∙◌}
 use Rattle.std.specs.List.{concat}
 use Rattle.std.specs.Prelude.{nat_le}
@@ -20,7 +20,7 @@ use Rattle.tui_para.specs.WrappedText.{text_glyph_line}
 use Rattle.tui_para.specs.Wrapped.{not_wider}
 use Rattle.tui_para.proofs.WithoutSplits.{no_splits, plain, wrap_map}
 use Rattle.tui_line_places.specs.AfterLine.{wrapped_lines}
-use Rattle.tui_line_places.specs.Places.{behind_line, line_clusters, shown_in}
+use Rattle.tui_line_places.specs.Places.{text_after_line, line_clusters, shown_in}
 use Rattle.tui_line_places.specs.Rests.{cluster_rule}
 use Rattle.tui_line_places.proofs.LineClusters.{by_clusters}
 
@@ -69,15 +69,15 @@ module _ (style : Style) (w : ℕ) (trim : Bool) where
       ∙ map-same (λ line. map (λ (p : Glyph × Bool). p.0) (map marked line)) (map (glyph_in shown_style)) (λ line. map-map marked (λ (p : Glyph × Bool). p.0) line) (wrap_kept (cluster_rule w trim) fit)
 
   module _ (alignment : Alignment) where
-    -- the wrapped lines of some text lines
+    -- the wrapped lines of a list of text lines
     abbrev pub all_lines : List (List ℕ) → List GlyphLine
     all_lines texts = lines_of_each (λ t. wrap w (at_blanks trim) t.glyphs) (map (text_glyph_line style alignment) (map raw_line texts))
 
     pub by_first : (text : List ℕ) → IsUtf8 text → wrapped_lines style alignment w trim text
-        ≡ map (glyph_line alignment) (styled (wrap_kept (cluster_rule w trim) (shown_in w text))) ++ all_lines (lines (behind_line text))
+        ≡ map (glyph_line alignment) (styled (wrap_kept (cluster_rule w trim) (shown_in w text))) ++ all_lines (lines (text_after_line text))
     by_first text u =
         let b = by_clusters text u in
         let line = concat (line_clusters (graphemes true text)) in
         ap all_lines b.lines_are
-        ∙ ap (λ t. map (glyph_line alignment) t ++ all_lines (lines (behind_line text)))
+        ∙ ap (λ t. map (glyph_line alignment) t ++ all_lines (lines (text_after_line text)))
         (line_wraps line ∙ ap (λ t. styled (wrap_kept (cluster_rule w trim) (filter (λ c. nat_le (width_of c) w) (filter is_shown t)))) b.line_is)

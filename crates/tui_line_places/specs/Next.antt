@@ -1,19 +1,19 @@
--- What comes next in a text's first line.
+-- The next grapheme of a text's first line.
 use Rattle.std.specs.Prelude.{◌≡◌, ◌<◌, ◌≤◌, ℕ, Bool, List, [], ◌∷◌, ◌++◌, length}
 use Rattle.std.specs.Str.{IsUtf8}
 use Rattle.tui_clusters.specs.Blank.{is_blank_text}
 use Rattle.tui_clusters.specs.Width.{width_of}
-use Rattle.tui_line_places.specs.Places.{GoesOnInLine, behind_line, shown_in}
+use Rattle.tui_line_places.specs.Places.{GoesOnInLine, text_after_line, shown_in}
 use Rattle.tui_line_places.specs.declared.graphemes.Next.{Next}
 use Rattle.tui_line_places.specs.declared.graphemes.Next.TheVariants as next
 
--- up to `rest` nothing of the first line is shown
+-- nothing of the first line is shown before `rest`
 pub record IsHiddenUpTo (w : ℕ) (text rest : List ℕ) : Type 0 where
   pub goes_on : GoesOnInLine text rest
   pub shown : shown_in w text ≡ shown_in w rest
   pub no_longer : length rest ≤ length text
 
--- the next cluster that is shown in lines of w columns, of this width and a blank or not, and the text behind it
+-- the next cluster that is shown in lines of w columns: its width, whether it is whitespace, and the text after it
 pub record IsNextShown (w : ℕ) (text : List ℕ) (columns : ℕ) (is_blank : Bool) (rest : List ℕ) : Type 0 where
   pub cluster : List ℕ
   pub shown : shown_in w text ≡ cluster ∷ shown_in w rest
@@ -22,15 +22,15 @@ pub record IsNextShown (w : ℕ) (text : List ℕ) (columns : ℕ) (is_blank : B
   pub goes_on : GoesOnInLine text rest
   pub shorter : length rest < length text
 
--- no cluster more is shown, and this text stands behind the line
-pub record IsOver (w : ℕ) (text rest : List ℕ) : Type 0 where
+-- no further cluster of the line is shown, and `rest` is the text after the line
+pub record IsEndOfLine (w : ℕ) (text rest : List ℕ) : Type 0 where
   pub front : List ℕ
   pub whole : text ≡ front ++ rest
   pub utf8 : IsUtf8 rest
   pub shown : shown_in w text ≡ []
-  pub behind : behind_line text ≡ rest
+  pub after : text_after_line text ≡ rest
 
--- a grapheme that shows, or the end of the line with what stands behind it
+-- a grapheme that is shown, or the end of the line with the text after it
 abbrev pub IsNextOf : ℕ → List ℕ → Next → Type 0
-IsNextOf w text (next.Grapheme g) = IsNextShown w text g.width g.blank g.behind.now
-IsNextOf w text (next.Over rest) = IsOver w text rest.now
+IsNextOf w text (next.Grapheme g) = IsNextShown w text g.width g.blank g.after.now
+IsNextOf w text (next.EndOfLine rest) = IsEndOfLine w text rest.now

@@ -1,4 +1,4 @@
--- A first part of a text with the same first lines.
+-- A prefix of a text with the same first lines.
 use Rattle.std.specs.Prelude.{◌≡◌, ℕ, ◌-◌, ◌<◌, Bool, true, List, [], ◌∷◌, ◌++◌, length, slice_index, take}
 use Rattle.tui_cells.specs.declared.style.Style.{Style}
 use Rattle.tui_clusters.specs.Printable.{is_printable}
@@ -13,11 +13,11 @@ HaveSameLines w trim n text part =
 abbrev pub EndsInNewline : List ℕ → Type 0
 EndsInNewline text = (front : List ℕ) × (text ≡ front ++ 10 ∷ [])
 
--- a printable character of one byte stands on either side of the place
+-- there is a printable ASCII character on either side of the position
 pub record IsBetweenPrintable (text : List ℕ) (place : ℕ) : Type 0 where
   pub before : is_printable (slice_index text (place - 1)) ≡ true
   pub after : is_printable (slice_index text place) ≡ true
 
--- and the place stands within the text
+-- and the position is inside the text
 abbrev pub EndsBetweenPrintable : List ℕ → ℕ → Type 0
 EndsBetweenPrintable text place = (0 < place) × (place < length text) × IsBetweenPrintable text place

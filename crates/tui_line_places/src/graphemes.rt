@@ -1,4 +1,4 @@
-//! The graphemes of the text line at the front of a text.
+//! The graphemes of a text's first line.
 
 ghost use Rattle.std.specs.Prelude.{◌≡◌, ◌&&◌, nat_le, not, IfSome};
 ghost use Rattle.tui_clusters.specs.Shown.{has_control};
@@ -7,22 +7,23 @@ ghost use Rattle.tui_line_places.specs.Places.{is_newline};
 
 use tui_clusters::{cell_width, first_cluster, has_control, is_blank, is_printable_first};
 
-/// A grapheme: its columns, whether it is a blank, and the text behind it.
+/// A grapheme: its width in columns, whether it is whitespace, and the text after it.
 #[derive(Clone, Copy, Debug)]
 pub(crate) struct Grapheme<'a> {
     pub width: u16,
     pub blank: bool,
-    pub behind: &'a str,
+    pub after: &'a str,
 }
 
-/// The next grapheme of a text line, or the text behind the line where it has no more.
+/// The next grapheme of a text line or, if it has no more, the text after the line.
 #[derive(Clone, Copy, Debug)]
 pub(crate) enum Next<'a> {
     Grapheme(Grapheme<'a>),
-    Over(&'a str),
+    EndOfLine(&'a str),
 }
 
-/// What comes next in the text's first line, without graphemes that are wider than a line or hold a control character.
+/// Returns the next grapheme of the text's first line. Skips graphemes that are wider than a line or that hold a
+/// control character.
 #[inline(always)]
 pub(crate) fn next_grapheme(text: &str, max_width: u16) -> Next<'_>
     ensures { IsNextOf max_width text.now result }
@@ -33,7 +34,8 @@ pub(crate) fn next_grapheme(text: &str, max_width: u16) -> Next<'_>
     other_grapheme(text, max_width)
 }
 
-// The room for what a call answers is made where a function begins: so this one begins only where the call is made.
+// A function reserves the space for its calls' results when it is entered. As a function of its own, this one is
+// entered only if the call is made.
 #[inline(always)]
 fn other_grapheme(text: &str, max_width: u16) -> Next<'_>
     ensures { IsNextOf max_width text.now result }
@@ -41,45 +43,45 @@ fn other_grapheme(text: &str, max_width: u16) -> Next<'_>
     looked_up_grapheme(text, max_width)
 }
 
-/// The next grapheme where the text begins with a printable character of one byte and then ends, or goes on with another one: such a
-/// character needs no tables.
+/// Returns the next grapheme if the text begins with a printable ASCII character and then ends or goes on with another
+/// one. Such a character needs no table lookup.
 #[inline(always)]
 fn printable_grapheme(text: &str, max_width: u16) -> Option<Grapheme<'_>>
-    ensures { IfSome result (λ next. IsNextShown max_width text.now next.width next.blank next.behind.now) }
+    ensures { IfSome result (λ next. IsNextShown max_width text.now next.width next.blank next.after.now) }
 {
     if max_width == 0 || text.is_empty() || !is_printable_first(text) {
         return None;
     }
     let blank = text.as_bytes()[0] == b' ';
-    let (_, behind) = text.split_at(1);
+    let (_, after) = text.split_at(1);
     Some(Grapheme {
         width: 1,
         blank,
-        behind,
+        after,
     })
 }
 
-// Never inlined, so that printable bytes cost no call.
+// Never inlined, so that printable bytes don't pay for a call.
 #[inline(never)]
 fn looked_up_grapheme(text: &str, max_width: u16) -> Next<'_>
     ensures { IsNextOf max_width text.now result }
 {
     let mut rest = text;
-    'clusters: while let Some((cluster, behind)) = first_cluster(rest) {
+    'clusters: while let Some((cluster, after)) = first_cluster(rest) {
         if is_newline(cluster) {
-            return Next::Over(behind);
+            return Next::EndOfLine(after);
         }
         let width = cell_width(cluster);
         if is_shown(cluster, width, max_width) {
             return Next::Grapheme(Grapheme {
                 width,
                 blank: is_blank(cluster),
-                behind,
+                after,
             });
         }
-        rest = behind;
+        rest = after;
     }
-    Next::Over(rest)
+    Next::EndOfLine(rest)
 }
 
 fn is_newline(cluster: &str) -> bool

@@ -1,4 +1,4 @@
-//! Where the lines of a wrapped text begin.
+//! Finds where the lines of a wrapped text begin.
 #![tactic(auto)]
 
 mod graphemes;
@@ -9,6 +9,6 @@ mod places;
 mod rest;
 
 pub use lines::Lines;
-pub use part::{first_part, is_behind_newline};
-pub use places::{from_line, line_places};
+pub use part::{first_part, is_after_newline};
+pub use places::{from_line, line_offsets};
 pub use rest::after_line;

@@ -9,7 +9,8 @@ use crate::graphemes::{Next, next_grapheme};
 use crate::lines::Lines;
 use tui_para::{Counter, LineEnd, Mark, Wrap};
 
-/// What is left of the text line at the front behind its first line and the blanks that are left out after that, with the text behind it.
+/// Returns the text after its first wrapped line and after the whitespace that is dropped there. If the first text line
+/// ends before that, returns the rest from which nothing more of that text line is shown.
 pub(crate) fn line_rest(text: &str, lines: Lines) -> &str
     ensures goes_on { GoesOnInLine text.now result.now }
     ensures first { FirstThen (cluster_rule lines.width lines.trim) (shown_in lines.width text.now) (shown_in lines.width result.now) }
@@ -29,14 +30,14 @@ pub(crate) fn line_rest(text: &str, lines: Lines) -> &str
             split: false,
         };
         if let Some(end) = counter.read_in_line(mark, lines.width, wrap) {
-            return left_from(end, word, rest, grapheme.behind);
+            return left_from(end, word, rest, grapheme.after);
         }
-        rest = grapheme.behind;
+        rest = grapheme.after;
     }
     rest
 }
 
-/// From where the word under way began: here, if none is.
+/// Returns where the word under way began, or `here` if no word is under way.
 #[inline(always)]
 fn word_from<'a>(counter: &Counter, word: &'a str, here: &'a str) -> &'a str
     ensures { result.now ≡ (if counter.now.in_word then word.now else here.now) }
@@ -44,13 +45,13 @@ fn word_from<'a>(counter: &Counter, word: &'a str, here: &'a str) -> &'a str
     if counter.is_in_word() { word } else { here }
 }
 
-/// What is left where a line ends as a grapheme comes.
-fn left_from<'a>(end: LineEnd, word: &'a str, here: &'a str, behind: &'a str) -> &'a str
-    ensures { result.now ≡ left_from end word.now here.now behind.now }
+/// Returns the text that is left after a line that ends at the next grapheme.
+fn left_from<'a>(end: LineEnd, word: &'a str, here: &'a str, after: &'a str) -> &'a str
+    ensures { result.now ≡ left_from end word.now here.now after.now }
 {
     match end {
         LineEnd::BeforeWord => word,
         LineEnd::WithinWord => here,
-        LineEnd::BehindBlank => behind,
+        LineEnd::AfterBlank => after,
     }
 }

@@ -1,10 +1,10 @@
-//! How a text is wrapped.
+//! How a text is wrapped into lines.
 
-/// The lines into which a text is wrapped, which break at blanks alone.
+/// How a text is wrapped into lines. The lines break at whitespace only.
 #[derive(Clone, Copy, Debug, PartialEq, Eq)]
 pub struct Lines {
-    /// The columns of a line.
+    /// The width of a line, in columns.
     pub width: u16,
-    /// Whether the blanks in front of a line are left out.
+    /// Whether whitespace at the beginning of a line is dropped.
     pub trim: bool,
 }

@@ -1,4 +1,4 @@
-//! A first part of a text, where nothing behind it is shown.
+//! A prefix of a text with the same first lines, for when nothing after it is shown.
 
 ghost use Rattle.std.specs.Prelude.{◌≡◌, ◌↔◌, ◌<◌, ◌≤◌, ◌⊎◌, ◌++◌, ℕ, IsTrue, List, length, take, true};
 ghost use Rattle.tui_cells.specs.declared.style.Style.{Style};
@@ -14,15 +14,16 @@ use tui_clusters::is_printable;
 const NEWLINE: u8 = 10;
 
 /// How many bytes are searched for a newline.
-const REACH: usize = 512;
+const NEWLINE_REACH: usize = 512;
 
-/// How many bytes are searched for two printable characters of one byte.
+/// How many bytes are searched for two adjacent printable ASCII characters.
 const SEAM_REACH: usize = 64;
 
-/// A first part of the text that has the same first `count` lines, where it is wrapped. It ends behind the first newline from byte
-/// `near` on, or little more than a line behind that byte, between two printable characters of one byte. Where there is no such place
-/// in reach, or the part has no line more than these, it is the whole text. The work is that of these lines and of some hundred bytes.
-/// It takes no memory.
+/// Returns a prefix of the text that has the same first `count` wrapped lines. The prefix ends after the first newline
+/// from byte `near` on or, little more than a line later, between two printable ASCII characters.
+///
+/// Returns the whole text if no such position is within reach, or if the prefix has no more than `count` lines. The
+/// cost is that of wrapping these lines and of searching some hundred bytes. Does not allocate.
 pub fn first_part(text: &str, lines: Lines, count: usize, near: usize) -> &str
     ensures same { HaveSameLines lines.width lines.trim count text.now result.now }
     ensures part { (rest : List ℕ) × (text.now ≡ result.now ++ rest) }
@@ -40,8 +41,8 @@ pub fn first_part(text: &str, lines: Lines, count: usize, near: usize) -> &str
     }
 }
 
-/// Where the part is to end: behind the first newline from a byte on, but no further than a line more takes if a seam is there. No
-/// clause: what stands there is looked at.
+/// Returns where the prefix is to end: after the first newline from byte `near` on. If no newline comes within about
+/// one line, it ends at the next seam. There is no clause, since `first_part` checks the position.
 fn part_end(text: &str, width: u16, near: usize) -> usize {
     let bytes = text.as_bytes();
     let far = near.saturating_add(line_bytes(width));
@@ -51,19 +52,19 @@ fn part_end(text: &str, width: u16, near: usize) -> usize {
     if let Some(place) = seam_from(bytes, far) {
         return place;
     }
-    match newline_end(bytes, far, far.saturating_add(REACH)) {
+    match newline_end(bytes, far, far.saturating_add(NEWLINE_REACH)) {
         Some(place) => place,
         None => text.len(),
     }
 }
 
-/// How many bytes a line mostly takes, with the character that it ends before.
+/// Estimates how many bytes a line takes, with the character before which it ends.
 fn line_bytes(width: u16) -> usize {
     let width = usize::from(width);
     width + width / 4 + 1
 }
 
-/// The place behind the first newline between two bytes.
+/// Returns the position after the first newline in the bytes `from..to`.
 fn newline_end(bytes: &[u8], from: usize, to: usize) -> Option<usize> {
     'bytes: for i in from..bytes.len().min(to) {
         if bytes[i] == NEWLINE {
@@ -73,7 +74,7 @@ fn newline_end(bytes: &[u8], from: usize, to: usize) -> Option<usize> {
     None
 }
 
-/// The first place from a byte on between two printable characters of one byte, within reach.
+/// Returns the first position from `from` on, within reach, that is between two printable ASCII characters.
 fn seam_from(bytes: &[u8], from: usize) -> Option<usize> {
     'places: for place in from..bytes.len().min(from.saturating_add(SEAM_REACH)) {
         if is_seam(bytes, place) {
@@ -83,16 +84,17 @@ fn seam_from(bytes: &[u8], from: usize) -> Option<usize> {
     None
 }
 
-/// Whether the lines of what stands before a place are lines of the whole, but for the last one.
+/// Returns true only if the lines of the text before `place`, except for the last one, are also lines of the whole
+/// text.
 fn is_cut(text: &str, place: usize) -> bool
     ensures { result ≡ true → EndsInNewline (take place text.now) ⊎ EndsBetweenPrintable text.now place }
 {
     let bytes = text.as_bytes();
-    is_behind_newline(bytes, place) || is_seam(bytes, place)
+    is_after_newline(bytes, place) || is_seam(bytes, place)
 }
 
-/// Whether a newline stands directly before a place, which may be the end.
-pub fn is_behind_newline(bytes: &[u8], place: usize) -> bool
+/// Whether a newline comes directly before `place`, which may be the end.
+pub fn is_after_newline(bytes: &[u8], place: usize) -> bool
     ensures { IsTrue result ↔ (place ≤ length bytes.now) × EndsInNewline (take place bytes.now) }
 {
     0 < place && place <= bytes.len() && bytes[place - 1] == NEWLINE
@@ -104,7 +106,7 @@ fn is_seam(bytes: &[u8], place: usize) -> bool
     0 < place && place < bytes.len() && is_printable(bytes[place - 1]) && is_printable(bytes[place])
 }
 
-/// Whether the text has more lines than these.
+/// Returns true only if the text has more than `count` lines.
 fn has_more_lines(text: &str, lines: Lines, count: usize) -> bool
     ensures { result ≡ true → (style : Style) (alignment : Alignment) → count < length (wrapped_lines style alignment lines.width lines.trim text.now) }
 {

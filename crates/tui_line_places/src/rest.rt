@@ -1,4 +1,4 @@
-//! What is left of a text behind its first line.
+//! What is left of a text after its first line.
 
 ghost use Rattle.std.specs.Prelude.{◌≡◌, ◌↔◌, ◌<◌, [], length, IfSome, MatchOption, None, Some};
 ghost use Rattle.std.specs.Str.{IsUtf8};
@@ -8,8 +8,8 @@ use crate::graphemes::{Next, next_grapheme};
 use crate::line::line_rest;
 use crate::lines::Lines;
 
-/// The text from where its second line begins, where it is wrapped; None where it has only one line. The work is that of the line and
-/// of what is read ahead for its end. It takes no memory.
+/// Returns the text from the beginning of its second wrapped line, or `None` if it has only one line. The cost is that
+/// of wrapping this line and of what is read ahead to find its end. Does not allocate.
 pub fn after_line(text: &str, lines: Lines) -> Option<&str>
     ensures one { result ≡ None ↔ IsOneLine lines.width lines.trim text.now }
     ensures rest { IfSome result (λ rest. IsAfterLine lines.width lines.trim text.now rest.now) }
@@ -24,11 +24,11 @@ pub(crate) fn second_line(text: &str, lines: Lines) -> Option<&str>
     let rest = line_rest(text, lines);
     match next_grapheme(rest, lines.width) {
         Next::Grapheme(_) => Some(rest),
-        Next::Over(behind) => if_some(behind),
+        Next::EndOfLine(after) => if_some(after),
     }
 }
 
-/// The text, None where it is empty.
+/// Returns the text, or `None` if it is empty.
 fn if_some(text: &str) -> Option<&str>
     ensures { MatchOption result (text.now ≡ []) (λ some. (some.now ≡ text.now) × (0 < length text.now)) }
 {

@@ -38,7 +38,7 @@ use Rattle.std.proofs.lemmas.List.{get_or-map, length-map, take_more}
 use Rattle.tui_cells.specs.declared.rect.Rect.{Rect}
 use Rattle.tui_cells.specs.declared.style.Style.{Style}
 use Rattle.tui_cells.specs.Buffer.{Screen}
-use Rattle.tui_cells.specs.Cell.{dress}
+use Rattle.tui_cells.specs.Cell.{set_style}
 use Rattle.tui_cells.specs.Rect.{columns_from, covers, rows_from}
 use Rattle.tui_cells.specs.Style.{patched}
 use Rattle.tui_cells.specs.Layers.{Painted, stroke}
@@ -100,8 +100,8 @@ items_done l inner selected i used end items a le = let e : end - i ≡ 0 = omeg
 pub item_painted : {T E : Type 0} (result : Result T E) (l : ListData) (g : ℕ) (rows : Rect) (is_selected : Bool) (item : ListItemData)
     (style : Style) (others firsts : Rect) (a b c d e : Screen) →
     style ≡ patched l.style item.style → others ≡ columns_from rows g rows.width → firsts ≡ columns_from rows 0 g →
-    Painted (stroke (covers rows) (dress style)) a b → Painted (text_layers others item.content) b c →
-    Painted (if is_selected then stroke (covers rows) (dress l.highlight_style) else []) c d →
+    Painted (stroke (covers rows) (set_style style)) a b → Painted (text_layers others item.content) b c →
+    Painted (if is_selected then stroke (covers rows) (set_style l.highlight_style) else []) c d →
     OnOk result (Painted (gutter_layers l is_selected firsts 0 firsts.height) d e) → OnOk result (Painted (item_layers l g rows is_selected item) a e)
 unfolding item_layers
 item_painted result l g rows is_selected item style others firsts a b c d e ss os fs p q r last =

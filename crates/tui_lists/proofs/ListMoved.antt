@@ -1,4 +1,4 @@
--- What a drawing of a list paints, and what it leaves of the state.
+-- What a drawing of a list paints, and the state that it leaves.
 use Rattle.std.proofs.Common.{◌≡◌, ℕ, ◌-◌, ◌<◌, ◌==◌, max, true, false, drop, length, Option, Some, refl, ◌∙◌, ap, sym, subst, arith}
 use Rattle.std.proofs.lemmas.Bool.Decides.{nat_tests}
 use Rattle.std.proofs.lemmas.List.{length-map}
@@ -8,17 +8,17 @@ use Rattle.tui_cells.specs.Rect.{is_empty}
 use Rattle.tui_cells.specs.Layers.{Painted}
 use Rattle.tui_cells.proofs.Painting.{Painted-none}
 use Rattle.tui_layout.proofs.Found.{window_is}
-use Rattle.tui_layout.proofs.Settling.{first_of_cut}
+use Rattle.tui_layout.proofs.StableWindow.{first_of_cut}
 use Rattle.tui_layout.specs.Window.{IsFirst, cut_selection}
 use Rattle.tui_layout.specs.declared.window.Window.{Window}
 use Rattle.tui_lists.specs.List.{ListData, ListMoves, list_after, list_moved, list_window}
 use Rattle.tui_lists.specs.ListItem.{heights_of, item_height}
-use Rattle.tui_lists.specs.ListState.{at_rest}
+use Rattle.tui_lists.specs.ListState.{default_state}
 use Rattle.tui_lists.proofs.ListShown.{selected_is_shown}
 use Rattle.tui_lists.specs.ListStrokes.{content_layers, items_layers}
 use Rattle.tui_lists.specs.declared.list.state.ListState.{ListState}
 
--- without items
+-- if there are no items
 pub content_none : (l : ListData) (inner : Rect) (s : ListState) (a : Screen) → length l.items ≡ 0 → Painted (content_layers l inner s) a a
 unfolding content_layers
 content_none l inner s a e =
@@ -36,7 +36,7 @@ content_some l inner s w selected count a b some ws ss cs p =
     subst (λ n. Painted (items_layers l inner selected w.first 0 n (drop w.first l.items)) a b) cs p in
     rw (none, ← ss) (subst (λ (v : Window). Painted (items_layers l inner selected v.first 0 (max (v.end - v.first) 1) (drop v.first l.items)) a b) ws here)
 
-pub after_none : (l : ListData) (inner : Rect) (s : ListState) → is_empty inner ≡ false → length l.items ≡ 0 → list_after l inner s ≡ at_rest
+pub after_none : (l : ListData) (inner : Rect) (s : ListState) → is_empty inner ≡ false → length l.items ≡ 0 → list_after l inner s ≡ default_state
 unfolding list_after
 after_none l inner s h e =
     let none : (length l.items == 0) ≡ true = grind (arith, nat_tests) in
@@ -58,7 +58,7 @@ pub after_is : (l : ListData) (inner : Rect) (s : ListState) (w : Window) (selec
     record { offset = w.first; selected = selected } ≡ list_after l inner s
 after_is l inner s w selected h some ws ss = rw (after_some l inner s h some, ← ss, ← ws) refl
 
--- the offset moves least
+-- the offset moves as little as possible
 pub list_moves : (l : ListData) (inner : Rect) (s new : ListState) → new ≡ list_after l inner s → ListMoves l inner s new
 list_moves l inner s new e = record {
   stays = λ h. e ∙ after_empty l inner s h;
@@ -71,8 +71,8 @@ list_moves l inner s new e = record {
       subst P (sym (e ∙ after_some l inner s h some)) (first_of_cut heights inner.height s.offset s.selected l.padding (list_window l inner.height s).first begins);
   seen = λ h some place at fits.
       let moved = e ∙ after_some l inner s h some in
-      let cut : cut_selection (heights_of l.items) s.selected ≡ Some place = sym (ap (λ (t : ListState). t.selected) moved) ∙ at in
-      let u = selected_is_shown l inner.height place s some cut fits in
+      let clamp_selection : cut_selection (heights_of l.items) s.selected ≡ Some place = sym (ap (λ (t : ListState). t.selected) moved) ∙ at in
+      let u = selected_is_shown l inner.height place s some clamp_selection fits in
       let first : new.offset ≡ (list_window l inner.height s).first = ap (λ (t : ListState). t.offset) moved in
       record {
         last = (list_window l inner.height s).end;

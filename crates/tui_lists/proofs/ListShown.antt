@@ -3,7 +3,7 @@ use Rattle.std.proofs.Common.{◌≡◌, ℕ, ◌+◌, ◌-◌, ◌<◌, ◌≤�
 use Rattle.std.proofs.lemmas.List.{length-map}
 use Rattle.tui_cells.specs.declared.rect.Rect.{Rect}
 use Rattle.tui_cells.specs.declared.style.Style.{Style}
-use Rattle.tui_cells.specs.Cell.{Look, dress, dressed}
+use Rattle.tui_cells.specs.Cell.{Look, set_style, restyled}
 use Rattle.tui_cells.specs.Layers.{Layer, layers_at, stroke}
 use Rattle.tui_cells.specs.Rect.{covers, is_empty}
 use Rattle.tui_cells.proofs.Painting.{layers_at-append}
@@ -12,15 +12,15 @@ use Rattle.tui_frames.specs.InBlock.{block_layers_if, inner_of}
 use Rattle.tui_frames.specs.Strokes.{block_layers}
 use Rattle.tui_frames.proofs.Inside.{in_clip, inside}
 use Rattle.tui_layout.proofs.Found.{window_is}
-use Rattle.tui_layout.proofs.Settling as settling
+use Rattle.tui_layout.proofs.StableWindow as settling
 use Rattle.tui_layout.specs.Found.{window_of}
 use Rattle.tui_layout.specs.Sums.{total}
 use Rattle.tui_layout.specs.Window.{cut_selection}
 use Rattle.tui_layout.specs.declared.window.Window.{Window}
-use Rattle.tui_lists.specs.Laws.{InsideIsDressed, SelectedIsShown, StrokesStay, under_items}
+use Rattle.tui_lists.specs.Laws.{ItemsAreOverStyles, SelectedIsShown, RedrawKeepsStrokes, under_items}
 use Rattle.tui_lists.specs.List.{ListData, list_after, list_moved, list_window}
 use Rattle.tui_lists.specs.ListItem.{heights_of, item_height}
-use Rattle.tui_lists.specs.ListState.{at_rest}
+use Rattle.tui_lists.specs.ListState.{default_state}
 use Rattle.tui_lists.specs.ListStrokes.{content_layers, items_layers}
 use Rattle.tui_lists.specs.declared.list.state.ListState.{ListState}
 
@@ -49,11 +49,11 @@ moved_stay : (l : ListData) (inner : Rect) (s : ListState) →
     ≡ items_in l inner (list_window l inner.height s) (cut_selection (heights_of l.items) s.selected)
 moved_stay l inner s =
     let heights = heights_of l.items in
-    ap (λ w. items_in l inner w (cut_selection heights (cut_selection heights s.selected))) (settling.window_settles heights inner.height s.offset s.selected l.padding)
+    ap (λ w. items_in l inner w (cut_selection heights (cut_selection heights s.selected))) (settling.window_stays heights inner.height s.offset s.selected l.padding)
     ∙ ap (items_in l inner (list_window l inner.height s)) (settling.cut_again heights s.selected)
 
 stay_by : (l : ListData) (inner : Rect) (s : ListState) (empty none : Bool) →
-    let after = (if empty then s else (if none then at_rest else list_moved l inner.height s)) in
+    let after = (if empty then s else (if none then default_state else list_moved l inner.height s)) in
     (if none then [] else items_in l inner (list_window l inner.height after) (cut_selection (heights_of l.items) after.selected))
     ≡ (if none then [] else items_in l inner (list_window l inner.height s) (cut_selection (heights_of l.items) s.selected))
 stay_by l inner s true none = refl
@@ -64,16 +64,16 @@ content_stays : (l : ListData) (inner : Rect) (s : ListState) → content_layers
 unfolding content_layers list_after items_in
 content_stays l inner s = stay_by l inner s (is_empty inner) (length l.items == 0)
 
-pub strokes_stay : StrokesStay
-strokes_stay l s clip = ap (λ ls. stroke (covers clip) (dress l.style) ++ (block_layers_if l.block clip ++ ls)) (content_stays l (inner_of l.block clip) s)
+pub redraw_keeps_strokes : RedrawKeepsStrokes
+redraw_keeps_strokes l s clip = ap (λ ls. stroke (covers clip) (set_style l.style) ++ (block_layers_if l.block clip ++ ls)) (content_stays l (inner_of l.block clip) s)
 
 dressed_inside : (o : Option BlockData) (style : Style) (ms : List Layer) (clip : Rect) (x y : ℕ) (cell : Look) → clip.x + clip.width ≤ 65535 → clip.y + clip.height ≤ 65535
     → covers (inner_of o clip) x y ≡ true
-    → layers_at (stroke (covers clip) (dress style) ++ (block_layers_if o clip ++ ms)) x y cell ≡ layers_at ms x y (under_items o style cell)
-dressed_inside None style ms clip x y cell wide high e = ap (λ (r : Bool). layers_at ms x y (if r then dressed style cell else cell)) e
+    → layers_at (stroke (covers clip) (set_style style) ++ (block_layers_if o clip ++ ms)) x y cell ≡ layers_at ms x y (under_items o style cell)
+dressed_inside None style ms clip x y cell wide high e = ap (λ (r : Bool). layers_at ms x y (if r then restyled style cell else cell)) e
 dressed_inside (Some b) style ms clip x y cell wide high e =
-    ap (λ (r : Bool). layers_at (block_layers b clip ++ ms) x y (if r then dressed style cell else cell)) (in_clip b clip x y e)
-    ∙ (layers_at-append (block_layers b clip) ms x y (dressed style cell) ∙ ap (layers_at ms x y) (inside b clip x y (dressed style cell) wide high e))
+    ap (λ (r : Bool). layers_at (block_layers b clip ++ ms) x y (if r then restyled style cell else cell)) (in_clip b clip x y e)
+    ∙ (layers_at-append (block_layers b clip) ms x y (restyled style cell) ∙ ap (layers_at ms x y) (inside b clip x y (restyled style cell) wide high e))
 
-pub inside_is_dressed : InsideIsDressed
-inside_is_dressed l s clip x y cell wide high e = dressed_inside l.block l.style (content_layers l (inner_of l.block clip) s) clip x y cell wide high e
+pub items_are_over_styles : ItemsAreOverStyles
+items_are_over_styles l s clip x y cell wide high e = dressed_inside l.block l.style (content_layers l (inner_of l.block clip) s) clip x y cell wide high e

@@ -10,10 +10,10 @@ use Rattle.tui_lists.specs.Orientation.{along}
 use Rattle.tui_lists.specs.Scrollbar.{ScrollbarData}
 use Rattle.tui_lists.specs.ScrollbarStrokes.{bar_layers, places, run_layers, sign_layers}
 use Rattle.tui_lists.specs.declared.scrollbar.orientation.ScrollbarOrientation.{ScrollbarOrientation}
-use Rattle.tui_lists.specs.declared.scrollbar.parts.Parts.{Parts}
+use Rattle.tui_lists.specs.declared.scrollbar.parts.TrackParts.{TrackParts}
 use Rattle.tui_text.proofs.Elements.{on_ok}
 
--- one more place
+-- one more cell
 pub run_more : (o : ScrollbarOrientation) (clip : Rect) (symbol : Option (List ℕ)) (style : Style) (first i n : ℕ) (at : Position) (a b c : Screen) → i < n →
     at ≡ along o clip (first + i) → Painted (sign_layers clip at symbol style) a b →
     Painted (run_layers o clip symbol style (first + (i + 1)) (n - (i + 1))) b c → Painted (run_layers o clip symbol style (first + i) (n - i)) a c
@@ -29,7 +29,7 @@ unfolding run_layers
 run_done o clip symbol style i first n a le = let e : n - i ≡ 0 = omega arith in rw e (Painted-none a)
 
 -- the five runs are the bar
-pub bar_painted : {T E : Type 0} (result : Result T E) (s : ScrollbarData) (clip : Rect) (p : Parts) (start last : ℕ) (a b c d e f : Screen) →
+pub bar_painted : {T E : Type 0} (result : Result T E) (s : ScrollbarData) (clip : Rect) (p : TrackParts) (start last : ℕ) (a b c d e f : Screen) →
     start ≡ places s.begin → last ≡ places s.end →
     Painted (run_layers s.orientation clip s.begin s.begin_style 0 start) a b →
     Painted (run_layers s.orientation clip s.track s.track_style start p.start) b c →

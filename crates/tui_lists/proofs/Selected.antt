@@ -1,4 +1,4 @@
--- What a comparison with the selected place answers.
+-- The result of a comparison with the selected index.
 use Rattle.std.proofs.Common.{◌≡◌, ℕ, ◌==◌, Option, None, Some, refl}
 use Rattle.std.specs.Option.{option_eq}
 use Rattle.tui_lists.specs.Selection.{is_at}

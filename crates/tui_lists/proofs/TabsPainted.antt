@@ -6,7 +6,7 @@ use Rattle.std.proofs.lemmas.Bool.Decides.{nat_tests}
 use Rattle.tui_cells.specs.declared.position.Position.{Position}
 use Rattle.tui_cells.specs.declared.rect.Rect.{Rect}
 use Rattle.tui_cells.specs.Buffer.{Screen}
-use Rattle.tui_cells.specs.Cell.{dress}
+use Rattle.tui_cells.specs.Cell.{set_style}
 use Rattle.tui_cells.specs.Rect.{covers, right_of}
 use Rattle.tui_cells.specs.Layers.{Painted, stroke}
 use Rattle.tui_cells.proofs.Painting.{Painted-none, Painted-still, Painted-then}
@@ -19,7 +19,7 @@ use Rattle.tui_text.specs.Span.{SpanData}
 use Rattle.tui_text.proofs.Elements.{if_ok, on_ok}
 use Rattle.tui_clusters.specs.Width.{saturated}
 
--- a product that is cut at the end, of a factor that was cut before
+-- saturating a factor first makes no difference to a product that is saturated
 pub saturated_product : (n d : ℕ) → saturated (n * saturated d) ≡ saturated (n * d)
 saturated_product n d = elim (cases_lt d (2 ^ 64)) [
   | inl small ↦ let e : saturated d ≡ d = omega arith in rw e refl
@@ -47,13 +47,13 @@ pub titles_done : (t : TabsData) (inner : Rect) (i x : ℕ) (titles : List LineD
 unfolding titles_layers
 titles_done t inner i x titles a e = rw e (Painted-none a)
 
--- the strokes of one title, and where it ends
+-- the strokes of one title, and the column where it ends
 pub tab_painted : {T E : Type 0} (result : Result T E) (t : TabsData) (inner : Rect) (x : ℕ) (is_selected : Bool) (title : LineData) (start end : ℕ) (used : Rect)
     (a b c d e : Screen) → start ≡ title_start t inner x → end ≡ set_column inner (in_first_row inner start) (line_spans title) inner.width →
     used ≡ used_columns inner start end →
     Painted (set_layers inner (in_first_row inner x) (line_spans t.padding_left) inner.width) a b →
     Painted (set_layers inner (in_first_row inner start) (line_spans title) inner.width) b c →
-    Painted (if is_selected then stroke (covers used) (dress t.highlight_style) else []) c d →
+    Painted (if is_selected then stroke (covers used) (set_style t.highlight_style) else []) c d →
     OnOk result (Painted (set_layers inner (in_first_row inner end) (line_spans t.padding_right) inner.width) d e) →
     OnOk result (Painted (tab_layers t inner x is_selected title) a e)
 unfolding tab_layers
@@ -126,7 +126,7 @@ divider_still : (t : TabsData) (inner : Rect) (x i : ℕ) (b : Screen) → right
 unfolding divider_layers
 divider_still t inner x i b le = divider_still_by t inner x (i == 0) b le
 
--- where no column is left, the titles that are left change nothing
+-- if no column is left, the remaining titles change nothing
 pub titles_past : (t : TabsData) (inner : Rect) (i x : ℕ) (titles : List LineData) (b : Screen) → right_of inner ≤ x →
     Painted (titles_layers t inner i x titles) b b
 unfolding titles_layers

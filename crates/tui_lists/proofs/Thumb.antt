@@ -1,15 +1,15 @@
--- The laws of a scrollbar's parts.
+-- The laws of the parts of a scrollbar's track.
 use Rattle.std.proofs.Common.{◌≡◌, ℕ, ◌+◌, ◌-◌, ◌*◌, ◌/◌, ◌<◌, ◌≤◌, min, inl, inr, refl, ◌∙◌, ap, arith}
 use Rattle.std.proofs.Math.Nat.{add-mul, div-mul-le_self, lt-div-mul-add, mul-le-mul_right, le-div_iff_mul-le}
 use Rattle.std.proofs.lemmas.Bool.{cases_lt}
 use Rattle.std.proofs.lemmas.Bool.Decides.{nat_tests}
-use Rattle.tui_lists.specs.Parts.{ThumbFollows, ThumbLaws, parts_of, rounded, start_of, thumb_of, viewport_in}
+use Rattle.tui_lists.specs.TrackParts.{ThumbFollows, ThumbLaws, parts_of, rounded, start_of, thumb_of, viewport_in}
 
--- twice a half is the whole, or one less
+-- half of b, rounded down and doubled, is b or one less
 halves : (b : ℕ) → (b / 2 * 2 ≤ b) × (b < b / 2 * 2 + 2)
 halves b = (div-mul-le_self b 2, lt-div-mul-add (omega arith))
 
--- a quotient does not fall as the dividend grows
+-- a quotient does not decrease as the dividend grows
 pub div_grows : (a c b : ℕ) → 0 < b → a ≤ c → a / b ≤ c / b
 div_grows a c b some le = let h : a / b * b ≤ c = omega (arith, div-mul-le_self a b) in (le-div_iff_mul-le {k = b} {x = a / b} {y = c} some).1 h
 
@@ -25,7 +25,7 @@ rounded_none b some =
       | inr le ↦ omega arith
     ]
 
--- two rounded parts of t wholes are at least t together
+-- if two dividends add up to t times the divisor, their rounded quotients add up to at least t
 rounded_whole : (x y d t : ℕ) → 0 < d → x + y ≡ t * d → t ≤ rounded x d + rounded y d
 rounded_whole x y d t some e =
     let p = rounded x d in

@@ -5,7 +5,7 @@ pub mod ListItem
 pub mod Items
 pub mod List
 pub mod ListStrokes
-pub mod ListSettles
+pub mod ListIdempotence
 pub mod ListStays
 pub mod ListDrawing
 pub mod Tabs
@@ -14,7 +14,7 @@ pub mod TabsDrawing
 pub mod ScrollDirection
 pub mod Orientation
 pub mod ScrollbarState
-pub mod Parts
+pub mod TrackParts
 pub mod Scrollbar
 pub mod ScrollbarStrokes
 pub mod Laws

@@ -1,4 +1,4 @@
--- A list as plain data, and how a drawing moves its state.
+-- A list as plain data, and the state that a drawing leaves.
 use Rattle.std.specs.Prelude.{◌≡◌, ℕ, ◌<◌, ◌≤◌, ◌==◌, Bool, true, false, List, length, slice_index, Option, None, Some, option_map, if◌then◌else◌}
 use Rattle.tui_cells.specs.declared.rect.Rect.{Rect}
 use Rattle.tui_cells.specs.declared.style.Style.{Style}
@@ -13,7 +13,7 @@ use Rattle.tui_layout.specs.declared.highlight_spacing.HighlightSpacing.TheVaria
 use Rattle.tui_layout.specs.declared.window.Window.{Window}
 use Rattle.tui_lists.specs.Items.{items_data}
 use Rattle.tui_lists.specs.ListItem.{ListItemData, heights_of}
-use Rattle.tui_lists.specs.ListState.{at_rest}
+use Rattle.tui_lists.specs.ListState.{default_state}
 use Rattle.tui_lists.specs.declared.direction.ListDirection.{ListDirection}
 use Rattle.tui_lists.specs.declared.direction.ListDirection.TheVariants.{TopToBottom}
 use Rattle.tui_lists.specs.declared.list.List as widget
@@ -46,7 +46,7 @@ list_data l = record {
   padding = l.scroll_padding;
 }
 
--- a list of items and nothing else
+-- a list of items with default settings
 abbrev pub list_of : List ListItemData → ListData
 list_of items = record {
   block = None;
@@ -60,7 +60,7 @@ list_of items = record {
   padding = 0;
 }
 
--- the items that are shown in this many rows
+-- the window of items that are shown in this many rows
 abbrev pub list_window : ListData → ℕ → ListState → Window
 list_window l room s = window_of (heights_of l.items) room s.offset s.selected l.padding
 
@@ -70,9 +70,9 @@ list_moved l room s = record { offset = (list_window l room s).first; selected =
 
 -- the state after a drawing of the items in an area
 unfoldable pub list_after : ListData → Rect → ListState → ListState
-list_after l inner s = if is_empty inner then s else (if length l.items == 0 then at_rest else list_moved l inner.height s)
+list_after l inner s = if is_empty inner then s else (if length l.items == 0 then default_state else list_moved l inner.height s)
 
--- an item is among those from an offset on that fit together
+-- an item is among those from the offset on that fit together
 pub record IsSeen (heights : List ℕ) (room offset place : ℕ) : Type 0 where
   pub last : ℕ
   pub from_offset : offset ≤ place
@@ -80,11 +80,12 @@ pub record IsSeen (heights : List ℕ) (room offset place : ℕ) : Type 0 where
   pub within : last ≤ length heights
   pub fits : total heights offset last ≤ room
 
--- What a user relies on. Over an empty area the state stays; without items nothing is selected, and the offset is 0; else the
--- selection is cut to the last item, and the offset moves least to show it with its padding, so that a selected item that fits is seen.
+-- What a user can rely on. If the area is empty, the state is unchanged. If there are no items, nothing is selected and
+-- the offset is 0. Otherwise the selection is at most the last item, and the offset moves as little as possible to show
+-- it with its padding. So a selected item that fits is shown.
 pub record ListMoves (l : ListData) (inner : Rect) (old new : ListState) : Type 0 where
   pub stays : is_empty inner ≡ true → new ≡ old
-  pub none : is_empty inner ≡ false → length l.items ≡ 0 → new ≡ at_rest
+  pub none : is_empty inner ≡ false → length l.items ≡ 0 → new ≡ default_state
   pub selected : is_empty inner ≡ false → 0 < length l.items → new.selected ≡ cut_selection (heights_of l.items) old.selected
   pub least : is_empty inner ≡ false → 0 < length l.items →
       IsFirst (heights_of l.items) inner.height old.offset new.selected l.padding new.offset

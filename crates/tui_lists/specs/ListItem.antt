@@ -13,7 +13,7 @@ pub record ListItemData : Type 0 where
 abbrev pub list_item_data : ListItem → ListItemData
 list_item_data i = record { content = text_data i.content; style = i.style }
 
--- a row for each line
+-- an item has a row for each line
 abbrev pub item_height : ListItemData → ℕ
 item_height i = length i.content.lines
 

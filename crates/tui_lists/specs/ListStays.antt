@@ -1,4 +1,4 @@
--- Laws that the drawing of a list carries: its strokes stay in its footprint.
+-- Laws of drawing a list: its strokes stay in its footprint.
 use Rattle.std.specs.Prelude.{
   ℕ,
   zero,
@@ -25,7 +25,7 @@ use Rattle.std.specs.Prelude.{
   if◌then◌else◌,
 }
 use Rattle.tui_cells.specs.declared.rect.Rect.{Rect}
-use Rattle.tui_cells.specs.Cell.{dress, put, space}
+use Rattle.tui_cells.specs.Cell.{set_style, write, space}
 use Rattle.tui_cells.specs.Layers.{Layer, StayIn}
 use Rattle.tui_cells.specs.Rect.{columns_from, covers, rows_from}
 use Rattle.tui_cells.specs.Stays.{StayIn-append, StayIn-none, StayIn-over}
@@ -44,11 +44,11 @@ use Rattle.tui_text.specs.Line.{LineData}
 use Rattle.tui_text.specs.declared.alignment.Alignment.TheVariants.{Left}
 use Rattle.tui_text.proofs.RowStays.{row_stays, text_stays}
 
--- what stays in a part of the rows, or of the columns, stays in the whole
+-- strokes that stay in some rows of an area stay in the area
 pub in_rows : (area : Rect) (from count : ℕ) {ls : List Layer} → StayIn (covers (rows_from area from count)) ls → StayIn (covers area) ls
 in_rows area from count s = StayIn-wider (λ x y out. rows_out area from count x y out) s
 
--- likewise for columns
+-- likewise for some columns
 pub in_columns : (area : Rect) (from count : ℕ) {ls : List Layer} → StayIn (covers (columns_from area from count)) ls → StayIn (covers area) ls
 in_columns area from count s = StayIn-wider (λ x y out. columns_out area from count x y out) s
 
@@ -58,7 +58,7 @@ symbol_stays (Some symbol) row = row_stays row (unwrap_or symbol.alignment Left)
 
 mark_stays : (l : ListData) (is_marked : Bool) (row : Rect) → StayIn (covers row) (mark_layers l is_marked row)
 mark_stays l true row = symbol_stays l.symbol row
-mark_stays l false row = StayIn-over (covers row) (put space ∷ dress no_style ∷ [])
+mark_stays l false row = StayIn-over (covers row) (write space ∷ set_style no_style ∷ [])
 
 -- the symbols beside an item stay in their columns
 pub gutter_stays : (l : ListData) (is_selected : Bool) (gutter : Rect) (j n : ℕ) → StayIn (covers gutter) (gutter_layers l is_selected gutter j n)
@@ -96,12 +96,12 @@ part_stays l inner s false =
     let w = list_window l inner.height s in
     items_stay l inner (cut_selection (heights_of l.items) s.selected) w.first 0 (max (w.end - w.first) 1) (drop w.first l.items)
 
--- what stands inside the block stays there
+-- what is inside the block stays there
 pub content_stays : (l : ListData) (inner : Rect) (s : ListState) → StayIn (covers inner) (content_layers l inner s)
 unfolding content_layers
 content_stays l inner s = part_stays l inner s (length l.items == 0)
 
--- a list changes cells of its footprint alone
+-- a list changes only cells of its footprint
 pub list_stays : (l : ListData) (s : ListState) (clip : Rect) → StayIn (footprint_if l.block clip) (list_layers l s clip)
 list_stays l s clip =
     StayIn-append (clip_stays l.block clip (dress_stays clip l.style))

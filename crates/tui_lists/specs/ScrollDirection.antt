@@ -1,4 +1,4 @@
--- The names of ways of scrolling.
+-- The names of the directions of scrolling.
 use Rattle.std.specs.Prelude.{ℕ, List, codes}
 use Rattle.tui_lists.specs.declared.scrollbar.direction.ScrollDirection.{ScrollDirection}
 use Rattle.tui_lists.specs.declared.scrollbar.direction.ScrollDirection.TheVariants.{Forward, Backward}

@@ -34,7 +34,7 @@ scrollbar_data s = record {
   end_style = s.end_style;
 }
 
--- the symbols of a set; a track or an end that is left out stays so
+-- the symbols of a set; a track or an end without a symbol stays without one
 abbrev pub with_symbols : ScrollbarData → symbols.ScrollbarData → ScrollbarData
 with_symbols s set = record s {
   thumb = set.thumb;

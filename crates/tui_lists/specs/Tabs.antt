@@ -1,4 +1,4 @@
--- Tabs as plain data, and their columns.
+-- Tabs as plain data, and their width.
 use Rattle.std.specs.Prelude.{ℕ, ◌+◌, ◌-◌, ◌*◌, ◌==◌, min, Bool, List, length, map, Option, None, Some, option_map, unwrap_or, sum_by, if◌then◌else◌}
 use Rattle.tui_cells.specs.declared.style.Style.{Style}
 use Rattle.tui_cells.specs.Cell.{space}
@@ -34,15 +34,16 @@ tabs_data t = record {
   divider = span_data t.divider;
 }
 
--- among no titles none is selected; else the one that was, at most the last, or the first where none was
+-- Which of `count` titles is selected: none if there are none, else the one that was selected, at most the last, or the
+-- first if none was.
 abbrev pub selected_in : ℕ → Option ℕ → Option ℕ
 selected_in count selected = if count == 0 then None else Some (min (unwrap_or selected 0) (count - 1))
 
--- the style that turns the colours round
+-- the style that swaps foreground and background
 abbrev pub reversed : Style
 reversed = record no_style { add_modifier = record { bits = 64 } }
 
--- titles with a blank on each side and a line between two, the first one selected and reversed
+-- titles with a space on each side and a line between two, the first one selected and reversed
 abbrev pub tabs_of : List LineData → TabsData
 tabs_of titles = record {
   block = None;
@@ -55,10 +56,10 @@ tabs_of titles = record {
   divider = raw_span (utf8 "│");
 }
 
--- the columns of a title with its paddings
+-- the width of a title with its paddings, in columns
 abbrev pub tab_width : Bool → TabsData → LineData → ℕ
 tab_width cjk t title = line_width cjk t.padding_left + line_width cjk title + line_width cjk t.padding_right
 
--- all titles with their paddings, and a divider between two
+-- the width of all titles with their paddings, and of the dividers between them
 abbrev pub tabs_width : Bool → TabsData → ℕ
 tabs_width cjk t = sum_by (tab_width cjk t) t.titles + (length t.titles - 1) * span_width cjk t.divider

@@ -1,10 +1,10 @@
--- The strokes of tabs; at the end the law that they stay in their footprint. Where no column is left, nothing more is set,
--- since no text is set outside the area.
+-- The strokes of tabs; at the end, the law that they stay in their footprint. If no column is left, nothing more is
+-- set, since no text is set outside the area.
 use Rattle.std.specs.Prelude.{ℕ, ◌+◌, ◌-◌, ◌==◌, Bool, true, false, List, [], ◌∷◌, ◌++◌, if◌then◌else◌}
 use Rattle.tui_cells.specs.declared.position.Position.{Position}
 use Rattle.tui_cells.specs.declared.rect.Rect.{Rect}
 use Rattle.tui_cells.specs.declared.style.Style.{Style}
-use Rattle.tui_cells.specs.Cell.{dress}
+use Rattle.tui_cells.specs.Cell.{set_style}
 use Rattle.tui_cells.specs.Layers.{Layer, StayIn, stroke}
 use Rattle.tui_cells.specs.Rect.{covers, intersection_of}
 use Rattle.tui_cells.specs.Stays.{StayIn-append, StayIn-none}
@@ -23,19 +23,19 @@ use Rattle.tui_text.proofs.SetStays.{set_stays}
 abbrev pub in_first_row : Rect → ℕ → Position
 in_first_row inner x = record { x = x; y = inner.y }
 
--- the columns of the first row from one up to another
+-- the columns `start..end` of the first row
 abbrev pub used_columns : Rect → ℕ → ℕ → Rect
 used_columns inner start end = intersection_of inner (cells_at start inner.y (end - start))
 
--- the column where a title begins whose left padding begins at column x
+-- the column where a title begins if its left padding begins at column x
 abbrev pub title_start : TabsData → Rect → ℕ → ℕ
 title_start t inner x = set_column inner (in_first_row inner x) (line_spans t.padding_left) inner.width
 
--- the column behind the title
+-- the column after the title
 abbrev pub title_end : TabsData → Rect → ℕ → LineData → ℕ
 title_end t inner x title = set_column inner (in_first_row inner (title_start t inner x)) (line_spans title) inner.width
 
--- the column behind the padding at its right
+-- the column after the padding at its right
 unfoldable pub tab_end : TabsData → Rect → ℕ → LineData → ℕ
 tab_end t inner x title = set_column inner (in_first_row inner (title_end t inner x title)) (line_spans t.padding_right) inner.width
 
@@ -46,18 +46,18 @@ tab_layers t inner x is_selected title =
     let end = title_end t inner x title in
     set_layers inner (in_first_row inner x) (line_spans t.padding_left) inner.width
     ++ (set_layers inner (in_first_row inner start) (line_spans title) inner.width
-    ++ ((if is_selected then stroke (covers (used_columns inner start end)) (dress t.highlight_style) else [])
+    ++ ((if is_selected then stroke (covers (used_columns inner start end)) (set_style t.highlight_style) else [])
     ++ set_layers inner (in_first_row inner end) (line_spans t.padding_right) inner.width))
 
--- the divider before title i, which the first one has not
+-- the divider before title i; the first title has none
 unfoldable pub divider_layers : TabsData → Rect → ℕ → ℕ → List Layer
 divider_layers t inner x i = if i == 0 then [] else set_layers inner (in_first_row inner x) (t.divider ∷ []) inner.width
 
--- the column behind the divider, which stands before all tabs but the first
+-- the column after the divider before title i
 unfoldable pub divider_end : TabsData → Rect → ℕ → ℕ → ℕ
 divider_end t inner x i = if i == 0 then x else set_column inner (in_first_row inner x) (t.divider ∷ []) inner.width
 
--- the titles from title i on, from column x on
+-- the titles from title i on, beginning at column x
 unfoldable pub titles_layers : TabsData → Rect → ℕ → ℕ → List LineData → List Layer
 titles_layers t inner i x [] = []
 titles_layers t inner i x (title ∷ titles) =
@@ -69,10 +69,10 @@ titles_layers t inner i x (title ∷ titles) =
 abbrev pub tabs_layers : TabsData → Rect → List Layer
 tabs_layers t clip =
     let inner = inner_of t.block clip in
-    stroke (covers clip) (dress t.style) ++ (block_layers_if t.block clip ++ titles_layers t inner 0 inner.x t.titles)
+    stroke (covers clip) (set_style t.style) ++ (block_layers_if t.block clip ++ titles_layers t inner 0 inner.x t.titles)
 
 used_stays : (inner : Rect) (start end : ℕ) (style : Style) (is_selected : Bool) →
-    StayIn (covers inner) (if is_selected then stroke (covers (used_columns inner start end)) (dress style) else [])
+    StayIn (covers inner) (if is_selected then stroke (covers (used_columns inner start end)) (set_style style) else [])
 used_stays inner start end style is_selected =
     StayIn-wider
     (λ x y out. outside_both inner (cells_at start inner.y (end - start)) x y out)
@@ -107,7 +107,7 @@ titles_stay t inner i x (title ∷ titles) =
     StayIn-append (divider_stays t inner x i)
     (StayIn-append (tab_stays t inner start (is_at t.selected i) title) (titles_stay t inner (i + 1) (tab_end t inner start title) titles))
 
--- tabs change cells of their footprint alone
+-- tabs change only cells of their footprint
 pub tabs_stay : (t : TabsData) (clip : Rect) → StayIn (footprint_if t.block clip) (tabs_layers t clip)
 tabs_stay t clip =
     let inner = inner_of t.block clip in

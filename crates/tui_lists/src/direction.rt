@@ -1,4 +1,4 @@
-//! Where the items of a list begin.
+//! The edge at which the items of a list begin.
 
 ghost use Rattle.std.specs.Prelude.{◌≡◌};
 
@@ -6,13 +6,13 @@ use std::fmt;
 use std::str::FromStr;
 use tui_cells::ParseError;
 
-/// The edge from which the items of a list follow one another. The lines of one item go downwards in both. `Display` writes the
+/// The edge at which the items of a list begin. The lines of one item go downwards in both cases. `Display` writes the
 /// variant's name, and `FromStr` reads it.
 #[derive(Clone, Copy, Debug, PartialEq, Eq, Hash)]
 pub enum ListDirection {
-    /// From the first row on downwards.
+    /// From the first row downwards.
     TopToBottom,
-    /// From the last row on upwards.
+    /// From the last row upwards.
     BottomToTop,
 }
 
@@ -47,7 +47,7 @@ impl FromStr for ListDirection {
 
     ghost from_str_gives = { IsParsed name_of };
 
-    /// Answers `VariantNotFound` exactly where the text is no variant's name.
+    /// Fails with `VariantNotFound` exactly if the text is no variant's name.
     fn from_str(text: &str) -> Result<ListDirection, ParseError> {
         match text {
             "TopToBottom" => Ok(ListDirection::TopToBottom),

@@ -1,20 +1,22 @@
-//! What holds of all lists and scrollbars.
+//! Laws of all lists and scrollbars.
 
-ghost use Rattle.tui_lists.specs.Laws.{InsideIsDressed, SelectedIsShown, StrokesStay};
-ghost use Rattle.tui_lists.specs.Parts.{ThumbLaws};
+ghost use Rattle.tui_lists.specs.Laws.{ItemsAreOverStyles, SelectedIsShown, RedrawKeepsStrokes};
+ghost use Rattle.tui_lists.specs.TrackParts.{ThumbLaws};
 
-/// What holds of every list. A selected item that fits is among the items that are drawn, and these fit together. A second
-/// drawing in the same area has the same strokes, as its state stays. And inside a block, in a clip whose far edges are at
-/// most 65535, the items are drawn over the old cells with the list's style and the block's style set on them, and nothing
-/// else stands there.
+/// Laws of every list. If the selected item fits, it is among the items that are drawn, and these fit together. A
+/// second drawing in the same area has the same strokes, since the state stays the same.
+///
+/// Inside a block, the items are drawn over the old cells, on which the list's style and the block's style are set.
+/// Nothing else is drawn there. This holds in a clip whose far edges are at most 65535.
 pub fn list_laws()
     ensures selected { SelectedIsShown }
-    ensures again { StrokesStay }
-    ensures inside { InsideIsDressed }
+    ensures again { RedrawKeepsStrokes }
+    ensures inside { ItemsAreOverStyles }
 {}
 
-/// What holds of the parts of every scrollbar's track, for all numbers: they make up the track, the thumb has at least one place,
-/// it follows the position, stands at the beginning at position 0 and at the end from the last position on.
+/// Laws of the parts of every scrollbar's track, for all numbers. The parts add up to the track. The thumb takes at
+/// least one cell and follows the position. It is at the beginning at position 0, and at the end from the last position
+/// on.
 pub fn thumb_laws()
     ensures { ThumbLaws }
 {}

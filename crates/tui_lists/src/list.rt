@@ -20,8 +20,8 @@ use tui_frames::{Block, clone_if_some};
 use tui_layout::HighlightSpacing;
 use tui_text::Line;
 
-/// Items one below the other, of which one may be selected. What a drawing begins with, and what it leaves for the next one, is
-/// kept in a `ListState`: the list scrolls as far as it has to for the selected item to be seen, and no further.
+/// Items one below the other, one of which may be selected. A `ListState` holds where a drawing begins and what it
+/// leaves for the next one. The list scrolls only as far as needed to show the selected item.
 #[derive(Debug, PartialEq, Eq, Hash)]
 pub struct List<'a> {
     block: Option<Block<'a>>,
@@ -35,7 +35,7 @@ pub struct List<'a> {
     scroll_padding: usize,
 }
 
-// Written out, so that a crate above proves nothing of what it holds to let it go.
+// Written out, so that dependent crates have nothing to prove about its fields when they drop it.
 impl<'a> Drop for List<'a> {
     fn drop(self) {
         let List {
@@ -53,8 +53,8 @@ impl<'a> Drop for List<'a> {
 }
 
 impl<'a> List<'a> {
-    /// A list of these items from the top downwards, without a block, styles and a highlight symbol. `NoMemory` where there is none
-    /// for the sums of the items' heights.
+    /// Creates a list of these items from the top downwards, without a block, styles or a highlight symbol. Fails with
+    /// `NoMemory` if there is no memory for the sums of the items' heights.
     pub fn new(alloc: Global, items: Vec<ListItem<'a>>) -> Mem<List<'a>>
         ensures { IfOk result (λ list. list_data list ≡ list_of (map list_item_data items.entry.items)) }
     {
@@ -71,7 +71,7 @@ impl<'a> List<'a> {
         })
     }
 
-    /// Puts these items in place of the old ones. At `NoMemory` the list is as before, and the new items are gone.
+    /// Replaces the items. If it fails with `NoMemory`, the list is unchanged and the new items are dropped.
     pub fn items(&mut self, items: Vec<ListItem<'a>>) -> Mem<()>
         ensures ok { OnOk result (list_data self.new ≡ record (list_data self.old) { items = map list_item_data items.entry.items }) }
         ensures err { OnErr result (list_data self.new ≡ list_data self.old) }
@@ -81,7 +81,7 @@ impl<'a> List<'a> {
         Ok(())
     }
 
-    /// Puts a block around the items, which then have the area inside.
+    /// Surrounds the list with a block. The items are drawn inside it.
     pub fn block(mut self, block: Block<'a>) -> List<'a>
         ensures { list_data result ≡ record (list_data self.entry) { block = Some (block_data block.entry) } }
     {
@@ -89,7 +89,7 @@ impl<'a> List<'a> {
         self
     }
 
-    /// Sets the style under all.
+    /// Sets the base style of the whole list.
     pub fn style(mut self, style: Style) -> List<'a>
         ensures { list_data result ≡ record (list_data self.entry) { style = style } }
     {
@@ -97,7 +97,8 @@ impl<'a> List<'a> {
         self
     }
 
-    /// Sets what stands at the left of the selected item, by the line's alignment, else at the left of its columns.
+    /// Sets the symbol at the left of the selected item. The line's own alignment places it in its columns, else it is
+    /// at their left.
     pub fn highlight_symbol(mut self, symbol: Line<'a>) -> List<'a>
         ensures { list_data result ≡ record (list_data self.entry) { symbol = Some (line_data symbol.entry) } }
     {
@@ -105,7 +106,7 @@ impl<'a> List<'a> {
         self
     }
 
-    /// Sets the style over the rows of the selected item.
+    /// Sets the style that is drawn over the rows of the selected item.
     pub fn highlight_style(mut self, style: Style) -> List<'a>
         ensures { list_data result ≡ record (list_data self.entry) { highlight_style = style } }
     {
@@ -113,7 +114,7 @@ impl<'a> List<'a> {
         self
     }
 
-    /// Sets whether the symbol stands in each row of the selected item, and not in its first row alone.
+    /// Sets whether the symbol is drawn in each row of the selected item, or only in its first row.
     pub fn repeat_highlight_symbol(mut self, repeat: bool) -> List<'a>
         ensures { list_data result ≡ record (list_data self.entry) { repeats = repeat } }
     {
@@ -121,7 +122,7 @@ impl<'a> List<'a> {
         self
     }
 
-    /// Sets when the columns of the symbol are kept free.
+    /// Sets when the columns of the symbol are reserved.
     pub fn highlight_spacing(mut self, spacing: HighlightSpacing) -> List<'a>
         ensures { list_data result ≡ record (list_data self.entry) { spacing = spacing } }
     {
@@ -129,7 +130,7 @@ impl<'a> List<'a> {
         self
     }
 
-    /// Sets the edge from which the items follow one another.
+    /// Sets the edge at which the items begin.
     pub fn direction(mut self, direction: ListDirection) -> List<'a>
         ensures { list_data result ≡ record (list_data self.entry) { direction = direction } }
     {
@@ -137,7 +138,7 @@ impl<'a> List<'a> {
         self
     }
 
-    /// Sets how many items are to be seen on each side of the selected one, as far as there are that many and they fit.
+    /// Sets how many items are kept visible on each side of the selected one, as far as they exist and fit.
     pub fn scroll_padding(mut self, padding: usize) -> List<'a>
         ensures { list_data result ≡ record (list_data self.entry) { padding = padding } }
     {
@@ -145,7 +146,7 @@ impl<'a> List<'a> {
         self
     }
 
-    /// The number of items.
+    /// Returns the number of items.
     pub fn len(&self) -> usize
         ensures { result ≡ length (list_data self.now).items }
     {
@@ -159,7 +160,8 @@ impl<'a> List<'a> {
         self.items.len() == 0
     }
 
-    /// An equal list of its own. `NoMemory` where there is none for the items, or for the titles of the block.
+    /// Returns an equal list. Fails with `NoMemory` if there is no memory for the items, the highlight symbol or the
+    /// titles of the block.
     pub fn clone(&self) -> Mem<List<'a>>
         ensures is { IfOk result (λ list. list_data list ≡ list_data self.now) }
         ensures equal { IfOk result (λ list. ⟦<List<'a> as PartialEq>⟧.eq list self.now ≡ true) }

@@ -15,8 +15,8 @@ pub mod state;
 use crate::scrollbar::orientation::ScrollbarOrientation;
 use tui_cells::{Style, scrollbar};
 
-/// A bar at a side of its area, with a thumb on a track that shows which part of a content is seen, and a symbol at each end.
-/// The track and the symbols at the ends may be left out.
+/// A bar at one side of its area. A thumb on a track shows which part of the content is visible, and there is a symbol
+/// at each end. The track and the symbols at the ends may be left out.
 #[derive(Clone, Copy, Debug, PartialEq, Eq, Hash)]
 pub struct Scrollbar<'a> {
     orientation: ScrollbarOrientation,
@@ -40,7 +40,7 @@ impl<'a> Default for Scrollbar<'a> {
 }
 
 impl<'a> Scrollbar<'a> {
-    /// A bar at a side, with the symbols of double lines and arrows, and without styles.
+    /// Creates a bar at this side, with the symbols of double lines and arrows, and without styles.
     pub fn new(orientation: ScrollbarOrientation) -> Scrollbar<'a>
         ensures { scrollbar_data result ≡ scrollbar_of orientation }
     {
@@ -58,7 +58,7 @@ impl<'a> Scrollbar<'a> {
         }
     }
 
-    /// Sets the side, and then the symbols to those of double lines and arrows, as `symbols` does.
+    /// Sets the side, and then sets the symbols of double lines and arrows as `symbols` does.
     pub fn orientation(self, orientation: ScrollbarOrientation) -> Scrollbar<'a>
         ensures { scrollbar_data result
             ≡ with_symbols (record (scrollbar_data self.entry) { orientation = orientation }) (double_symbols orientation) }
@@ -66,7 +66,7 @@ impl<'a> Scrollbar<'a> {
         self.orientation_and_symbol(orientation, orientation.double_set())
     }
 
-    /// Sets the side, and then the symbols as `symbols` does.
+    /// Sets the side, and then sets the symbols as `symbols` does.
     pub fn orientation_and_symbol(
         self,
         orientation: ScrollbarOrientation,
@@ -75,14 +75,14 @@ impl<'a> Scrollbar<'a> {
         ensures { scrollbar_data result
             ≡ with_symbols (record (scrollbar_data self.entry) { orientation = orientation }) (symbol_data set.entry) }
     {
-        let turned = Scrollbar {
+        let oriented = Scrollbar {
             orientation,
             ..self
         };
-        turned.symbols(set)
+        oriented.symbols(set)
     }
 
-    /// Sets the symbols of the thumb, of the track and of the ends; a track or an end that is left out stays so.
+    /// Sets the symbols of the thumb, the track and the ends. A track or an end without a symbol stays without one.
     pub fn symbols(self, set: scrollbar::Set<'a>) -> Scrollbar<'a>
         ensures { scrollbar_data result ≡ with_symbols (scrollbar_data self.entry) (symbol_data set.entry) }
     {
@@ -194,7 +194,7 @@ impl<'a> Scrollbar<'a> {
     }
 }
 
-/// The new symbol where there was one.
+/// Returns the new symbol if there was one before.
 fn replaced<'a>(old: Option<&'a str>, new: &'a str) -> Option<&'a str>
     ensures { option_copied result ≡ option_map (λ _. new.now) (option_copied old.entry) }
 {

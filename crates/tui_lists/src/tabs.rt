@@ -16,7 +16,7 @@ use tui_cells::{Mem, Modifier, Style, Styled, line};
 use tui_frames::{Block, clone_if_some};
 use tui_text::{Line, Span};
 
-/// Titles side by side in one row, of which one may be selected, with a divider between two.
+/// Titles side by side in one row, with dividers between them. One title may be selected.
 #[derive(Debug, PartialEq, Eq, Hash)]
 pub struct Tabs<'a> {
     block: Option<Block<'a>>,
@@ -29,7 +29,7 @@ pub struct Tabs<'a> {
     divider: Span<'a>,
 }
 
-// Written out, so that a crate above proves nothing of what they hold to let them go.
+// Written out, so that dependent crates have nothing to prove about the fields when they drop them.
 impl<'a> Drop for Tabs<'a> {
     fn drop(self) {
         let Tabs {
@@ -46,8 +46,9 @@ impl<'a> Drop for Tabs<'a> {
 }
 
 impl<'a> Tabs<'a> {
-    /// Tabs with these titles, the first one selected. The selected one is drawn reversed, a light line stands between two,
-    /// and a blank on each side of a title. `NoMemory` where there is none for the blanks.
+    /// Creates tabs with these titles, the first one selected. The selected title is drawn reversed. There is a light
+    /// line between two titles, and a space on each side of a title. Fails with `NoMemory` if there is no memory for
+    /// the spaces.
     pub fn new(alloc: Global, titles: Vec<Line<'a>>) -> Mem<Tabs<'a>>
         ensures { IfOk result (λ tabs. tabs_data tabs ≡ tabs_of (map line_data titles.entry.items)) }
     {
@@ -56,7 +57,7 @@ impl<'a> Tabs<'a> {
         Ok(Tabs::between(left, titles, right))
     }
 
-    /// Tabs with these paddings.
+    /// Creates tabs with these paddings.
     fn between(left: Line<'a>, titles: Vec<Line<'a>>, right: Line<'a>) -> Tabs<'a>
         ensures { tabs_data result ≡ record (tabs_of (map line_data titles.entry.items)) {
           padding_left = line_data left.entry;
@@ -76,8 +77,8 @@ impl<'a> Tabs<'a> {
         }
     }
 
-    /// Puts these titles in place of the old ones. Without titles none is selected; else the selected one stays or becomes the last
-    /// one, and the first is selected where none was.
+    /// Replaces the titles. If there are none, none is selected. Otherwise the selected index stays, or becomes the
+    /// last one. If none was selected, the first is.
     pub fn titles(mut self, titles: Vec<Line<'a>>) -> Tabs<'a>
         ensures { tabs_data result ≡ record (tabs_data self.entry) {
           titles = map line_data titles.entry.items;
@@ -89,7 +90,7 @@ impl<'a> Tabs<'a> {
         self
     }
 
-    /// Puts a block around the titles, which then stand in the first row inside.
+    /// Surrounds the tabs with a block. The titles are drawn in the first row inside it.
     pub fn block(mut self, block: Block<'a>) -> Tabs<'a>
         ensures { tabs_data result ≡ record (tabs_data self.entry) { block = Some (block_data block.entry) } }
     {
@@ -97,7 +98,7 @@ impl<'a> Tabs<'a> {
         self
     }
 
-    /// Selects a title by its place, or none. A place past the last title selects none.
+    /// Selects a title by its index, or none. An index past the last title selects none.
     pub fn select(mut self, selected: Option<usize>) -> Tabs<'a>
         ensures { tabs_data result ≡ record (tabs_data self.entry) { selected = selected } }
     {
@@ -105,7 +106,7 @@ impl<'a> Tabs<'a> {
         self
     }
 
-    /// Sets the style under all.
+    /// Sets the base style of the whole area.
     pub fn style(mut self, style: Style) -> Tabs<'a>
         ensures { tabs_data result ≡ record (tabs_data self.entry) { style = style } }
     {
@@ -113,7 +114,7 @@ impl<'a> Tabs<'a> {
         self
     }
 
-    /// Sets the style over the selected title, without its paddings.
+    /// Sets the style that is drawn over the selected title, without its paddings.
     pub fn highlight_style(mut self, style: Style) -> Tabs<'a>
         ensures { tabs_data result ≡ record (tabs_data self.entry) { highlight_style = style } }
     {
@@ -121,7 +122,7 @@ impl<'a> Tabs<'a> {
         self
     }
 
-    /// Sets what stands between two titles.
+    /// Sets the divider between two titles.
     pub fn divider(mut self, divider: Span<'a>) -> Tabs<'a>
         ensures { tabs_data result ≡ record (tabs_data self.entry) { divider = span_data divider.entry } }
     {
@@ -129,7 +130,7 @@ impl<'a> Tabs<'a> {
         self
     }
 
-    /// Sets what stands at the left of each title.
+    /// Sets the padding at the left of each title.
     pub fn padding_left(mut self, padding: Line<'a>) -> Tabs<'a>
         ensures { tabs_data result ≡ record (tabs_data self.entry) { padding_left = line_data padding.entry } }
     {
@@ -137,7 +138,7 @@ impl<'a> Tabs<'a> {
         self
     }
 
-    /// Sets what stands at the right of each title.
+    /// Sets the padding at the right of each title.
     pub fn padding_right(mut self, padding: Line<'a>) -> Tabs<'a>
         ensures { tabs_data result ≡ record (tabs_data self.entry) { padding_right = line_data padding.entry } }
     {
@@ -145,7 +146,7 @@ impl<'a> Tabs<'a> {
         self
     }
 
-    /// Sets what stands on each side of each title.
+    /// Sets the paddings at both sides of each title.
     pub fn padding(mut self, left: Line<'a>, right: Line<'a>) -> Tabs<'a>
         ensures { tabs_data result ≡ record (tabs_data self.entry) {
           padding_left = line_data left.entry;
@@ -157,14 +158,15 @@ impl<'a> Tabs<'a> {
         self
     }
 
-    /// The columns of all titles with their paddings and of a divider between two, cut at the greatest number of 64 bits.
+    /// Returns the width of all titles with their paddings and of the dividers between them, in columns. Saturates at
+    /// the greatest 64-bit number.
     pub fn width(&self) -> usize
         ensures { result ≡ saturated (tabs_width false (tabs_data self.now)) }
     {
         self.columns(false)
     }
 
-    /// The same where ambiguous characters are wide.
+    /// Returns the same width if ambiguous characters are wide.
     pub fn width_cjk(&self) -> usize
         ensures { result ≡ saturated (tabs_width true (tabs_data self.now)) }
     {
@@ -181,7 +183,7 @@ impl<'a> Tabs<'a> {
         columns.saturating_add(self.divider_columns(cjk))
     }
 
-    /// The columns of a title with its paddings.
+    /// Returns the width of a title with its paddings, in columns.
     fn tab_columns(&self, title: &Line<'a>, cjk: bool) -> usize
         ensures { result ≡ saturated (tab_width cjk (tabs_data self.now) (line_data title.now)) }
     {
@@ -190,7 +192,7 @@ impl<'a> Tabs<'a> {
             .saturating_add(line_columns(&self.padding_right, cjk))
     }
 
-    /// The columns of all dividers.
+    /// Returns the width of all dividers, in columns.
     #[tactic(auto, using(crate::proofs::TabsPainted::saturated_product))]
     fn divider_columns(&self, cjk: bool) -> usize
         ensures { result ≡ saturated ((length (tabs_data self.now).titles - 1) * span_width cjk (tabs_data self.now).divider) }
@@ -203,7 +205,7 @@ impl<'a> Tabs<'a> {
         self.titles.len().saturating_sub(1).saturating_mul(divider)
     }
 
-    /// Equal tabs of their own. `NoMemory` where there is none for the titles, the paddings or the block.
+    /// Returns equal tabs. Fails with `NoMemory` if there is no memory for the titles, the paddings or the block.
     pub fn clone(&self) -> Mem<Tabs<'a>>
         ensures is { IfOk result (λ tabs. tabs_data tabs ≡ tabs_data self.now) }
         ensures equal { IfOk result (λ tabs. ⟦<Tabs<'a> as PartialEq>⟧.eq tabs self.now ≡ true) }
@@ -227,7 +229,7 @@ fn reversed() -> Style
     Style::new().add_modifier(Modifier::REVERSED)
 }
 
-/// The title that is selected among this many, where this one was.
+/// Returns which of `count` titles is selected, if `selected` was before.
 fn selected_in(count: usize, selected: Option<usize>) -> Option<usize>
     ensures { result ≡ selected_in count selected }
 {

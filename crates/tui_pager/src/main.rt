@@ -1,10 +1,10 @@
-//! The program `tui_pager`: it reads entries and keys in JSON from standard input, and writes the states and the last screen of a
-//! pager to standard output.
+//! The program `tui_pager`. It reads entries and keys in JSON from standard input. It writes the states and the last
+//! screen of a pager to standard output.
 #![tactic(auto)]
 
 use std::process::ExitCode;
 use std::{env, io};
-use tui_outside::{StdSink, StdSource};
+use tui_io::{StdSink, StdSource};
 use tui_pager_run::run_program;
 
 fn main(rt: HostRuntime) -> ExitCode {

@@ -1,4 +1,4 @@
--- The screen that layers leave is one.
+-- Layers on a blank screen give exactly one screen.
 use Rattle.std.proofs.Common.{◌≡◌, ℕ, ◌+◌, ◌-◌, ◌<◌, ◌≤◌, true, List, [], length, get_or, Some, sym, subst, ◌∙◌, refl, arith}
 use Rattle.std.proofs.lemmas.Bool.Decides.{nat_tests}
 use Rattle.std.proofs.lemmas.List.{get_or_default, same_lists}
@@ -8,8 +8,8 @@ use Rattle.tui_cells.specs.Cell.{Look, blank}
 use Rattle.tui_cells.specs.Layers.{Layer}
 use Rattle.tui_cells.specs.Rect.{covers}
 use Rattle.tui_cells.specs.declared.rect.Rect.{Rect}
-use Rattle.tui_pager_lib.specs.Laws.{ScreenIsOne}
-use Rattle.tui_pager_lib.specs.Screen.{IsBlankUnder, page_area, pager_layers}
+use Rattle.tui_pager_lib.specs.Laws.{ScreenIsUnique}
+use Rattle.tui_pager_lib.specs.Screen.{IsDrawnOnBlank, page_area, pager_layers}
 
 abbrev over : Rect → List (List Look) → Screen
 over area rows = record { area = area; rows = rows }
@@ -28,7 +28,7 @@ cell_in r rows i k in_area =
 same_cell : (c d : Look) → Some c ≡ Some d → c ≡ d
 same_cell c d e = cc
 
-same_row : (layers : List Layer) (r : Rect) (xs ys : List (List Look)) → IsBlankUnder layers r (over r xs) → IsBlankUnder layers r (over r ys) →
+same_row : (layers : List Layer) (r : Rect) (xs ys : List (List Look)) → IsDrawnOnBlank layers r (over r xs) → IsDrawnOnBlank layers r (over r ys) →
     (k : ℕ) → k < length xs → get_or xs k [] ≡ get_or ys k []
 same_row layers r xs ys p q k lt =
     let long : length (get_or xs k []) ≡ r.width = All-get_or (λ (row : List Look). length row ≡ r.width) xs k [] lt p.shape.wide in
@@ -40,14 +40,14 @@ same_row layers r xs ys p q k lt =
     let here = same_cell _ _ (sym (cell_in r xs i k in_area) ∙ (alike ∙ cell_in r ys i k in_area)) in
     get_or_default (get_or xs k []) i d blank before ∙ (here ∙ get_or_default (get_or ys k []) i blank d (omega arith)))
 
-same_rows : (layers : List Layer) (r : Rect) (xs ys : List (List Look)) → IsBlankUnder layers r (over r xs) → IsBlankUnder layers r (over r ys) → xs ≡ ys
+same_rows : (layers : List Layer) (r : Rect) (xs ys : List (List Look)) → IsDrawnOnBlank layers r (over r xs) → IsDrawnOnBlank layers r (over r ys) → xs ≡ ys
 same_rows layers r xs ys p q = same_lists xs ys (p.shape.high ∙ sym q.shape.high) (λ k d lt.
     get_or_default xs k d [] lt ∙ (same_row layers r xs ys p q k lt ∙ get_or_default ys k [] d (omega (arith, p.shape.high, q.shape.high))))
 
-drawn_over : (layers : List Layer) (r : Rect) (s : Screen) → IsBlankUnder layers r s → IsBlankUnder layers r (over r s.rows)
-drawn_over layers r s drawn = subst (λ (g : Rect). IsBlankUnder layers r (over g s.rows)) drawn.area_is drawn
+drawn_over : (layers : List Layer) (r : Rect) (s : Screen) → IsDrawnOnBlank layers r s → IsDrawnOnBlank layers r (over r s.rows)
+drawn_over layers r s drawn = subst (λ (g : Rect). IsDrawnOnBlank layers r (over g s.rows)) drawn.area_is drawn
 
-pub one_screen : ScreenIsOne
+pub one_screen : ScreenIsUnique
 one_screen p screen other drawn again =
     let area = page_area p.width p.height in
     let rows = same_rows (pager_layers p) area other.rows screen.rows (drawn_over _ area other again) (drawn_over _ area screen drawn) in

@@ -1,4 +1,4 @@
-pub mod Change
+pub mod PagerChange
 pub mod Contents
 pub mod Entry
 pub mod Key
@@ -7,5 +7,5 @@ pub mod Lines
 pub mod Pager
 pub mod Same
 pub mod Screen
-pub mod Shown
+pub mod ViewState
 pub mod Steps

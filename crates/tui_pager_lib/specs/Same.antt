@@ -1,4 +1,4 @@
--- Sizes that `==` calls equal are the same.
+-- Sizes that are equal by `==` are equal.
 use Rattle.std.specs.Prelude.{ℕ, ◌≡◌, ◌≤◌, true}
 use Rattle.std.proofs.Common.{◌∙◌, ap, subst}
 use Rattle.std.proofs.Props.{props}
@@ -12,7 +12,7 @@ size w h wide high = record { width = w; height = h; wide = wide; high = high }
 one_proof : (n m : ℕ) (p q : n ≤ m) → p ≡ q
 one_proof n m p q = Prim.hlevel props
 
--- sizes that `==` calls equal are the same
+-- sizes that are equal by `==` are equal
 pub same_size : (a b : PagerSize) → sizes.TheImpl.ghosts.eq a b ≡ true → a ≡ b
 same_size a b e =
     let both = and_parts _ _ e in

@@ -6,26 +6,27 @@ use Rattle.tui_pager_lib.specs.declared.key.Key.{Key}
 use Rattle.tui_pager_lib.specs.declared.key.Key.TheVariants.{Up, Down, PageUp, PageDown, First, Last, LineUp, LineDown, BodyTop, BodyEnd}
 use Rattle.tui_pager_lib.specs.declared.state.PagerState.{PagerState}
 
--- What a step goes by: the rows of both panes, and for each entry the lines of its title and of its wrapped body.
-pub record Sizes : Type 0 where
+-- What a step depends on: the rows of both panes, and for each entry the number of lines of its title and of its
+-- wrapped body.
+pub record PagerMetrics : Type 0 where
   pub rows : ℕ
   pub heights : List ℕ
   pub lines : List ℕ
 
--- the greatest line that a body begins with, by the rows that there are and the lines that it has
-abbrev pub most_in : ℕ → ℕ → ℕ
-most_in rows lines = min (lines - rows) farthest_edge
+-- the greatest line that a body may start with, by its rows and the number of its lines
+abbrev pub max_line_in : ℕ → ℕ → ℕ
+max_line_in rows lines = min (lines - rows) farthest_edge
 
--- the lines of the selected body, none where there is none
+-- the number of lines of the selected body, 0 if no entry is selected
 abbrev pub lines_at : List ℕ → Option ℕ → ℕ
 lines_at lines None = 0
 lines_at lines (Some place) = slice_index lines place
 
--- the greatest line from which the selected body is shown
-abbrev pub most_of : Sizes → Option ℕ → ℕ
-most_of z selected = most_in z.rows (lines_at z.lines selected)
+-- the greatest line that the selected body may start with
+abbrev pub max_line_of : PagerMetrics → Option ℕ → ℕ
+max_line_of z selected = max_line_in z.rows (lines_at z.lines selected)
 
--- where a key moves the selection
+-- the entry that a key selects
 abbrev pub selected_by : ℕ → ℕ → Key → ℕ → ℕ
 selected_by rows count Up place = place - 1
 selected_by rows count Down place = min (place + 1) (count - 1)
@@ -43,7 +44,7 @@ line_by most BodyTop line = 0
 line_by most BodyEnd line = most
 line_by most _ line = line
 
--- the state after a key, before the list is scrolled: a selection that changes begins with the first line of its body
+-- the state after a key, before the list scrolls; the body of a new selection is shown from its first line on
 abbrev pub moved_from : ℕ → ℕ → ℕ → Key → PagerState → Option ℕ → PagerState
 moved_from rows count most key s None = s
 moved_from rows count most key s (Some place) = record {
@@ -52,26 +53,26 @@ moved_from rows count most key s (Some place) = record {
   line = if selected_by rows count key place == place then line_by most key s.line else 0;
 }
 
--- the same by the present selection; nothing moves where there is none
+-- the same for the current selection; nothing changes if no entry is selected
 abbrev pub moved_by : ℕ → ℕ → ℕ → Key → PagerState → PagerState
 moved_by rows count most key s = moved_from rows count most key s s.selected
 
--- the offset is then that of a list of these heights, with one entry around the selected one
-abbrev pub settled : List ℕ → ℕ → PagerState → PagerState
-settled heights rows s = record { selected = s.selected; offset = (window_of heights rows s.offset s.selected 1).first; line = s.line }
+-- the state with the offset of a list with these heights that keeps one entry visible on each side of the selection
+abbrev pub scrolled : List ℕ → ℕ → PagerState → PagerState
+scrolled heights rows s = record { selected = s.selected; offset = (window_of heights rows s.offset s.selected 1).first; line = s.line }
 
 -- the first entry, if there is one
-abbrev pub first_place : List ℕ → Option ℕ
-first_place heights = if length heights == 0 then None else Some 0
+abbrev pub first_entry : List ℕ → Option ℕ
+first_entry heights = if length heights == 0 then None else Some 0
 
--- the start: the first entry is selected, and shown from its first line on
-abbrev pub started : Sizes → PagerState
-started z = settled z.heights z.rows (record { selected = first_place z.heights; offset = 0; line = 0 })
+-- the state at the start: the first entry is selected and shown from its first line on
+abbrev pub initial_state : PagerMetrics → PagerState
+initial_state z = scrolled z.heights z.rows (record { selected = first_entry z.heights; offset = 0; line = 0 })
 
 -- the state after a key
-abbrev pub pressed : Sizes → Key → PagerState → PagerState
-pressed z key s = settled z.heights z.rows (moved_by z.rows (length z.heights) (most_of z s.selected) key s)
+abbrev pub pressed : PagerMetrics → Key → PagerState → PagerState
+pressed z key s = scrolled z.heights z.rows (moved_by z.rows (length z.heights) (max_line_of z s.selected) key s)
 
 -- the state at another size
-abbrev pub resized : Sizes → PagerState → PagerState
-resized z s = settled z.heights z.rows (record { selected = s.selected; offset = s.offset; line = min s.line (most_of z s.selected) })
+abbrev pub resized : PagerMetrics → PagerState → PagerState
+resized z s = scrolled z.heights z.rows (record { selected = s.selected; offset = s.offset; line = min s.line (max_line_of z s.selected) })

@@ -13,7 +13,7 @@ use tui_frames::Block;
 use tui_para::{Paragraph, Wrap};
 use tui_text::Text;
 
-/// A body, wrapped without the blanks at which its lines break, from one of its lines on.
+/// Returns a body from one of its lines on. It is wrapped, and spaces at which a line breaks are dropped.
 fn unframed<'a>(alloc: Global, body: &'a str, line: u16) -> Mem<Paragraph<'a>>
     ensures { IfOk result (λ paragraph. paragraph_data paragraph ≡ unframed body.now line) }
 {
@@ -28,14 +28,14 @@ fn unframed<'a>(alloc: Global, body: &'a str, line: u16) -> Mem<Paragraph<'a>>
     )
 }
 
-/// The same in borders.
+/// Returns the same paragraph inside borders.
 pub(crate) fn body_paragraph<'a>(alloc: Global, body: &'a str, line: u16) -> Mem<Paragraph<'a>>
     ensures { IfOk result (λ paragraph. paragraph_data paragraph ≡ body_paragraph body.now line) }
 {
     Ok(unframed(alloc, body, line)?.block(Block::bordered(alloc)))
 }
 
-/// The selected body, and an empty one where none is selected.
+/// Returns the body of the selected entry, or an empty one if none is selected.
 pub(crate) fn selected_body<'a>(entries: &[Entry<'a>], selected: Option<usize>) -> &'a str
     requires { SelectsEntry (length entries.now) selected }
     ensures { result.now ≡ body_of (map entry_data entries.now) selected }

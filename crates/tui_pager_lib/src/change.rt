@@ -1,13 +1,13 @@
-//! What a call changes of what is shown.
+//! What a call changes.
 
 use crate::size::PagerSize;
 use crate::state::PagerState;
 
-/// The size and the state that come next, and where the lines of the body begin that is selected then, in bytes. Without places the
-/// ones that are kept stay: the width and the selected entry are the same.
+/// The next size and state, and the byte offsets at which the lines of the then selected body start. `line_starts` is `None`
+/// if the width and the selected entry don't change; the stored offsets then stay valid.
 #[derive(Drop)]
-pub(crate) struct Change {
+pub(crate) struct PagerChange {
     pub(crate) size: PagerSize,
     pub(crate) state: PagerState,
-    pub(crate) places: Option<Vec<usize>>,
+    pub(crate) line_starts: Option<Vec<usize>>,
 }

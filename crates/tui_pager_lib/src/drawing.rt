@@ -1,4 +1,4 @@
-//! What a pager shows.
+//! Drawing the parts of a pager.
 
 ghost use Rattle.std.specs.Prelude.{◌≡◌, ◌+◌, ◌-◌, ◌^◌, ◌<◌, IfSome, OnOk};
 ghost use Rattle.tui_cells.specs.Buffer.{IsFilled};
@@ -36,7 +36,7 @@ use tui_lists::{List, ListState, Scrollbar, ScrollbarOrientation, ScrollbarState
 use tui_para::Paragraph;
 use tui_text::Text;
 
-/// The list of the titles, at the left.
+/// Draws the list of titles, at the left.
 pub(crate) fn draw_titles(
     alloc: Global,
     titles: &List<'_>,
@@ -60,7 +60,7 @@ pub(crate) fn draw_titles(
     StatefulWidget::render(titles, alloc, area, buf, &mut kept)
 }
 
-/// A body from one of its lines on, at the right.
+/// Draws a body from one of its lines on, at the right.
 fn draw_lines(alloc: Global, body: &str, line: u16, size: PagerSize, buf: &mut Buffer) -> Mem<()>
     requires { buf.old.area ≡ page_area size.width size.height }
     ensures drawn { OnOk result (Painted (paragraph_layers (body_paragraph body.now line) (body_area size.width size.height)) buf.old buf.new) }
@@ -75,25 +75,32 @@ fn draw_lines(alloc: Global, body: &str, line: u16, size: PagerSize, buf: &mut B
     body_paragraph(alloc, body, line)?.render(alloc, area, buf)
 }
 
-/// The same, where `places` are where the body's lines begin, as far as that is known: what stands above the line is then not read.
+/// A body, and the offsets at which its lines start, as far as they are known.
+#[derive(Clone, Copy)]
+pub(crate) struct BodyText<'a> {
+    pub(crate) text: &'a str,
+    pub(crate) line_starts: &'a [usize],
+}
+
+/// Draws the same. If the offset at which the line starts is known, the text before it is not read.
 pub(crate) fn draw_body(
     alloc: Global,
-    body: &str,
-    places: &[usize],
+    body: BodyText<'_>,
     line: u16,
     size: PagerSize,
     buf: &mut Buffer,
 ) -> Mem<()>
     requires area { buf.old.area ≡ page_area size.width size.height }
-    requires places { AreWithin size.width body.now places.now }
-    ensures drawn { OnOk result (Painted (paragraph_layers (body_paragraph body.now line) (body_area size.width size.height)) buf.old buf.new) }
+    requires line_starts { AreWithin size.width body.text.now body.line_starts.now }
+    ensures drawn { OnOk result (Painted (paragraph_layers (body_paragraph body.entry.text.now line) (body_area size.width size.height)) buf.old buf.new) }
     ensures area { buf.new.area ≡ buf.old.area }
 {
+    let BodyText { text, line_starts } = body;
     let at = usize::from(line);
-    if at < places.len() {
-        draw_lines(alloc, &body[places[at]..], 0, size, buf)
+    if at < line_starts.len() {
+        draw_lines(alloc, &text[line_starts[at]..], 0, size, buf)
     } else {
-        draw_lines(alloc, body, line, size, buf)
+        draw_lines(alloc, text, line, size, buf)
     }
 }
 
@@ -105,7 +112,7 @@ fn bar() -> Scrollbar<'static>
         .end_symbol(None)
 }
 
-/// The bar of the body, over its right border. `most` is the greatest line that the body may begin with.
+/// Draws the scrollbar of the body over its right border. `most` is the greatest line that the body may start with.
 pub(crate) fn draw_bar(
     alloc: Global,
     most: u16,
@@ -130,8 +137,8 @@ pub(crate) fn draw_bar(
     bar().render(alloc, area, buf, &mut state)
 }
 
-/// The place of the selected entry among the entries that there are, from 1, in the last row.
-pub(crate) fn draw_place(
+/// Draws the last row: the position of the selected entry, from 1, and the number of entries.
+pub(crate) fn draw_last_row(
     alloc: Global,
     selected: Option<usize>,
     count: usize,
@@ -156,7 +163,7 @@ pub(crate) fn draw_place(
     paragraph.render(alloc, area, buf)
 }
 
-/// The place of an entry, from 1, and 0 for none.
+/// Returns the position of an entry, from 1, or 0 if none is selected.
 fn entry_number(selected: Option<usize>) -> usize
     requires { IfSome selected (λ place. place + 1 < 2 ^ 64) }
     ensures { result ≡ entry_number selected }
@@ -167,7 +174,7 @@ fn entry_number(selected: Option<usize>) -> usize
     }
 }
 
-/// The area of a screen of a size, at the origin.
+/// Returns the area of a screen of this size, at the origin.
 pub(crate) fn page_of(size: PagerSize) -> Rect
     ensures { result ≡ page_area size.width size.height }
 {
@@ -179,10 +186,10 @@ pub(crate) fn page_of(size: PagerSize) -> Rect
     }
 }
 
-/// Makes a screen a blank one of this size, at the origin. One that has the size keeps its cells and wants no memory; else it is
-/// made anew.
+/// Makes a screen blank, with this size and at the origin. If it has this size already, its cells are reset without
+/// allocating; otherwise a new screen is allocated.
 #[tactic(auto, using(crate::proofs::Placing::wiped))]
-pub(crate) fn wipe_page(alloc: Global, size: PagerSize, screen: &mut Buffer) -> Mem<()>
+pub(crate) fn clear_page(alloc: Global, size: PagerSize, screen: &mut Buffer) -> Mem<()>
     ensures { OnOk result (IsFilled (page_area size.width size.height) blank screen.new) }
 {
     let page = page_of(size);

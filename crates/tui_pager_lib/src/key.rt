@@ -4,29 +4,29 @@ use std::fmt;
 use std::str::FromStr;
 use tui_cells::ParseError;
 
-/// What a pager is asked to do. At an end of the list or of the body a key that would pass it goes no further, and changes
-/// nothing where it stands there. `Display` writes the variant's name, and `FromStr` reads it.
+/// A command for a pager. At an end of the list or of the body, a key that would pass the end stops there; if the end
+/// is reached already, nothing changes. `Display` writes the variant's name, and `FromStr` reads it.
 #[derive(Clone, Copy, Debug, PartialEq, Eq, Hash)]
 pub enum Key {
     /// Selects the entry above.
     Up,
     /// Selects the entry below.
     Down,
-    /// Goes up by as many entries as the list has rows.
+    /// Moves up by as many entries as the list has rows.
     PageUp,
-    /// Goes down by as many.
+    /// Moves down by as many entries as the list has rows.
     PageDown,
     /// Selects the first entry.
     First,
     /// Selects the last entry.
     Last,
-    /// Shows the body from one line above on.
+    /// Scrolls the body up by one line.
     LineUp,
-    /// Shows it from one line below on.
+    /// Scrolls the body down by one line.
     LineDown,
     /// Shows the body from its first line on.
     BodyTop,
-    /// Shows the end of the body.
+    /// Scrolls to the end of the body.
     BodyEnd,
 }
 
@@ -60,7 +60,7 @@ impl FromStr for Key {
 
     ghost from_str_gives = { IsParsed name_of };
 
-    /// Answers `VariantNotFound` exactly where the text is no key's name.
+    /// Fails with `VariantNotFound` if and only if the text is not the name of a key.
     fn from_str(text: &str) -> Result<Key, ParseError> {
         match text {
             "Up" => Ok(Key::Up),

@@ -1,4 +1,4 @@
-//! Pagers: a list of entries, and the body of the selected one beside it, moved by keys.
+//! Pagers: a list of entries with the body of the selected one beside it, moved by keys.
 #![tactic(auto)]
 
 mod body;
@@ -8,13 +8,14 @@ mod drawing;
 pub mod entry;
 pub mod key;
 mod laws;
-mod making;
 pub mod pager;
 pub mod pager_error;
 mod shown;
 pub mod size;
+mod sized;
 pub mod state;
 mod steps;
+mod title_list;
 pub mod view;
 
 pub use entry::Entry;

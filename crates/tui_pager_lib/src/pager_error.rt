@@ -1,15 +1,15 @@
-//! Why there is no pager.
+//! Why a pager can't be made.
 
 use thiserror::Error;
 use tui_cells::NoMemory;
 
-/// Why there is no pager of a size.
+/// Why a pager can't be made or resized.
 #[derive(Clone, Copy, Debug, PartialEq, Eq, Error)]
 pub enum PagerError {
     /// The width is below 12 or the height below 5.
     #[error("TooSmall")]
     TooSmall,
-    /// The memory that the pager and its screens take was not there.
+    /// Out of memory for the pager and its screens.
     #[error("NoMemory")]
     NoMemory,
 }

@@ -1,7 +1,7 @@
-//! One step.
+//! One step of a pager.
 
 ghost use Rattle.std.specs.Prelude.{◌≡◌, ◌<◌, ◌≤◌, length};
-ghost use Rattle.tui_pager_lib.specs.Steps.{line_by, most_in, moved_by, selected_by, settled};
+ghost use Rattle.tui_pager_lib.specs.Steps.{line_by, max_line_in, moved_by, selected_by, scrolled};
 
 use crate::key::Key;
 use crate::state::PagerState;
@@ -9,16 +9,17 @@ use std::alloc::Global;
 use tui_cells::FARTHEST_EDGE;
 use tui_layout::{Sums, window_of};
 
-/// The greatest line that a body of `lines` lines may begin with.
-pub(crate) fn greatest_line(lines: usize, rows: u16) -> u16
-    ensures { result ≡ most_in rows lines }
+/// Returns the greatest line that a body of `lines` lines may start with.
+pub(crate) fn max_line(lines: usize, rows: u16) -> u16
+    ensures { result ≡ max_line_in rows lines }
 {
     lines
         .saturating_sub(usize::from(rows))
         .min(FARTHEST_EDGE as usize) as u16
 }
 
-/// The state behind a key, before the offset follows. `most` is the greatest line of the selected body.
+/// Returns the state after a key, before the list scrolls. `most` is the greatest line that the selected body may start
+/// with.
 pub(crate) fn moved(rows: u16, count: usize, most: u16, key: Key, state: PagerState) -> PagerState
     requires { state.line ≤ most }
     ensures { result ≡ moved_by rows count most key state }
@@ -26,7 +27,7 @@ pub(crate) fn moved(rows: u16, count: usize, most: u16, key: Key, state: PagerSt
     let Some(place) = state.selected else {
         return state;
     };
-    let next = moved_place(rows, count, key, place);
+    let next = moved_selection(rows, count, key, place);
     PagerState {
         selected: Some(next),
         offset: state.offset,
@@ -38,7 +39,7 @@ pub(crate) fn moved(rows: u16, count: usize, most: u16, key: Key, state: PagerSt
     }
 }
 
-fn moved_place(rows: u16, count: usize, key: Key, place: usize) -> usize
+fn moved_selection(rows: u16, count: usize, key: Key, place: usize) -> usize
     ensures { result ≡ selected_by rows count key place }
 {
     let last = count.saturating_sub(1);
@@ -65,9 +66,14 @@ fn moved_line(most: u16, key: Key, line: u16) -> u16
     }
 }
 
-/// The offset follows the selection as that of a list does, with one entry around it. It takes no memory.
-pub(crate) fn follow(alloc: Global, titles: &Sums, rows: u16, state: PagerState) -> PagerState
-    ensures { result ≡ settled titles.now rows state }
+/// Sets the offset as a list does that keeps one entry visible on each side of the selection. Does not allocate.
+pub(crate) fn scroll_to_selection(
+    alloc: Global,
+    titles: &Sums,
+    rows: u16,
+    state: PagerState,
+) -> PagerState
+    ensures { result ≡ scrolled titles.now rows state }
 {
     let window = window_of(
         alloc,

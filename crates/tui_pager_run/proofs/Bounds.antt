@@ -1,35 +1,35 @@
--- A size that is accepted is large enough for a pager.
+-- An accepted size is large enough for a pager.
 use Rattle.std.proofs.Common.{◌≡◌, ℕ, ◌≤◌, Option, Some, None, Ok, refl, subst, option_and_then}
 use Rattle.serde_json.specs.Data.{Data, Items, no_items, item}
 use Rattle.serde_json.specs.Find.{as_array, get}
 use Rattle.tui_json.specs.Members.{◌>>=◌, pair_in, pair_of}
 use Rattle.tui_json.specs.Number.{within}
-use Rattle.tui_json.specs.Refusals.{or_refuse}
+use Rattle.tui_json.specs.Refusals.{or_reject}
 use Rattle.tui_json.proofs.Bounds.{within_bounds}
 use Rattle.tui_pager_run.specs.Input.{required, size_of}
 use Rattle.tui_pager_run.specs.Refusals.{bad_input, field_name}
 use Rattle.tui_pager_run.specs.declared.bad_input.BadInput.{BadInput}
 use Rattle.tui_pager_run.specs.declared.field.PagerField.{PagerField}
 
--- a field in a range
+-- a field in a range is at least its lower bound
 pub field_least : (low high : ℕ) (field : PagerField) (d : Data) (n : ℕ) → required (within low high) None field d ≡ Ok n → low ≤ n
 field_least low high field d n is = by_member (get (field_name field) d) is
   where
     refusal : BadInput
     refusal = bad_input None field
 
-    by_kind : (o : Option ℕ) (found : Data) → within low high found ≡ o → or_refuse refusal o ≡ Ok n → low ≤ n
+    by_kind : (o : Option ℕ) (found : Data) → within low high found ≡ o → or_reject refusal o ≡ Ok n → low ≤ n
     by_kind (Some m) found e h = let same : m ≡ n = cc in subst (λ (k : ℕ). low ≤ k) same (within_bounds low high m found e).0
     by_kind None found e h = absurd cc
 
-    by_member : (o : Option Data) → or_refuse refusal (option_and_then (within low high) o) ≡ Ok n → low ≤ n
+    by_member : (o : Option Data) → or_reject refusal (option_and_then (within low high) o) ≡ Ok n → low ≤ n
     by_member (Some found) h = by_kind (within low high found) found refl h
     by_member None h = absurd cc
 
 abbrev Least : ℕ × ℕ → Type 0
 Least p = (12 ≤ p.0) × (5 ≤ p.1)
 
--- a width and a height in ranges
+-- a width and a height in their ranges are at least the lower bounds
 pub size_least : (d : Data) (p : ℕ × ℕ) → size_of d ≡ Some p → (12 ≤ p.0) × (5 ≤ p.1)
 unfolding pair_of
 size_least d p is = by_array (as_array d) is

@@ -13,7 +13,7 @@ lines_more states n d lt =
     let whole : drop n states ≡ get_or states n d ∷ drop (n + 1) states = rw (add-one, drop-cons states n d lt) refl in
     rw whole refl
 
--- past the last one there is none
+-- after the last state there is no line
 pub lines_end : (states : List PagerState) (n : ℕ) → length states ≤ n → key_lines n (drop n states) ≡ []
 unfolding key_lines
 lines_end states n le = rw (drop_all n states le) refl

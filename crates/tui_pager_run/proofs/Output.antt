@@ -1,12 +1,12 @@
--- An output is one.
+-- An output is unique.
 use Rattle.std.proofs.Common.{◌≡◌, ℕ, List, [], ◌++◌, sym, ap, ◌∙◌}
 use Rattle.tui_print.specs.Laws.{PrintIsUnique}
-use Rattle.tui_pager_lib.specs.Laws.{ScreenIsOne}
-use Rattle.tui_pager_run.specs.Laws.{OutputIsOne}
+use Rattle.tui_pager_lib.specs.Laws.{ScreenIsUnique}
+use Rattle.tui_pager_run.specs.Laws.{OutputIsUnique}
 use Rattle.tui_pager_run.specs.Printed.{key_lines}
 use Rattle.tui_pager_run.specs.States.{first_of, last_of, states_of}
 
-pub one_output : PrintIsUnique → ScreenIsOne → OutputIsOne
+pub one_output : PrintIsUnique → ScreenIsUnique → OutputIsUnique
 one_output prints screens input text other a b =
     let same = screens (last_of input) a.screen b.screen a.drawn b.drawn in
     let print = prints a.screen [] in

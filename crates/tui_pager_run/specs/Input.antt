@@ -1,10 +1,10 @@
--- The input: its fields in order, the entries one by one and then the keys one by one, the first whose test fails being the refusal.
+-- The input: its fields in order, then each entry and each key. The first test that fails rejects it.
 use Rattle.std.specs.Prelude.{ℕ, List, map, Option, Some, None, option_map, Result, Ok}
 use Rattle.serde_json.specs.Data.{Data}
 use Rattle.tui_json.specs.Members.{elements_within, pair_of}
 use Rattle.tui_json.specs.Named.{named_of}
 use Rattle.tui_json.specs.Number.{within}
-use Rattle.tui_json.specs.Refusals.{◌>>=◌, numbered, or_refuse}
+use Rattle.tui_json.specs.Refusals.{◌>>=◌, numbered, or_reject}
 use Rattle.tui_json.specs.Refusals as tests
 use Rattle.tui_json.specs.Text.{short}
 use Rattle.tui_pager_run.specs.Keys.{keys}
@@ -13,8 +13,8 @@ use Rattle.tui_pager_run.specs.declared.bad_input.BadInput.{BadInput}
 use Rattle.tui_pager_run.specs.declared.field.PagerField.{PagerField}
 use Rattle.tui_pager_run.specs.declared.field.PagerField.TheVariants as fields
 use Rattle.tui_pager_run.specs.declared.input.Input.{Input}
-use Rattle.tui_pager_run.specs.declared.step.Step.{Step}
-use Rattle.tui_pager_run.specs.declared.step.Step.TheVariants as step
+use Rattle.tui_pager_run.specs.declared.step.PagerStep.{PagerStep}
+use Rattle.tui_pager_run.specs.declared.step.PagerStep.TheVariants as step
 use Rattle.tui_pager_lib.specs.Entry.{EntryData, entry_data}
 use Rattle.tui_pager_lib.specs.Laws.{Call, press, resize}
 use Rattle.tui_pager_lib.specs.declared.key.Key.{Key}
@@ -24,22 +24,22 @@ use Rattle.tui_pager_lib.specs.declared.size.PagerSize.{PagerSize}
 abbrev pub required : {A : Type 0} → (Data → Option A) → Option ℕ → PagerField → Data → Result A BadInput
 required kind at field d = tests.required kind (field_name field) (bad_input at field) d
 
--- a width and a height, as a pair and as fields of the input; what is no object has no fields, so it is refused at `width`
+-- a width and a height, as an array of two numbers
 abbrev pub size_of : Data → Option (ℕ × ℕ)
 size_of d = pair_of (within 12 200) (within 5 100) d
 
--- a size as its columns and rows
+-- a size of the code as its columns and rows
 abbrev pub size_data : PagerSize → ℕ × ℕ
 size_data size = (size.width, size.height)
 
--- the size of the screen, or what is refused of it
+-- the size of the screen, or why it is rejected; a value that is no object has no fields, so it is rejected at `width`
 unfoldable pub screen_size_of : Data → Result (ℕ × ℕ) BadInput
 screen_size_of d = do
   width ← required (within 12 200) None fields.Width d
   height ← required (within 5 100) None fields.Height d
   Ok (width, height)
 
--- an entry by its number; what is no object is refused at `title`
+-- an entry with its number; a value that is no object is rejected at `title`
 unfoldable pub entry_of : ℕ → Data → Result EntryData BadInput
 entry_of i d = do
   title ← required (short 1000) (Some i) fields.Title d
@@ -56,29 +56,29 @@ abbrev pub call_of : Data → Option Call
 call_of d = call_or_size (named_of keys d) d
 
 -- a step of the code as the call that it makes
-abbrev pub called : Step → Call
-called (step.Press key) = press key
-called (step.Resize size) = resize size.width size.height
+abbrev pub step_call : PagerStep → Call
+step_call (step.Press key) = press key
+step_call (step.Resize size) = resize size.width size.height
 
--- a key by its number
+-- a key with its number
 abbrev pub key_of : ℕ → Data → Result Call BadInput
-key_of i d = or_refuse (bad_input (Some i) fields.Keys) (call_of d)
+key_of i d = or_reject (bad_input (Some i) fields.Keys) (call_of d)
 
--- the size of the screen, the entries, and the calls that the keys are
+-- the size of the screen, the entries, and the calls that the keys stand for
 pub record InputData : Type 0 where
   pub size : ℕ × ℕ
   pub entries : List EntryData
   pub calls : List Call
 
--- what is read, as plain data
+-- an input of the code as plain data
 abbrev pub input_data : Input → InputData
 input_data input = record {
   size = size_data input.size;
   entries = map entry_data input.entries.items;
-  calls = map called input.steps.items;
+  calls = map step_call input.steps.items;
 }
 
--- the whole input, or what is refused of it
+-- the whole input, or why it is rejected
 unfoldable pub input_of : Data → Result InputData BadInput
 input_of d = do
   size ← screen_size_of d

@@ -5,7 +5,7 @@ use Rattle.tui_pager_lib.specs.Key as key
 use Rattle.tui_pager_lib.specs.declared.key.Key.{Key}
 use Rattle.tui_pager_lib.specs.declared.key.Key.TheVariants.{Up, Down, PageUp, PageDown, First, Last, LineUp, LineDown, BodyTop, BodyEnd}
 
--- the names of the keys: all of them, and none is left out
+-- the names of all keys
 abbrev pub keys : Names Key
 keys = record {
   name = key.name_of;

@@ -1,8 +1,8 @@
-//! What is refused.
+//! Why an input is rejected.
 
 use crate::field::PagerField;
 
-/// A field of the input, or of the entry or the key of this number from 0, that is missing or of the wrong kind.
+/// A field that is missing or of the wrong kind: of the input, or of the entry or the key with this number, from 0.
 #[derive(Clone, Copy, Debug, PartialEq, Eq)]
 pub struct BadInput {
     pub at: Option<usize>,

@@ -1,31 +1,31 @@
-//! The one command: its words, and what it writes.
+//! The one command: its arguments, and what it writes.
 
-ghost use Rattle.tui_program.specs.Endings.{AnswersWith, no_refusal, nothing};
+ghost use Rattle.tui_program.specs.Outcomes.{AnswersWith, no_refusal, nothing};
 ghost use Rattle.tui_pager_run.specs.Input.{input_data};
 ghost use Rattle.tui_pager_run.specs.Printed.{IsWritten};
 
 use crate::bad_input::BadInput;
 use crate::input::{Input, read_input};
-use crate::printing::put_run;
+use crate::printing::write_run;
 use crate::run::press_keys;
 use serde_json::Value;
 use std::alloc::Global;
-use tui_outside::{Sink, WriteFault};
-use tui_program::{Job, Leftovers, Reader, Stop, are_none, put_refused_field};
+use tui_io::{Sink, WriteFault};
+use tui_program::{Cleanup, Job, JsonCommand, Stop, are_empty, write_refused_field};
 
-/// The command of the program: it reads entries and keys, and writes the state behind each key and the last screen.
+/// The command of the program. It reads entries and keys. It writes the state after each key, and the last screen.
 #[derive(Clone, Copy, Debug, PartialEq, Eq)]
 pub struct PagerCommand;
 
-impl Reader for PagerCommand {
-    ghost use Rattle.tui_pager_run.specs.Rules.{Names, few_words};
+impl JsonCommand for PagerCommand {
+    ghost use Rattle.tui_pager_run.specs.Rules.{Names, few_arguments};
 
     ghost named = { Names };
 
-    ghost few = { few_words };
+    ghost few = { few_arguments };
 
-    fn reader_of(words: &[String]) -> Option<PagerCommand> {
-        if are_none(words) {
+    fn json_command_of(arguments: &[String]) -> Option<PagerCommand> {
+        if are_empty(arguments) {
             Some(PagerCommand)
         } else {
             None
@@ -45,29 +45,29 @@ impl Job for PagerCommand {
         alloc: Global,
         value: &Value,
         sink: &mut K,
-        leftovers: Leftovers,
+        cleanup: Cleanup,
     ) -> Result<(), Stop<BadInput>> {
         let input = read_input(alloc, value)?;
-        show(alloc, input, sink, leftovers)
+        show(alloc, input, sink, cleanup)
     }
 
-    fn refuse<K: Sink>(&self, refusal: BadInput, sink: &mut K) -> Result<(), WriteFault> {
-        put_refused_field(refusal.field.name(), refusal.at, sink)
+    fn reject<K: Sink>(&self, refusal: BadInput, sink: &mut K) -> Result<(), WriteFault> {
+        write_refused_field(refusal.field.name(), refusal.at, sink)
     }
 }
 
-/// Makes the steps of all keys, and then writes what is due.
+/// Makes the steps of all keys, and then writes the expected output.
 fn show<K: Sink>(
     alloc: Global,
     input: Input<'_>,
     sink: &mut K,
-    leftovers: Leftovers,
+    cleanup: Cleanup,
 ) -> Result<(), Stop<BadInput>>
-    ensures { AnswersWith (IsWritten (input_data input.entry)) nothing no_refusal (K.told sink.old) (K.told sink.new) result }
+    ensures { AnswersWith (IsWritten (input_data input.entry)) nothing no_refusal (K.observed sink.old) (K.observed sink.new) result }
 {
     let run = press_keys(alloc, input)?;
-    let put = put_run(&run, sink);
-    leftovers.done_with(run);
-    put?;
+    let write_result = write_run(&run, sink);
+    cleanup.dispose_of(run);
+    write_result?;
     Ok(())
 }

@@ -1,52 +1,53 @@
-//! How a run of the program ends.
+//! The outcome of a run of the program.
 
 use crate::bad_input::BadInput;
 use crate::field::PagerField;
 use std::process::ExitCode;
-use tui_program::{Broken, Ending, Written};
+use tui_program::{Broken, Outcome, Written};
 
-/// How a run ends. Only `Ok` has written the output whole; the endings from `Usage` to `BadInput` have written one line that says so.
+/// The outcome of a run. Only `Ok` has written the output completely. The outcomes from `Usage` to `BadInput` have
+/// written one line that says what is wrong.
 #[derive(Clone, Copy, Debug, PartialEq, Eq)]
 pub enum PagerEnded {
-    /// All was read and written.
+    /// Everything was read and written.
     Ok,
-    /// There are words.
+    /// There are arguments.
     Usage,
     /// The input has more than 1,048,576 bytes.
     TooLong,
-    /// The input is no JSON in UTF-8.
+    /// The input is not JSON in UTF-8.
     NotJson,
-    /// A field of the input, or of the entry or the key of this number from 0, is missing or of the wrong kind.
+    /// A field of the input, or of the entry or the key with this number, from 0, is missing or of the wrong kind.
     BadInput {
         at: Option<usize>,
         field: PagerField,
     },
-    /// A read failed; nothing is written.
+    /// A read failed. Nothing was written.
     ReadFault,
-    /// A put failed; the sink holds the first bytes of the output.
+    /// A write failed. The sink has the first bytes of the output.
     WriteFault,
-    /// The memory was not there; nothing is written.
+    /// Out of memory. Nothing was written.
     NoMemory,
 }
 
-impl From<Ending<BadInput>> for PagerEnded {
+impl From<Outcome<BadInput>> for PagerEnded {
     ghost use Rattle.std.specs.Prelude.{◌≡◌};
-    ghost use Rattle.tui_pager_run.specs.Ended.{ending_of};
+    ghost use Rattle.tui_pager_run.specs.Ended.{outcome_of};
 
-    ghost from_gives = { λ ending ended. ending_of ended ≡ ending };
+    ghost from_gives = { λ outcome ended. outcome_of ended ≡ outcome };
 
-    fn from(ending: Ending<BadInput>) -> PagerEnded {
-        match ending {
-            Ending::Written(Written::Output) => PagerEnded::Ok,
-            Ending::Written(Written::Usage) => PagerEnded::Usage,
-            Ending::Written(Written::TooLong) => PagerEnded::TooLong,
-            Ending::Written(Written::NotJson) => PagerEnded::NotJson,
-            Ending::Written(Written::Refused(BadInput { at, field })) => {
+    fn from(outcome: Outcome<BadInput>) -> PagerEnded {
+        match outcome {
+            Outcome::Written(Written::Output) => PagerEnded::Ok,
+            Outcome::Written(Written::Usage) => PagerEnded::Usage,
+            Outcome::Written(Written::TooLong) => PagerEnded::TooLong,
+            Outcome::Written(Written::NotJson) => PagerEnded::NotJson,
+            Outcome::Written(Written::Refused(BadInput { at, field })) => {
                 PagerEnded::BadInput { at, field }
             }
-            Ending::Broken(Broken::ReadFault) => PagerEnded::ReadFault,
-            Ending::Broken(Broken::WriteFault) => PagerEnded::WriteFault,
-            Ending::Broken(Broken::NoMemory) => PagerEnded::NoMemory,
+            Outcome::Broken(Broken::ReadFault) => PagerEnded::ReadFault,
+            Outcome::Broken(Broken::WriteFault) => PagerEnded::WriteFault,
+            Outcome::Broken(Broken::NoMemory) => PagerEnded::NoMemory,
         }
     }
 }
@@ -56,7 +57,7 @@ impl PagerEnded {
     ghost use Rattle.std.specs.Process.{exit_status};
     ghost use Rattle.tui_pager_run.specs.Ended.{status_of};
 
-    /// The exit status of the program.
+    /// Returns the exit status of the program.
     pub fn status(&self) -> u8
         ensures { result ≡ status_of self.now }
     {
@@ -72,7 +73,7 @@ impl PagerEnded {
         }
     }
 
-    /// The exit status, as `main` answers it.
+    /// Returns the exit status as an `ExitCode` for `main`.
     pub fn exit_code(&self) -> ExitCode
         ensures { exit_status result ≡ status_of self.now }
     {

@@ -18,7 +18,7 @@ impl PagerField {
     ghost use Rattle.std.specs.Prelude.{◌≡◌};
     ghost use Rattle.tui_pager_run.specs.Refusals.{field_name};
 
-    /// Its name in the input, as `entries`.
+    /// Returns the name of the field in the input, such as `entries`.
     pub fn name(&self) -> &'static str
         ensures { result.now ≡ field_name self.now }
     {

@@ -7,22 +7,22 @@ ghost use Rattle.tui_pager_lib.specs.Entry.{entry_data};
 
 use crate::bad_input::BadInput;
 use crate::field::PagerField;
-use crate::step::Step;
+use crate::step::PagerStep;
 use serde_json::Value;
 use std::alloc::Global;
 use tui_json::{Counted, InputError, Numbered, Short, Within, each_numbered, required};
 use tui_pager_lib::{Entry, PagerSize};
 
-/// All fields of an input. Its texts are borrowed from the value that was read.
+/// All fields of an input. Its strings are borrowed from the JSON value.
 #[derive(Drop)]
 pub(crate) struct Input<'v> {
     pub(crate) size: PagerSize,
     pub(crate) entries: Vec<Entry<'v>>,
-    pub(crate) steps: Vec<Step>,
+    pub(crate) steps: Vec<PagerStep>,
 }
 
-/// The input that a value is. It is refused at the first field that is missing or not of its kind: of the input, or of the entry or
-/// the key of a number.
+/// Reads the input from a JSON value. Fails at the first field that is missing or not of its kind, of the input or of
+/// one of its entries or keys.
 #[tactic(auto, unfolding(crate::specs::Input::input_of))]
 pub(crate) fn read_input<'v>(
     alloc: Global,
@@ -34,7 +34,7 @@ pub(crate) fn read_input<'v>(
     let Counted(values): Counted<'v, 0, 1000> = required(alloc, None, PagerField::Entries, value)?;
     let entries = each_numbered::<Entry<'v>, PagerField>(alloc, (), values)?;
     let Counted(values): Counted<'v, 0, 1000> = required(alloc, None, PagerField::Keys, value)?;
-    let steps = each_numbered::<Step, PagerField>(alloc, (), values)?;
+    let steps = each_numbered::<PagerStep, PagerField>(alloc, (), values)?;
     Ok(Input {
         size,
         entries,
@@ -54,13 +54,13 @@ fn read_size<'v>(alloc: Global, value: &'v Value) -> Result<PagerSize, InputErro
 impl<'v> Numbered<'v, PagerField> for Entry<'v> {
     ghost use Rattle.tui_pager_lib.specs.Entry.{EntryData};
 
-    type Known = ();
+    type Context = ();
 
-    ghost Seen = { EntryData };
+    ghost AsData = { EntryData };
 
-    ghost seen = { entry_data };
+    ghost as_data = { entry_data };
 
-    ghost tests = { λ known. entry_of };
+    ghost tests = { λ context. entry_of };
 
     #[tactic(auto, unfolding(crate::specs::Input::entry_of))]
     fn read(

@@ -1,13 +1,13 @@
-//! What holds of the program's output.
+//! The law of the program's output.
 
-ghost use Rattle.tui_pager_run.specs.Laws.{OutputIsOne};
+ghost use Rattle.tui_pager_run.specs.Laws.{OutputIsUnique};
 
 use tui_pager_lib::pager_laws;
 use tui_print::print_laws;
 
-/// An input that is accepted has one output, whatever the run.
+/// An accepted input has exactly one output, whatever the run.
 pub fn output_law()
-    ensures { OutputIsOne }
+    ensures { OutputIsUnique }
 {
     print_laws();
     pager_laws();

@@ -1,4 +1,4 @@
-//! The program of a pager: it reads entries and keys in JSON, and writes the state behind each key and the last screen.
+//! The program `tui_pager`: it reads entries and keys in JSON, and writes the state after each key and the last screen.
 #![tactic(auto)]
 
 mod bad_input;

@@ -1,4 +1,4 @@
-//! Plain values of the program, which `==` tells apart and a clone leaves as they are.
+//! Values of the program that `==` compares exactly, and whose clones are equal to them.
 
 ghost use Rattle.std.proofs.Common.{rules};
 
@@ -6,27 +6,27 @@ use crate::bad_input::BadInput;
 use crate::command::PagerCommand;
 use crate::ended::PagerEnded;
 use crate::field::PagerField;
-use tui_program::Plain;
+use tui_program::PlainValue;
 
-impl Plain for PagerCommand {
+impl PlainValue for PagerCommand {
     ghost same = { Prim.search rules };
 
     ghost cloned = { Prim.search rules };
 }
 
-impl Plain for PagerField {
+impl PlainValue for PagerField {
     ghost same = { Prim.search rules };
 
     ghost cloned = { Prim.search rules };
 }
 
-impl Plain for BadInput {
+impl PlainValue for BadInput {
     ghost same = { Prim.search rules };
 
     ghost cloned = { Prim.search rules };
 }
 
-impl Plain for PagerEnded {
+impl PlainValue for PagerEnded {
     ghost same = { Prim.search rules };
 
     ghost cloned = { Prim.search rules };

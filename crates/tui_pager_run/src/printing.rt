@@ -1,27 +1,27 @@
-//! What is written of a run.
+//! Writing the output of a run.
 
 ghost use Rattle.std.specs.Prelude.{◌≡◌, ◌<◌, ◌++◌, ℕ, List, [], true};
 ghost use Rattle.tui_pager_run.specs.Printed.{key_line, key_lines};
-ghost use Rattle.tui_outside.specs.Causes.{Writes};
-ghost use Rattle.tui_outside.specs.Gathers.{Gathers};
+ghost use Rattle.tui_io.specs.Causes.{Writes};
+ghost use Rattle.tui_io.specs.Prints.{Prints};
 ghost use Rattle.tui_print.specs.Print.{IsPrint};
-ghost use Rattle.tui_pager_lib.specs.Screen.{IsBlankUnder, page_area, pager_layers};
+ghost use Rattle.tui_pager_lib.specs.Screen.{IsDrawnOnBlank, page_area, pager_layers};
 ghost use Rattle.tui_cells.specs.Buffer.{Screen};
 
 use crate::run::Run;
 use tui_cells::Buffer;
-use tui_outside::{Print, Sink, WriteFault};
+use tui_io::{Print, Sink, WriteFault};
 use tui_pager_lib::PagerState;
-use tui_print::put_runs;
-use tui_rows::put_rows;
+use tui_print::emit_runs;
+use tui_rows::emit_rows;
 
-/// Writes the line of each state, and the print of the last screen. `WriteFault`: the sink has taken the first bytes, but not all
-/// of them. Takes no memory.
-pub(crate) fn put_run<K: Sink>(run: &Run<'_>, sink: &mut K) -> Result<(), WriteFault>
+/// Writes the line of each state, and the print of the last screen. On `WriteFault` the sink has taken the first bytes,
+/// but not all of them. Does not allocate.
+pub(crate) fn write_run<K: Sink>(run: &Run<'_>, sink: &mut K) -> Result<(), WriteFault>
     ensures { (screen : Screen) × (text : List ℕ)
-        × IsBlankUnder (pager_layers run.now.pager) (page_area run.now.pager.width run.now.pager.height) screen
+        × IsDrawnOnBlank (pager_layers run.now.pager) (page_area run.now.pager.width run.now.pager.height) screen
         × IsPrint screen [] text
-        × Writes (K.told sink.old) (K.told sink.new) result (key_lines 0 run.now.states.items ++ text) }
+        × Writes (K.observed sink.old) (K.observed sink.new) result (key_lines 0 run.now.states.items ++ text) }
 {
     let mut print = Print::new();
     add_states(&mut print, sink, &run.states);
@@ -31,7 +31,7 @@ pub(crate) fn put_run<K: Sink>(run: &Run<'_>, sink: &mut K) -> Result<(), WriteF
 
 /// Adds a line for each state.
 fn add_states<K: Sink>(print: &mut Print, sink: &mut K, states: &[PagerState])
-    ensures { Gathers (K.told sink.old) (K.told sink.new) print.old print.new (key_lines 0 states.now) }
+    ensures { Prints (K.observed sink.old) (K.observed sink.new) print.old print.new (key_lines 0 states.now) }
 {
     'states: for number in 0..states.len() {
         add_state(print, sink, number, &states[number]);
@@ -39,7 +39,7 @@ fn add_states<K: Sink>(print: &mut Print, sink: &mut K, states: &[PagerState])
 }
 
 fn add_state<K: Sink>(print: &mut Print, sink: &mut K, number: usize, state: &PagerState)
-    ensures { Gathers (K.told sink.old) (K.told sink.new) print.old print.new (key_line number state.now) }
+    ensures { Prints (K.observed sink.old) (K.observed sink.new) print.old print.new (key_line number state.now) }
 {
     let line = usize::from(state.line);
     print.text(sink, "k ");
@@ -56,8 +56,8 @@ fn add_state<K: Sink>(print: &mut Print, sink: &mut K, number: usize, state: &Pa
 /// Adds the rows and the runs of a screen.
 fn add_screen<K: Sink>(print: &mut Print, sink: &mut K, screen: &Buffer)
     ensures { (text : List ℕ) × IsPrint screen.now [] text
-        × Gathers (K.told sink.old) (K.told sink.new) print.old print.new text }
+        × Prints (K.observed sink.old) (K.observed sink.new) print.old print.new text }
 {
-    put_rows(print, screen, sink);
-    put_runs(print, screen, sink);
+    emit_rows(print, screen, sink);
+    emit_runs(print, screen, sink);
 }

@@ -1,8 +1,8 @@
-//! A whole run, from the words and the bytes that are read to the bytes that are written.
+//! A whole run, from the arguments and the input to the output.
 
 ghost use Rattle.tui_program.specs.Transcript.{transcript_of};
 ghost use Rattle.tui_program.specs.Runs.{IsRun, IsRunFrom};
-ghost use Rattle.tui_pager_run.specs.Ended.{ending_of};
+ghost use Rattle.tui_pager_run.specs.Ended.{outcome_of};
 ghost use Rattle.tui_pager_run.specs.Rules.{pager_rules};
 
 use crate::command::PagerCommand;
@@ -10,31 +10,40 @@ use crate::ended::PagerEnded;
 use std::alloc::Global;
 use std::env::Args;
 use std::io;
-use tui_outside::{Sink, Source};
-use tui_program::{Leftovers, run};
+use tui_io::{Sink, Source};
+use tui_program::{Cleanup, run};
 
-/// Reads entries and keys in JSON (docs/PROGRAMS.md) from the source, makes the step of each key in order, and writes the states and
-/// the last screen to the sink.
+/// Reads entries and keys in JSON (docs/PROGRAMS.md) from the source. Makes the step of each key in order, and writes
+/// the states and the last screen to the sink.
 ///
-/// It ends `Ok` only where there are no words, the source was read to its end within 1,048,576 bytes, these bytes are JSON of which
-/// each field is of its kind, no read and no put failed, and the sink holds what it held and then for the start and for each key a
-/// line `k` with how many keys came before, the selected place or `-`, the offset and the line, and then the rows and the runs of the
-/// last screen. At `NoMemory` the sink is as before. Every other ending has its cause; see `PagerEnded`.
+/// The outcome is `Ok` only if all of this holds:
+///
+/// - there are no arguments;
+/// - the source was read to its end, within 1,048,576 bytes;
+/// - these bytes are JSON in which each field is of its kind;
+/// - no read and no write failed;
+/// - the sink has what it had before, followed by the output. There is a line `k` for the start and for each key. It
+///   has the number of keys before, the number of the selected entry or `-`, the offset and the line. Then come the
+///   rows and the runs of the last screen.
+///
+/// On `NoMemory` the sink is unchanged. Every other outcome has its cause; see `PagerEnded`.
 pub fn run_pager<S: Source, K: Sink>(
     alloc: Global,
-    words: &[String],
+    arguments: &[String],
     source: &mut S,
     sink: &mut K,
 ) -> PagerEnded
-    ensures { IsRun pager_rules words.now
-        (transcript_of (S.told source.old) (S.told source.new) (K.told sink.old) (K.told sink.new)) (ending_of result) }
+    ensures { IsRun pager_rules arguments.now
+        (transcript_of (S.observed source.old) (S.observed source.new) (K.observed sink.old) (K.observed sink.new)) (outcome_of result) }
 {
-    run::<PagerCommand, S, K>(alloc, words, source, sink, Leftovers::Dropped).into()
+    run::<PagerCommand, S, K>(alloc, arguments, source, sink, Cleanup::Dropped).into()
 }
 
-/// Runs as `run_pager` does, with the words that the system gives; where it refuses a word, with one empty word, so that it ends with
-/// `Usage`; where it says that memory was wanting for them, nothing is read and nothing written. It is the last that a process does:
-/// the memory of what it read and drew is left to the system.
+/// Runs as `run_pager` does, with the system's arguments. If the system reports an invalid argument, runs with a single
+/// empty argument, so that the outcome is `Usage`. If it reports that it is out of memory, nothing is read and nothing
+/// is written.
+///
+/// Call this only as the last action of a process: the memory of the run is leaked.
 pub fn run_program<S: Source, K: Sink>(
     alloc: Global,
     args: io::Result<Args>,
@@ -42,7 +51,7 @@ pub fn run_program<S: Source, K: Sink>(
     sink: &mut K,
 ) -> PagerEnded
     ensures { IsRunFrom pager_rules args
-        (transcript_of (S.told source.old) (S.told source.new) (K.told sink.old) (K.told sink.new)) (ending_of result) }
+        (transcript_of (S.observed source.old) (S.observed source.new) (K.observed sink.old) (K.observed sink.new)) (outcome_of result) }
 {
     tui_program::run_program::<PagerCommand, S, K>(alloc, args, source, sink).into()
 }

@@ -1,24 +1,24 @@
 //! A pager, moved by the keys of an input.
 
 ghost use Rattle.std.specs.Prelude.{◌≡◌, IfOk, OnOk, map};
-ghost use Rattle.tui_pager_run.specs.Input.{called, input_data};
+ghost use Rattle.tui_pager_run.specs.Input.{step_call, input_data};
 ghost use Rattle.tui_pager_run.specs.States.{first_of, last_of, states_of};
 ghost use Rattle.tui_pager_lib.specs.Laws.{after_call, after_calls};
 
 use crate::input::Input;
-use crate::step::Step;
+use crate::step::PagerStep;
 use std::alloc::Global;
 use tui_cells::Mem;
 use tui_pager_lib::{Pager, PagerState};
 
-/// A pager behind all keys, and its states: the one at the start, and the one behind each key.
+/// A pager after all keys, and its states: at the start, and after each key.
 #[derive(Drop)]
 pub(crate) struct Run<'v> {
     pub(crate) pager: Pager<'v>,
     pub(crate) states: Vec<PagerState>,
 }
 
-/// Makes the steps of all keys. `NoMemory` where there is none for the pager, its screens and its states.
+/// Makes the steps of all keys. Fails with `NoMemory` if the pager, its screens or its states can't be allocated.
 pub(crate) fn press_keys<'v>(alloc: Global, input: Input<'v>) -> Mem<Run<'v>>
     ensures pager { IfOk result (λ run. run.pager ≡ last_of (input_data input.entry)) }
     ensures states { IfOk result (λ run. run.states.items ≡ states_of (first_of (input_data input.entry)) (input_data input.entry).calls) }
@@ -33,10 +33,10 @@ pub(crate) fn press_keys<'v>(alloc: Global, input: Input<'v>) -> Mem<Run<'v>>
     Ok(Run { pager, states })
 }
 
-/// Makes the steps in order, and answers the state at the start and behind each of them.
-fn step_through(alloc: Global, pager: &mut Pager<'_>, steps: &[Step]) -> Mem<Vec<PagerState>>
-    ensures pager { OnOk result (pager.new ≡ after_calls pager.old (map called steps.now)) }
-    ensures states { IfOk result (λ states. states.items ≡ states_of pager.old (map called steps.now)) }
+/// Makes the steps in order. Returns the state at the start and the one after each step.
+fn step_through(alloc: Global, pager: &mut Pager<'_>, steps: &[PagerStep]) -> Mem<Vec<PagerState>>
+    ensures pager { OnOk result (pager.new ≡ after_calls pager.old (map step_call steps.now)) }
+    ensures states { IfOk result (λ states. states.items ≡ states_of pager.old (map step_call steps.now)) }
 {
     let mut states = Vec::with_capacity(alloc, steps.len() + 1)?;
     states.push(pager.state())?;
@@ -47,11 +47,11 @@ fn step_through(alloc: Global, pager: &mut Pager<'_>, steps: &[Step]) -> Mem<Vec
     Ok(states)
 }
 
-fn make(pager: &mut Pager<'_>, step: &Step) -> Mem<()>
-    ensures { OnOk result (pager.new ≡ after_call pager.old (called step.now)) }
+fn make(pager: &mut Pager<'_>, step: &PagerStep) -> Mem<()>
+    ensures { OnOk result (pager.new ≡ after_call pager.old (step_call step.now)) }
 {
     match step {
-        Step::Press(key) => pager.key(*key),
-        Step::Resize(size) => pager.take_size(*size),
+        PagerStep::Press(key) => pager.key(*key),
+        PagerStep::Resize(size) => pager.set_size(*size),
     }
 }

@@ -9,9 +9,9 @@ use std::alloc::Global;
 use tui_json::{InputError, Kind, KindError, Named, Numbered, Within, by_name, error_at};
 use tui_pager_lib::{Key, PagerSize};
 
-/// One of the keys of an input: a key by its name, or another size of the screen.
+/// One of the keys of an input: a key, by its name, or another size of the screen.
 #[derive(Clone, Copy)]
-pub(crate) enum Step {
+pub(crate) enum PagerStep {
     Press(Key),
     Resize(PagerSize),
 }
@@ -28,9 +28,9 @@ impl<'v> Kind<'v, PagerField> for PagerSize {
     ghost use Rattle.std.specs.Prelude.{ℕ};
     ghost use Rattle.tui_pager_run.specs.Input.{size_of};
 
-    ghost Seen = { ℕ × ℕ };
+    ghost AsData = { ℕ × ℕ };
 
-    ghost seen = { λ size. (size.width, size.height) };
+    ghost as_data = { λ size. (size.width, size.height) };
 
     ghost kind = { size_of };
 
@@ -45,43 +45,43 @@ impl<'v> Kind<'v, PagerField> for PagerSize {
     }
 }
 
-impl<'v> Kind<'v, PagerField> for Step {
-    ghost use Rattle.tui_pager_run.specs.Input.{called, call_of};
+impl<'v> Kind<'v, PagerField> for PagerStep {
+    ghost use Rattle.tui_pager_run.specs.Input.{step_call, call_of};
     ghost use Rattle.tui_pager_lib.specs.Laws.{Call};
 
-    ghost Seen = { Call };
+    ghost AsData = { Call };
 
-    ghost seen = { called };
+    ghost as_data = { step_call };
 
     ghost kind = { call_of };
 
-    fn read(alloc: Global, value: &'v Value) -> Result<Step, KindError> {
+    fn read(alloc: Global, value: &'v Value) -> Result<PagerStep, KindError> {
         match by_name::<Key, PagerField>(value) {
-            Some(key) => Ok(Step::Press(key)),
-            None => Ok(Step::Resize(<PagerSize as Kind<'v, PagerField>>::read(alloc, value)?)),
+            Some(key) => Ok(PagerStep::Press(key)),
+            None => Ok(PagerStep::Resize(<PagerSize as Kind<'v, PagerField>>::read(alloc, value)?)),
         }
     }
 }
 
-impl<'v> Numbered<'v, PagerField> for Step {
-    ghost use Rattle.tui_pager_run.specs.Input.{called, key_of};
+impl<'v> Numbered<'v, PagerField> for PagerStep {
+    ghost use Rattle.tui_pager_run.specs.Input.{step_call, key_of};
     ghost use Rattle.tui_pager_lib.specs.Laws.{Call};
 
-    type Known = ();
+    type Context = ();
 
-    ghost Seen = { Call };
+    ghost AsData = { Call };
 
-    ghost seen = { called };
+    ghost as_data = { step_call };
 
-    ghost tests = { λ known. key_of };
+    ghost tests = { λ context. key_of };
 
     fn read(
         alloc: Global,
         _known: (),
         number: usize,
         value: &'v Value,
-    ) -> Result<Step, InputError<BadInput>> {
-        match <Step as Kind<'v, PagerField>>::read(alloc, value) {
+    ) -> Result<PagerStep, InputError<BadInput>> {
+        match <PagerStep as Kind<'v, PagerField>>::read(alloc, value) {
             Ok(step) => Ok(step),
             Err(why) => Err(error_at(PagerField::Keys, Some(number), why)),
         }

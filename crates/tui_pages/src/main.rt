@@ -1,9 +1,9 @@
-//! The program `tui_pages`: it reads a report in JSON from standard input and writes its pages to standard output.
+//! The program `tui_pages`. It reads a report in JSON from standard input, and writes its pages to standard output.
 #![tactic(auto)]
 
 use std::process::ExitCode;
 use std::{env, io};
-use tui_outside::{StdSink, StdSource};
+use tui_io::{StdSink, StdSource};
 use tui_pages_run::run_program;
 
 fn main(rt: HostRuntime) -> ExitCode {

@@ -1,4 +1,4 @@
--- The pieces that records are cut into.
+-- Cutting records into pieces.
 use Rattle.std.proofs.Common.{◌≡◌, ℕ, zero, suc, ◌+◌, ◌-◌, ◌<◌, ◌≤◌, min, List, [], ◌∷◌, ◌++◌, length, get_or, drop, true, false, refl, sym, ap, ◌∙◌, subst, arith, inl, inr}
 use Rattle.std.specs.Prelude.{◌⊎◌, ⊤, nat_lt, map, sum_by, flat_map, slice_index}
 use Rattle.std.specs.List.{AllByRecursion, range_with_len}
@@ -13,7 +13,7 @@ use Rattle.tui_pages_lib.specs.Filling.{cut, pieces_from}
 abbrev pub Heights : List ℕ → Type 0
 Heights heights = AllByRecursion (λ height. 0 < height) heights
 
--- the pieces of the records at this place and on, of which the first gave `from` lines already
+-- the pieces of the records from this index on; earlier pieces already have the first `from` lines of the first one
 abbrev pub Cuts : ℕ → ℕ → ℕ → List ℕ → List Piece → Type 0
 Cuts room place from [] ps = ps ≡ []
 Cuts room place from (height ∷ heights) [] = ⊥
@@ -48,7 +48,7 @@ same_cuts room place from (height ∷ heights) (p ∷ ps) (q ∷ qs) c d =
     ] in
     cc
 
--- the cutting gives these pieces
+-- cutting gives these pieces
 
 pub lt_test : (a b : ℕ) → a < b → nat_lt a b ≡ true
 lt_test a b h = grind (arith, nat_tests)
@@ -88,7 +88,7 @@ pieces_cut room place [] r h = refl
 pieces_cut room place (height ∷ heights) r h =
     cut_cuts room place height 0 height heights (pieces_from room (place + 1) heights) r h.0 (omega arith) (pieces_cut room (place + 1) heights r h.1)
 
--- the lines of a record from one on
+-- the lines of a record from one of them on
 
 abbrev pub some_lines : ℕ → ℕ → ℕ → List (ℕ × ℕ)
 some_lines place from count = map (λ line. (place, line)) (range_with_len from count)
@@ -106,7 +106,7 @@ first_line : (place from count : ℕ) → 0 < count
 first_line place from zero h = absurd (omega arith)
 first_line place from (suc count) h = let less : suc count - 1 ≡ count = omega arith in rw less refl
 
--- the lines of the records at this place and on, but for the first ones of the first
+-- the lines of the records from this index on, except the first ones of the first record
 abbrev pub lines_from : ℕ → ℕ → List ℕ → List (ℕ × ℕ)
 lines_from place from [] = []
 lines_from place from (height ∷ heights) = some_lines place from (height - from) ++ flat_map lines_of (wholes_from (place + 1) heights)
@@ -115,7 +115,7 @@ pub lines_whole : (place : ℕ) (heights : List ℕ) → lines_from place 0 heig
 lines_whole place [] = refl
 lines_whole place (height ∷ heights) = refl
 
--- where records begin with a line, the first line is that of the place
+-- if the lines of records start with a line, that is the first line of the record at this index
 begins : (place from : ℕ) (heights : List ℕ) (rest : List (ℕ × ℕ)) (x : ℕ × ℕ) → Heights heights
     → x ∷ rest ≡ lines_from place 0 heights → x.0 ≡ place
 begins place from [] rest x h e = absurd (let n = ap length e in omega arith)
@@ -132,12 +132,12 @@ pub height_at : (n : ℕ) (xs : List ℕ) (x : ℕ) (rest : List ℕ) → drop n
 height_at n xs x rest e = let same : n + 0 ≡ n = omega arith in ap (λ i. get_or xs i 0) (sym same) ∙ sym (get_or-drop n xs 0 0)
     ∙ ap (λ ys. get_or ys 0 0) e
 
--- what is known of a piece: it is one by the definition, and no longer than a page
+-- what is known of a piece: it is valid by the definition, and no longer than a page
 pub record Fits (heights : List ℕ) (room : ℕ) (p : Piece) : Type 0 where
   pub is_piece : IsPiece heights room p
   pub small : size_of p ≤ room
 
--- lines and pieces by the definition are these pieces
+-- pieces that are valid by the definition and give the right lines are these pieces
 same_start : (p : Piece) (place from count : ℕ) (ls ms : List (ℕ × ℕ)) → p.from < p.to → 0 < count
     → lines_of p ++ ls ≡ some_lines place from count ++ ms → (p.place ≡ place) × (p.from ≡ from)
 same_start p place from count ls ms some more e =
@@ -148,7 +148,7 @@ same_start p place from count ls ms some more e =
     let same : (let x : ℕ × ℕ = (p.place, p.from) in x) ≡ (place, from) = cc in
     (ap (λ (y : ℕ × ℕ). y.0) same, ap (λ (y : ℕ × ℕ). y.1) same)
 
--- how far the piece goes that a record is due
+-- how far the next piece of a record goes
 next_end : (all : List ℕ) (room height : ℕ) (p : Piece) → Fits all room p → slice_index all p.place ≡ height → p.to ≤ height
     → p.to ≡ min height (p.from + room)
 next_end all room height p fits at le =
@@ -161,7 +161,7 @@ next_end all room height p fits at le =
         | inl more ↦ (let f : size_of p ≡ room = full (omega arith) (omega arith) in omega arith)
         | inr done ↦ omega arith
       ]
-      | inr low ↦ (let w = whole (omega arith) in let w0 = w.0 in let w1 = w.1 in omega arith)
+      | inr bounded ↦ (let w = whole (omega arith) in let w0 = w.0 in let w1 = w.1 in omega arith)
     ]
 
 -- the first record, if there is one, has a line from there on
@@ -199,7 +199,7 @@ lines_cut all room place from (height ∷ heights) (p ∷ ps) at high b fit e =
     let rest = flat_map lines_of (wholes_from (place + 1) heights) in
     elim (cases_lt height p.to) [
       | inl past ↦
-          -- a line past the record's
+          -- a line past the end of the record
           (let f : some_lines place from (size_of p) ≡ some_lines place from (height - from) ++ some_lines place height (p.to - height) = some_lines_split place from height (height - from) (p.to - height) (size_of p) (omega arith) (omega arith) in
           let g : some_lines place from (height - from) ++ (some_lines place height (p.to - height) ++ flat_map lines_of ps) ≡ some_lines place from (height - from) ++ rest =
           sym (append_assoc (some_lines place from (height - from)) (some_lines place height (p.to - height)) (flat_map lines_of ps)) ∙ ap (λ l. l ++ flat_map lines_of ps) (sym f) ∙ e' in
@@ -235,7 +235,7 @@ lines_cut all room place from (height ∷ heights) (p ∷ ps) at high b fit e =
           ])
     ]
 
--- and these pieces have the lines
+-- these pieces have the lines of the records
 
 pub cuts_lines : (room place from : ℕ) (heights : List ℕ) (ps : List Piece) → 0 < room → Heights heights → Begun from heights
     → Cuts room place from heights ps
@@ -262,42 +262,42 @@ cuts_lines room place from (height ∷ heights) (p ∷ ps) r high b c =
           ∙ ap (λ l. some_lines place from (height - from) ++ l) (cuts_lines room (place + 1) 0 heights ps r high.1 (begun_first heights high.1) done.1 ∙ lines_whole (place + 1) heights))
     ]
 
--- they are pieces by the definition
+-- they are valid by the definition
 pub record IsCut (heights : List ℕ) (room : ℕ) (p : Piece) : Type 0 where
   pub is_piece : IsPiece heights room p
   pub small : size_of p ≤ room
-  pub low : size_of p ≤ height_of heights p
+  pub bounded : size_of p ≤ height_of heights p
   pub tall : p.from ≡ 0 → room < height_of heights p → size_of p ≡ room
 
 cut_is : (all : List ℕ) (room height from : ℕ) (p : Piece) → 0 < room → slice_index all p.place ≡ height → p.from ≡ from
     → from < height → (height ≤ room → from ≡ 0)
     → p.to ≡ min height (from + room) → IsCut all room p
-cut_is all room height from p r at start b low to = record {
+cut_is all room height from p r at start b bounded to = record {
   is_piece = record {
     some = omega arith;
-    whole = λ h. let z = low (omega arith) in (omega arith, omega arith);
+    whole = λ h. let z = bounded (omega arith) in (omega arith, omega arith);
     full = λ h k. omega arith;
   };
   small = omega arith;
-  low = omega arith;
+  bounded = omega arith;
   tall = λ z h. omega arith;
 }
 
 pub cuts_are : (all : List ℕ) (room place from : ℕ) (heights : List ℕ) (ps : List Piece) → 0 < room → drop place all ≡ heights
     → Heights heights → Begun from heights
     → (slice_index all place ≤ room → from ≡ 0) → Cuts room place from heights ps → AllByRecursion (IsCut all room) ps
-cuts_are all room place from [] ps r at high b low c = subst (AllByRecursion (IsCut all room)) (sym c) tt
-cuts_are all room place from (height ∷ heights) [] r at high b low c = absurd c
-cuts_are all room place from (height ∷ heights) (p ∷ ps) r at high b low c =
+cuts_are all room place from [] ps r at high b bounded c = subst (AllByRecursion (IsCut all room)) (sym c) tt
+cuts_are all room place from (height ∷ heights) [] r at high b bounded c = absurd c
+cuts_are all room place from (height ∷ heights) (p ∷ ps) r at high b bounded c =
     let here : slice_index all place ≡ height = height_at place all height heights at in
     let there : slice_index all p.place ≡ height = ap (slice_index all) c.0 ∙ here in
-    let first = cut_is all room height from p r there c.1 b (λ h. low (omega arith)) c.2 in
+    let first = cut_is all room height from p r there c.1 b (λ h. bounded (omega arith)) c.2 in
     elim c.3 [
       | inl more ↦ (let le = more.0 in (first, cuts_are all room place (from + room) (height ∷ heights) ps r at high le (λ h. absurd (omega arith)) more.1))
       | inr done ↦ (first, cuts_are all room (place + 1) 0 heights ps r (drop_next place all height heights at) high.1 (begun_first heights high.1) (λ h. refl) done.1)
     ]
 
--- a piece that goes on with a record follows one of `room` lines
+-- a piece that continues a record follows one of `room` lines
 abbrev pub Follows : ℕ → ℕ → List Piece → Type 0
 Follows room before [] = ⊤
 Follows room before (p ∷ ps) = (0 < p.from → room ≤ before) × Follows room (size_of p) ps
@@ -314,7 +314,7 @@ cuts_follow room place from before (height ∷ heights) (p ∷ ps) h c =
       | inr done ↦ ((λ z. h (omega arith)), cuts_follow room (place + 1) 0 (size_of p) heights ps (λ z. absurd (omega arith)) done.1)
     ]
 
--- behind the pieces of a page
+-- the same for the pieces after a page
 pub follows_page : (room before : ℕ) (page rest : List Piece) → Follows room before (page ++ rest)
     → (last : ℕ) × (last ≤ before + sum_by size_of page) × Follows room last rest
 follows_page room before [] rest f = (before, omega arith, f)

@@ -1,4 +1,4 @@
--- Paragraphs in areas, and things side by side.
+-- Paragraphs in areas, and items side by side.
 use Rattle.std.proofs.Common.{◌≡◌, ℕ, ◌+◌, ◌<◌, ◌≤◌, min, Option, None, List, [], ◌∷◌, length, map, drop, get_or}
 use Rattle.std.proofs.Common.{Result, Ok, Err, sym, ap, ◌∙◌, subst, arith, inl, inr}
 use Rattle.std.specs.Prelude.{OnErr, OnOk}
@@ -19,7 +19,7 @@ use Rattle.tui_para.specs.Stays.{paragraph_stays}
 use Rattle.tui_pages_lib.specs.Strokes.{side_by_side}
 use Rattle.tui_pages_lib.proofs.Measured.{drop_past}
 
--- what a paragraph without a block keeps
+-- what a paragraph without a block does not change
 pub kept_in : {T E : Type 0} (result : Result T E) (p : ParagraphData) (area : Rect) (a b : Screen) → p.block ≡ None →
     OnOk result (Painted (paragraph_layers p (intersection_of area a.area)) a b) →
     OnErr result (KeptOutside (footprint_if p.block (intersection_of area a.area)) a b) → KeptOutside (covers area) a b
@@ -33,7 +33,7 @@ kept_in (Err e) p area a b none ok err =
     KeptOutside-weaker (λ x y out. outside_both area a.area x y out)
     (subst (λ (o : Option BlockData). KeptOutside (footprint_if o clip) a b) none err)
 
--- a thing more side by side, and none
+-- one more item side by side, and none
 pub beside_more : {A X : Type 0} (layers : Rect → Rect → X → List Layer) (look : A → X) (buffer rows area : Rect) (places : List Segment)
     (xs : List A) (i n : ℕ) (p : Segment) (x : A) (a b c : Screen) →
     n ≡ min (length places) (length xs) → i < n → a.area ≡ buffer →
@@ -74,7 +74,7 @@ beside_done layers look rows places xs i n a end h =
           subst (λ qs. Painted (side_by_side layers rows qs (drop i (map look xs))) a a) (sym (drop_past i places done)) (Painted-none a)
     ]
 
--- what keeps all outside some columns of an area keeps all outside the area
+-- what changes nothing outside some columns of an area changes nothing outside the area
 pub column_kept : (rows area : Rect) (start width : ℕ) (a b c : Screen) → KeptOutside (covers rows) a b → area ≡ columns_from rows start width →
     KeptOutside (covers area) b c → KeptOutside (covers rows) a c
 column_kept rows area start width a b c before e k =

@@ -1,4 +1,4 @@
--- A page, drawn part by part.
+-- A page is drawn part by part.
 use Rattle.std.proofs.Common.{◌≡◌, ℕ, zero, suc, ◌-◌, ◌<◌, List, [], ◌∷◌, length, Result, Ok, Err, sym, ap, ◌∙◌, subst, arith}
 use Rattle.std.specs.Prelude.{OnOk, Some, slice_get, slice_index_or}
 use Rattle.tui_cells.specs.Buffer.{Screen}
@@ -8,7 +8,7 @@ use Rattle.tui_cells.specs.declared.rect.Rect.{Rect}
 use Rattle.tui_cells.proofs.Painting.{Painted-then}
 use Rattle.tui_layout.specs.declared.segment.Segment.{Segment}
 use Rattle.tui_pages_lib.specs.Report.{ColumnData, ReportData, places_of}
-use Rattle.tui_pages_lib.specs.Strokes.{body_layers, drawn_in, head_layers, names_layers, number_of, page_area, page_layers, pieces_layers, plain, right_layers}
+use Rattle.tui_pages_lib.specs.Strokes.{body_layers, paragraph_in, head_layers, names_layers, number_of, page_area, page_layers, pieces_layers, unwrapped, right_layers}
 use Rattle.tui_pages_lib.specs.declared.piece.Piece.{Piece}
 
 -- a page that is read
@@ -20,14 +20,14 @@ read_page (first ∷ pages) (suc at) page h e = read_page pages at page (omega a
 
 pub head_drawn : {T E : Type 0} (result : Result T E) (r : ReportData) (places : List Segment) (columns : List ColumnData)
     (page first second : Rect) (a b c : Screen) → page ≡ page_area r → places ≡ places_of r.width r.columns → columns ≡ r.columns →
-    first ≡ rows_from page 0 1 → second ≡ rows_from page 1 1 → Painted (drawn_in a.area first (plain r.title)) a b →
+    first ≡ rows_from page 0 1 → second ≡ rows_from page 1 1 → Painted (paragraph_in a.area first (unwrapped r.title)) a b →
     OnOk result (Painted (names_layers b.area second places columns) b c) → OnOk result (Painted (head_layers r a.area) a c)
 unfolding head_layers
 head_drawn (Err x) r places columns page first second a b c pg pl cs f s title names = tt
 head_drawn (Ok x) r places columns page first second a b c pg pl cs f s title names =
     let there = places_of r.width r.columns in
-    let p : Painted (drawn_in a.area (rows_from (page_area r) 0 1) (plain r.title)) a b =
-    subst (λ (R : Rect). Painted (drawn_in a.area R (plain r.title)) a b) (f ∙ ap (λ g. rows_from g 0 1) pg) title in
+    let p : Painted (paragraph_in a.area (rows_from (page_area r) 0 1) (unwrapped r.title)) a b =
+    subst (λ (R : Rect). Painted (paragraph_in a.area R (unwrapped r.title)) a b) (f ∙ ap (λ g. rows_from g 0 1) pg) title in
     let q : Painted (names_layers a.area (rows_from (page_area r) 1 1) there r.columns) b c =
     subst (λ (R : Rect). Painted (names_layers a.area R there r.columns) b c) (s ∙ ap (λ g. rows_from g 1 1) pg)
     (subst (λ ks. Painted (names_layers a.area second ks r.columns) b c) pl

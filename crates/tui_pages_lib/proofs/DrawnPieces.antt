@@ -18,7 +18,7 @@ use Rattle.tui_pages_lib.specs.declared.piece.Piece.{Piece}
 use Rattle.tui_pages_lib.specs.declared.records.Record.{Record}
 use Rattle.tui_pages_lib.proofs.Measured.{drop_past}
 
--- the lines of a piece more
+-- the lines of one more piece
 pub lines_more : (pieces : List Piece) (i : ℕ) (d : Piece) → i < length pieces →
     lines_on (take (i + 1) pieces) ≡ lines_on (take i pieces) + size_of (get_or pieces i d)
 lines_more [] i d h = absurd (omega arith)
@@ -59,18 +59,18 @@ unfolding pieces_layers
 pieces_done buffer page places records row i pieces a h =
     subst (λ qs. Painted (pieces_layers buffer page places records row qs) a a) (sym (drop_past i pieces h)) (Painted-none a)
 
--- rows of a part of an area
+-- a position outside some rows of a page is outside the rows among them
 part_out : (page : Rect) (above size from count : ℕ) (x y : ℕ) → above ≤ from → min (from + count) page.height ≤ above + size →
     covers (rows_from page above size) x y ≡ false → covers (rows_from page from count) x y ≡ false
-part_out page above size from count x y low high out = grind (arith, nat_tests)
+part_out page above size from count x y bounded high out = grind (arith, nat_tests)
 
 pub part_kept : (page rows : Rect) (above size from count : ℕ) (a b : Screen) → above ≤ from → min (from + count) page.height ≤ above + size →
     rows ≡ rows_from page from count → KeptOutside (covers rows) a b → KeptOutside (covers (rows_from page above size)) a b
-part_kept page rows above size from count a b low high e kept =
-    KeptOutside-weaker (λ x y out. part_out page above size from count x y low high out) (subst (λ (R : Rect). KeptOutside (covers R) a b) e kept)
+part_kept page rows above size from count a b bounded high e kept =
+    KeptOutside-weaker (λ x y out. part_out page above size from count x y bounded high out) (subst (λ (R : Rect). KeptOutside (covers R) a b) e kept)
 
--- what keeps all outside some rows below the first two keeps all outside these
+-- what changes nothing outside some rows below the first two changes nothing outside all of those rows
 pub rows_kept : (page rows : Rect) (from count : ℕ) (a b c : Screen) → 2 ≤ from → KeptOutside (covers (rows_from page 2 (page.height - 2))) a b →
     rows ≡ rows_from page from count → KeptOutside (covers rows) b c → KeptOutside (covers (rows_from page 2 (page.height - 2))) a c
-rows_kept page rows from count a b c low before e k =
-    KeptOutside-then before (part_kept page rows 2 (page.height - 2) from count b c low (omega arith) e k)
+rows_kept page rows from count a b c bounded before e k =
+    KeptOutside-then before (part_kept page rows 2 (page.height - 2) from count b c bounded (omega arith) e k)

@@ -16,7 +16,7 @@ pub some_fit : pages_of (2 ∷ 1 ∷ 1 ∷ []) 2 ≡ (piece 0 0 2 ∷ []) ∷ (p
 unfolding pages_of pieces_from cut fill
 some_fit = refl
 
--- a record of five lines on pages of two, and one behind its last line
+-- a record of five lines on pages of two lines, and a record after its last line
 pub one_is_taller : pages_of (5 ∷ 1 ∷ []) 2 ≡ (piece 0 0 2 ∷ []) ∷ (piece 0 2 4 ∷ []) ∷ (piece 0 4 5 ∷ piece 1 0 1 ∷ []) ∷ []
 unfolding pages_of pieces_from cut fill
 one_is_taller = refl
@@ -25,7 +25,7 @@ pub none_at_all : pages_of [] 2 ≡ [] ∷ []
 unfolding pages_of pieces_from fill
 none_at_all = refl
 
--- the number of the first of twelve pages in a row of nine columns and in one of two
+-- the number of the first of twelve pages, in a row of nine columns and in one of two columns
 pub number_at_right : right_layers (area_of 0 0 9 1) (area_of 0 0 9 1) (codes "1/12")
     ≡ set_layers (area_of 0 0 9 1) (record { x = 5; y = 0 }) (styled_text (codes "1/12") no_style) 4
 unfolding right_layers

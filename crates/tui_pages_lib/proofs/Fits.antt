@@ -1,4 +1,4 @@
--- The pieces of a page are those of records, and the page has room for them.
+-- The pieces of a page belong to records, and the page has room for them.
 use Rattle.std.proofs.Common.{◌≡◌, ℕ, zero, suc, ◌+◌, ◌-◌, ◌<◌, ◌≤◌, min, List, [], ◌∷◌, length, drop, refl, sym, ap, ◌∙◌, subst, arith, inl, inr}
 use Rattle.std.specs.Prelude.{All, Some, slice_get, slice_index}
 use Rattle.std.specs.List.{AllByRecursion}
@@ -12,13 +12,13 @@ use Rattle.tui_pages_lib.specs.Strokes.{IsDrawable}
 use Rattle.tui_pages_lib.specs.declared.piece.Piece.{Piece}
 use Rattle.tui_pages_lib.proofs.Cutting.{Begun, Cuts, Heights, begun_first, drop_next, height_at}
 use Rattle.tui_pages_lib.proofs.Measured.{IsLow, heights_some}
-use Rattle.tui_pages_lib.proofs.OnePages.{all_back, all_front, all_weaker, known_of, pages_found}
+use Rattle.tui_pages_lib.proofs.UniquePages.{all_back, all_front, all_weaker, known_of, pages_found}
 
--- a piece of a record, none of its lines past the record's
+-- a piece of a record, with no line past the end of the record
 record IsInside (heights : List ℕ) (p : Piece) : Type 0 where
   place : p.place < length heights
   some : p.from < p.to
-  low : p.to ≤ slice_index heights p.place
+  bounded : p.to ≤ slice_index heights p.place
 
 inside_is : (all heights : List ℕ) (room place from height : ℕ) (p : Piece) → 0 < room → drop place all ≡ height ∷ heights → p.place ≡ place →
     p.from ≡ from → from < height → p.to ≡ min height (from + room) → IsInside all p
@@ -27,7 +27,7 @@ inside_is all heights room place from height p r at there begins more to =
     record {
       place = omega (arith, there, ap length at, length-drop place all);
       some = omega arith;
-      low = omega arith;
+      bounded = omega arith;
     }
 
 cuts_inside : (all : List ℕ) (room place from : ℕ) (heights : List ℕ) (ps : List Piece) → 0 < room → drop place all ≡ heights → Heights heights →
@@ -42,7 +42,7 @@ cuts_inside all room place from (height ∷ heights) (p ∷ ps) r at high b c =
           (first, cuts_inside all room (place + 1) 0 heights ps r (drop_next place all height heights at) high.1 (begun_first heights high.1) done.1)
     ]
 
--- what holds of the pieces of all pages holds of those of each page
+-- what holds of the pieces of all pages holds of the pieces of each page
 on_page : (P : Piece → Type 0) (pages : List (List Piece)) (at : ℕ) (page : List Piece) → at < length pages → slice_get pages at ≡ Some page →
     AllByRecursion P (all_pieces pages) → AllByRecursion P page
 on_page P [] at page h e a = absurd (omega arith)
@@ -65,10 +65,10 @@ all_inside (height ∷ heights) room pages r high are =
     cuts_inside (height ∷ heights) room 0 0 (height ∷ heights) (all_pieces pages) r refl high (begun_first (height ∷ heights) high) known.cuts
 
 drawable : (heights : List ℕ) (p : Piece) → All IsLow heights → IsInside heights p → IsDrawable (length heights) p
-drawable heights p low i =
-    let most = low p.place 0 i.place in
-    let within = i.low in
-    record { place = i.place; some = i.some; low = omega arith }
+drawable heights p bounded i =
+    let most = bounded p.place 0 i.place in
+    let within = i.bounded in
+    record { place = i.place; some = i.some; bounded = omega arith }
 
 -- a page of a report can be drawn
 pub record Fits (height count : ℕ) (page : List Piece) : Type 0 where
@@ -89,6 +89,6 @@ page_fits places width height columns records pages at page r h e =
     record {
       drawable = subst (λ n. All (IsDrawable n) page) (length-map records (record_height places))
           (All-from_recursion (IsDrawable (length heights)) page
-          (all_weaker (IsInside heights) (IsDrawable (length heights)) page (λ p i. drawable heights p r.low i) here));
+          (all_weaker (IsInside heights) (IsDrawable (length heights)) page (λ p i. drawable heights p r.bounded i) here));
       fit = omega arith;
     }

@@ -1,11 +1,11 @@
--- Pages that take what fits are the only ones of their kind, and no others are fewer.
+-- Pages that take as much as fits are the only ones of their kind, and no other pages are fewer.
 use Rattle.std.proofs.Common.{◌≡◌, ℕ, ◌+◌, ◌<◌, ◌≤◌, List, [], ◌∷◌, ◌++◌, length, refl, sym, ap, ◌∙◌, arith, inl, inr, ⊎_elim, length-append}
 use Rattle.std.specs.Prelude.{◌⊎◌, ⊤, sum_by, flat_map}
 use Rattle.std.specs.List.{AllByRecursion}
 use Rattle.std.proofs.lemmas.List.{append_assoc, append-nil}
 use Rattle.std.proofs.lemmas.List.Sums.{sum_by-cons, sum_by-append}
 
--- two ways to split one list: the first part of the one goes on past that of the other, or the other way round
+-- two ways to split one list: the first part of one is longer than that of the other, or the other way round
 pub two_splits : {A : Type 0} (xs ys us vs : List A) → xs ++ ys ≡ us ++ vs →
     ((r : List A) × (us ≡ xs ++ r) × (ys ≡ r ++ vs)) ⊎ ((p : A) × (r : List A) × (xs ≡ us ++ p ∷ r) × (vs ≡ p ∷ r ++ ys))
 two_splits [] ys us vs e = inl (us, refl, e)
@@ -15,7 +15,7 @@ two_splits (x ∷ xs) ys (u ∷ us) vs e =
     let tail : xs ++ ys ≡ us ++ vs = cc in
     ⊎_elim (λ l. inl (l.0, (let k = l.1 in cc), l.2)) (λ r. inr (r.0, r.1, (let k = r.2 in cc), r.3)) (two_splits xs ys us vs tail)
 
--- what the next page begins with doesn't fit
+-- what the next page starts with does not fit
 abbrev pub Blocked : {A : Type 0} → (A → ℕ) → ℕ → List A → List (List A) → Type 0
 Blocked size room page [] = ⊤
 Blocked size room page ([] ∷ pages) = ⊤
@@ -32,7 +32,7 @@ blocked_by size room page [] p rest f b e = absurd (let n = ap length e in omega
 blocked_by size room page ([] ∷ pages) p rest f b e = absurd (let n = f.1 in omega arith)
 blocked_by size room page ((x ∷ xs) ∷ pages) p rest f b e = let same : x ≡ p = cc in omega (arith, b, ap size same)
 
--- a page that goes on past a blocked one is too long
+-- a page that reaches further than a blocked one is too long
 too_far : {A : Type 0} (size : A
     → ℕ) (room : ℕ) (page : List A) (pages : List (List A)) (longer : List A) (x : A) (xs rest : List A)
     → Blocked size room page pages → Filled size room pages → sum_by size longer ≤ room → longer ≡ page ++ x ∷ xs
@@ -63,16 +63,16 @@ same_filled size room (p ∷ pages) (o ∷ others) f g e =
     (λ r. absurd (too_far size room o others p r.0 r.1 (flat_map (λ g. g) pages) g.2 g.3 f.0 r.2 (r.3)))
     (two_splits p (flat_map (λ g. g) pages) o (flat_map (λ g. g) others) e)
 
--- the others, which have `behind` to give before, are not ahead
-pub none_fewer : {A : Type 0} (size : A → ℕ) (room : ℕ) (behind : List A) (pages others : List (List A))
+-- the other pages, which first have the elements of `remaining` to give, are not ahead
+pub none_fewer : {A : Type 0} (size : A → ℕ) (room : ℕ) (remaining : List A) (pages others : List (List A))
     → Filled size room pages → AllByRecursion (λ o. sum_by size o ≤ room) others
-    → flat_map (λ g. g) others ≡ behind ++ flat_map (λ g. g) pages
+    → flat_map (λ g. g) others ≡ remaining ++ flat_map (λ g. g) pages
     → length pages ≤ length others
-none_fewer size room behind [] others f w e = omega arith
-none_fewer size room behind (p ∷ pages) [] f w e = absurd (let n = f.1 in omega (arith, ap length e, length-append behind (p ++ flat_map (λ g. g) pages), length-append p (flat_map (λ g. g) pages)))
-none_fewer size room behind (p ∷ pages) (o ∷ others) f w e =
-    let regrouped : o ++ flat_map (λ g. g) others ≡ (behind ++ p) ++ flat_map (λ g. g) pages = e
-    ∙ sym (append_assoc behind p (flat_map (λ g. g) pages)) in
+none_fewer size room remaining [] others f w e = omega arith
+none_fewer size room remaining (p ∷ pages) [] f w e = absurd (let n = f.1 in omega (arith, ap length e, length-append remaining (p ++ flat_map (λ g. g) pages), length-append p (flat_map (λ g. g) pages)))
+none_fewer size room remaining (p ∷ pages) (o ∷ others) f w e =
+    let regrouped : o ++ flat_map (λ g. g) others ≡ (remaining ++ p) ++ flat_map (λ g. g) pages = e
+    ∙ sym (append_assoc remaining p (flat_map (λ g. g) pages)) in
     ⊎_elim
     (λ l. let fewer = none_fewer size room l.0 pages others f.3 w.1 l.2 in omega arith)
     (λ r. absurd (omega (
@@ -80,8 +80,8 @@ none_fewer size room behind (p ∷ pages) (o ∷ others) f w e =
       blocked_by size room p pages r.0 (r.1 ++ flat_map (λ g. g) others) f.3 f.2 r.3,
       w.0,
       ap (sum_by size) r.2,
-      sum_by-append size (behind ++ p) (r.0 ∷ r.1),
-      sum_by-append size behind p,
+      sum_by-append size (remaining ++ p) (r.0 ∷ r.1),
+      sum_by-append size remaining p,
       sum_by-cons size r.0 r.1,
     )))
-    (two_splits o (flat_map (λ g. g) others) (behind ++ p) (flat_map (λ g. g) pages) regrouped)
+    (two_splits o (flat_map (λ g. g) others) (remaining ++ p) (flat_map (λ g. g) pages) regrouped)

@@ -1,4 +1,4 @@
--- The places that are known, and the next one.
+-- The starts that are known, and the next one.
 use Rattle.std.proofs.Common.{◌≡◌, ℕ, zero, suc, ◌+◌, ◌-◌, ◌*◌, ◌/◌, ◌%◌, ◌<◌, ◌≤◌, ◌++◌, [], ◌∷◌, Option, Some, List, map, length, get_or, inl, inr, sym, ap, ◌∙◌, subst, arith}
 use Rattle.std.specs.Prelude.{slice_get, slice_index, slice_index_or}
 use Rattle.std.proofs.Math.Nat.{add-mul, add-mul-div_right, add-mul-mod_self_right}
@@ -10,11 +10,11 @@ use Rattle.std.proofs.lemmas.Nat.{div-mul-add, mod-mul-add}
 use Rattle.std.proofs.lemmas.Option.{get_or_from_slice_get, slice_get_within}
 use Rattle.tui_layout.specs.declared.segment.Segment.{Segment}
 use Rattle.tui_pages_lib.specs.Report.{cells_of}
-use Rattle.tui_pages_lib.specs.Starts.{ArePartFrom, GoesOnFrom, HaveRows, HaveStarts, IsBegun, IsLast, RowStarts, StartsAt, cell_at, going_on}
+use Rattle.tui_pages_lib.specs.Starts.{IsSliceFrom, ContinuesFrom, HaveRows, HaveStarts, IsKnownStart, IsLast, RowStarts, StartsAt, cell_at, continued_pieces}
 use Rattle.tui_pages_lib.specs.declared.piece.Piece.{Piece}
 use Rattle.tui_pages_lib.specs.declared.records.Record.{Record}
 
--- a row of n before place k
+-- the index k - n, which is one row of n elements before k
 div_before : (k n : ℕ) → 0 < n → n ≤ k → (k - n) / n ≡ k / n - 1
 div_before k n some h =
     let whole : k ≡ (k - n) + 1 * n = omega arith in
@@ -36,46 +36,46 @@ module _ (places : List Segment) (records : List (List (List ℕ))) (pieces : Li
   abbrev k : ℕ
   k = length known
 
-  -- a place that is known of the piece before, or a beginning
+  -- a start that is known of the piece before, or the start of the cell
   begun : (piece : Piece) (before : Option Piece) (cell : List ℕ) (width start line : ℕ) → 0 < n → HaveStarts places records pieces known →
-      IsLast pieces (k / n) before → cell_at records piece.place (k % n) ≡ Some cell → GoesOnFrom width 0 cell 0 → (place : Segment) →
-      slice_get places (k % n) ≡ Some place → place.width ≡ width → 0 < width → IsBegun before n known piece.place start line →
-      GoesOnFrom width line cell start
+      IsLast pieces (k / n) before → cell_at records piece.place (k % n) ≡ Some cell → ContinuesFrom width 0 cell 0 → (place : Segment) →
+      slice_get places (k % n) ≡ Some place → place.width ≡ width → 0 < width → IsKnownStart before n known piece.place start line →
+      ContinuesFrom width line cell start
   begun piece before cell width start line some have last there zero_at place column same wide (inl (s, l)) =
-      subst (λ t. GoesOnFrom width t cell start) (sym l) (subst (λ t. GoesOnFrom width 0 cell t) (sym s) zero_at)
+      subst (λ t. ContinuesFrom width t cell start) (sym l) (subst (λ t. ContinuesFrom width 0 cell t) (sym s) zero_at)
   begun piece before cell width start line some have last there zero_at place column same wide (inr (h, b, is, record_is, line_is, start_is)) =
       let at = div_before k n some h in
       let i = mod_before k n h in
-      let found = have (k - n) b (omega arith) (ap (slice_get (going_on pieces)) at ∙ last b is) place cell (ap (slice_get places) i ∙ column)
+      let found = have (k - n) b (omega arith) (ap (slice_get (continued_pieces pieces)) at ∙ last b is) place cell (ap (slice_get places) i ∙ column)
       (ap (cell_at records b.place) i ∙ (ap (λ t. cell_at records t (k % n)) record_is ∙ there)) (subst (λ t. 0 < t) (sym same) wide) in
-      subst (λ t. GoesOnFrom width line cell t) start_is (subst (λ t. GoesOnFrom width t cell (slice_index known (k - n))) line_is
-      (subst (λ t. GoesOnFrom t b.from cell (slice_index known (k - n))) same found))
+      subst (λ t. ContinuesFrom width line cell t) start_is (subst (λ t. ContinuesFrom width t cell (slice_index known (k - n))) line_is
+      (subst (λ t. ContinuesFrom t b.from cell (slice_index known (k - n))) same found))
 
   pub next_starts : (piece : Piece) (before : Option Piece) (cell : List ℕ) (d : Segment) (start line result : ℕ) → 0 < n →
       HaveStarts places records pieces known → IsLast pieces (k / n) before → cell_at records piece.place (k % n) ≡ Some cell →
-      GoesOnFrom (get_or places (k % n) d).width 0 cell 0 → line ≤ piece.from → IsBegun before n known piece.place start line →
-      ((from : ℕ) → GoesOnFrom (get_or places (k % n) d).width from cell start → GoesOnFrom (get_or places (k % n) d).width (from + (piece.from - line)) cell result) →
+      ContinuesFrom (get_or places (k % n) d).width 0 cell 0 → line ≤ piece.from → IsKnownStart before n known piece.place start line →
+      ((from : ℕ) → ContinuesFrom (get_or places (k % n) d).width from cell start → ContinuesFrom (get_or places (k % n) d).width (from + (piece.from - line)) cell result) →
       StartsAt places records piece (k % n) result
   next_starts piece before cell d start line result some have last there zero_at less from moved place c column there_c wide =
       let width = (get_or places (k % n) d).width in
       let same : width ≡ place.width = ap (λ (s : Segment). s.width) (get_or_from_slice_get places (k % n) place d column) in
       let cells : cell ≡ c = some_is cell c (cell_at records piece.place (k % n)) there there_c in
-      let found : GoesOnFrom width (line + (piece.from - line)) cell result =
+      let found : ContinuesFrom width (line + (piece.from - line)) cell result =
       moved line (begun piece before cell width start line some have last there zero_at place column (sym same) (subst (λ t. 0 < t) (sym same) wide) from) in
       let all : line + (piece.from - line) ≡ piece.from = omega arith in
-      subst (λ t. GoesOnFrom t piece.from c result) same (subst (λ t. GoesOnFrom width piece.from t result) cells
-      (subst (λ t. GoesOnFrom width t cell result) all found))
+      subst (λ t. ContinuesFrom t piece.from c result) same (subst (λ t. ContinuesFrom width piece.from t result) cells
+      (subst (λ t. ContinuesFrom width t cell result) all found))
 
-  -- a column without a width has no cells
+  -- no cell is drawn in a column of width 0
   pub no_width : (piece : Piece) (d : Segment) (result : ℕ) → (get_or places (k % n) d).width ≡ 0 → StartsAt places records piece (k % n) result
   no_width piece d result none place c column there_c wide =
       let same : (get_or places (k % n) d).width ≡ place.width = ap (λ (s : Segment). s.width) (get_or_from_slice_get places (k % n) place d column) in
       absurd (omega (arith, same, none))
 
--- the next place is known too
+-- the next start is known too
 have_more : (places : List Segment) (records : List (List (List ℕ))) (pieces : List Piece) (piece : Piece) (known more : List ℕ) (next : ℕ) →
     HaveStarts places records pieces known → StartsAt places records piece (length known % length places) next →
-    slice_get (going_on pieces) (length known / length places) ≡ Some piece → more ≡ known ++ next ∷ [] → HaveStarts places records pieces more
+    slice_get (continued_pieces pieces) (length known / length places) ≡ Some piece → more ≡ known ++ next ∷ [] → HaveStarts places records pieces more
 have_more places records pieces piece known more next have there here e k p h is =
     elim (cases_lt k (length known)) [
       | inl before ↦
@@ -84,8 +84,8 @@ have_more places records pieces piece known more next have there here e k p h is
       | inr past ↦
           let last : length known ≡ k = omega (arith, h, ap length e, length-append known (next ∷ [])) in
           let last_is : get_or (known ++ next ∷ []) (length known) 0 ≡ next = get_or-append_seam known next [] 0 in
-          let same : piece ≡ p = some_is piece p (slice_get (going_on pieces) (k / length places))
-          (ap (λ j. slice_get (going_on pieces) (j / length places)) (sym last) ∙ here) is in
+          let same : piece ≡ p = some_is piece p (slice_get (continued_pieces pieces) (k / length places))
+          (ap (λ j. slice_get (continued_pieces pieces) (j / length places)) (sym last) ∙ here) is in
           subst (StartsAt places records p (k % length places)) (sym (ap (λ t. get_or t k 0) e ∙ (ap (get_or-at (known ++ next ∷ [])) (sym last) ∙ last_is)))
           (subst (λ (q : Piece). StartsAt places records q (k % length places) next) same
           (subst (λ j. StartsAt places records piece (j % length places) next) last there))
@@ -104,7 +104,7 @@ module _ (places : List Segment) (records : List (List (List ℕ))) (pieces : Li
   row_begun starts rows = let size = rows.size in (rows.known, omega arith)
 
   pub row_more : (piece : Piece) (before : Option Piece) (i next : ℕ) (known read more : List ℕ) → i < length places →
-      slice_get (going_on pieces) count ≡ Some piece → IsLast pieces count before → HaveCells places records pieces count i known → read ≡ known →
+      slice_get (continued_pieces pieces) count ≡ Some piece → IsLast pieces count before → HaveCells places records pieces count i known → read ≡ known →
       (HaveStarts places records pieces read → IsLast pieces (length read / length places) before →
       StartsAt places records piece (length read % length places) next) →
       more ≡ known ++ next ∷ [] → HaveCells places records pieces count (i + 1) more
@@ -115,7 +115,7 @@ module _ (places : List Segment) (records : List (List (List ℕ))) (pieces : Li
       let there : StartsAt places records piece (length known % length places) next =
       subst (λ xs. HaveStarts places records pieces xs → IsLast pieces (length xs / length places) before →
       StartsAt places records piece (length xs % length places) next) same step have.0 last_here in (
-        have_more places records pieces piece known more next have.0 there (ap (slice_get (going_on pieces)) at ∙ here) e,
+        have_more places records pieces piece known more next have.0 there (ap (slice_get (continued_pieces pieces)) at ∙ here) e,
         omega (arith, ap length e, length-append known (next ∷ [])),
       )
 
@@ -126,16 +126,16 @@ module _ (places : List Segment) (records : List (List (List ℕ))) (pieces : Li
       let all : (count + 1) * length places ≡ count * length places + 1 * length places = add-mul count 1 (length places) in
       record { known = have.0; size = omega arith }
 
--- a record's cell
+-- the cell of a record
 cell_there : (records : List (List (List ℕ))) (place i : ℕ) (cell : List ℕ) → slice_get (slice_index_or records place []) i ≡ Some cell →
     cell_at records place i ≡ Some cell
 cell_there [] place i cell e = e
 cell_there (cells ∷ records) zero i cell e = e
 cell_there (cells ∷ records) (suc place) i cell e = cell_there records place i cell e
 
--- the places of a page are those of its first piece
+-- the starts of a page are those of its first piece
 pub page_row : (places : List Segment) (records : List (List (List ℕ))) (pieces : List Piece) (starts row : List ℕ) (count : ℕ) (p : Piece) →
-    HaveStarts places records pieces starts → slice_get (going_on pieces) count ≡ Some p → ArePartFrom (count * length places) starts row →
+    HaveStarts places records pieces starts → slice_get (continued_pieces pieces) count ≡ Some p → IsSliceFrom (count * length places) starts row →
     RowStarts p.from places (slice_index_or records p.place []) row
 page_row places records pieces starts row count p have here known i place cell start ep ec es wide =
     let n = length places in
@@ -143,26 +143,26 @@ page_row places records pieces starts row count p have here known i place cell s
     let k = known i (slice_get_within row i start es) in
     let at_is : (count * n + i) / n ≡ count = div-mul-add count n i column in
     let column_is : (count * n + i) % n ≡ i = mod-mul-add count n i column in
-    let found = have (count * n + i) p k.0 (ap (slice_get (going_on pieces)) at_is ∙ here) place cell (ap (slice_get places) column_is ∙ ep)
+    let found = have (count * n + i) p k.0 (ap (slice_get (continued_pieces pieces)) at_is ∙ here) place cell (ap (slice_get places) column_is ∙ ep)
     (ap (cell_at records p.place) column_is ∙ cell_there records p.place i cell ec) wide in
-    subst (λ t. GoesOnFrom place.width p.from cell t) (sym k.1 ∙ get_or_from_slice_get row i start 0 es) found
+    subst (λ t. ContinuesFrom place.width p.from cell t) (sym k.1 ∙ get_or_from_slice_get row i start 0 es) found
 
--- the same of what was read of them
+-- the same for the list that was read
 pub page_row_read : (places given : List Segment) (records rs : List Record) (pieces : List Piece) (starts read row : List ℕ) (count columns : ℕ) (p : Piece) →
-    HaveStarts places (map cells_of records) pieces starts → slice_get (going_on pieces) count ≡ Some p → given ≡ places → rs ≡ records →
-    read ≡ starts → columns ≡ length places → ArePartFrom (count * columns) read row →
+    HaveStarts places (map cells_of records) pieces starts → slice_get (continued_pieces pieces) count ≡ Some p → given ≡ places → rs ≡ records →
+    read ≡ starts → columns ≡ length places → IsSliceFrom (count * columns) read row →
     RowStarts p.from given (slice_index_or (map cells_of rs) p.place []) row
 page_row_read places given records rs pieces starts read row count columns p have here g r s n known =
-    let known_here : ArePartFrom (count * length places) starts row =
-    subst (λ m. ArePartFrom (count * m) starts row) n (subst (λ xs. ArePartFrom (count * columns) xs row) s known) in
+    let known_here : IsSliceFrom (count * length places) starts row =
+    subst (λ m. IsSliceFrom (count * m) starts row) n (subst (λ xs. IsSliceFrom (count * columns) xs row) s known) in
     subst (λ ps. RowStarts p.from ps (slice_index_or (map cells_of rs) p.place []) row) (sym g)
     (subst (λ xs. RowStarts p.from places (slice_index_or (map cells_of xs) p.place []) row) (sym r)
     (page_row places (map cells_of records) pieces starts row count p have here known_here))
 
 pub have_read : (places given : List Segment) (records rs : List Record) (pieces read : List Piece) (starts : List ℕ) → given ≡ places → rs ≡ records →
-    read ≡ pieces → HaveRows given (map cells_of rs) read (length (going_on read)) starts →
-    HaveRows places (map cells_of records) pieces (length (going_on pieces)) starts
+    read ≡ pieces → HaveRows given (map cells_of rs) read (length (continued_pieces read)) starts →
+    HaveRows places (map cells_of records) pieces (length (continued_pieces pieces)) starts
 have_read places given records rs pieces read starts g r p have =
-    subst (λ ps. HaveRows ps (map cells_of records) pieces (length (going_on pieces)) starts) g
-    (subst (λ xs. HaveRows given (map cells_of xs) pieces (length (going_on pieces)) starts) r
-    (subst (λ qs. HaveRows given (map cells_of rs) qs (length (going_on qs)) starts) p have))
+    subst (λ ps. HaveRows ps (map cells_of records) pieces (length (continued_pieces pieces)) starts) g
+    (subst (λ xs. HaveRows given (map cells_of xs) pieces (length (continued_pieces pieces)) starts) r
+    (subst (λ qs. HaveRows given (map cells_of rs) qs (length (continued_pieces qs)) starts) p have))

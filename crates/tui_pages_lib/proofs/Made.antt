@@ -11,10 +11,10 @@ use Rattle.tui_pages_lib.specs.declared.column.Column.{Column}
 use Rattle.tui_pages_lib.specs.declared.piece.Piece.{Piece}
 use Rattle.tui_pages_lib.specs.declared.records.Record.{Record}
 use Rattle.tui_pages_lib.proofs.Measured.{IsLow, all_low, first_of, heights_some, not_cut}
-use Rattle.tui_pages_lib.proofs.OnePages.{pages_are_one, pages_are_fewest}
+use Rattle.tui_pages_lib.proofs.UniquePages.{pages_are_unique, pages_are_fewest}
 use Rattle.tui_clusters.specs.Width.{saturated}
 
--- the heights, as the code has them
+-- the heights as the code computes them
 abbrev Counted : ℕ → List ColumnData → List (List (List ℕ)) → List ℕ → Type 0
 Counted width columns records heights = heights ≡ map saturated (heights_of (places_of width columns) records)
 
@@ -36,24 +36,24 @@ too_tall width columns records heights tested found place h t first same =
 
 -- no record is too tall
 pub record Measured (width : ℕ) (columns : List ColumnData) (records : List (List (List ℕ))) (used : List ℕ) : Type 0 where
-  pub low : All IsLow (heights_of (places_of width columns) records)
+  pub bounded : All IsLow (heights_of (places_of width columns) records)
   pub used_is : used ≡ heights_of (places_of width columns) records
   pub some : All (λ height. 0 < height) used
 
 pub measured : (width : ℕ) (columns : List ColumnData) (records : List (List (List ℕ))) (heights tested used : List ℕ) →
     Counted width columns records heights → tested ≡ heights → used ≡ heights → All IsLow tested → Measured width columns records used
-measured width columns records heights tested used h t u low =
+measured width columns records heights tested used h t u bounded =
     let all = heights_of (places_of width columns) records in
-    let is : used ≡ all = u ∙ (sym t ∙ not_cut all tested (t ∙ h) low) in
+    let is : used ≡ all = u ∙ (sym t ∙ not_cut all tested (t ∙ h) bounded) in
     record {
-      low = all_low all tested (t ∙ h) low;
+      bounded = all_low all tested (t ∙ h) bounded;
       used_is = is;
       some = subst (All (λ height. 0 < height)) (sym is) (heights_some (places_of width columns) records);
     }
 
 -- the pages of these heights
 pub record Made (width height : ℕ) (columns : List ColumnData) (records : List (List (List ℕ))) (pages : List (List Piece)) : Type 0 where
-  pub low : All IsLow (heights_of (places_of width columns) records)
+  pub bounded : All IsLow (heights_of (places_of width columns) records)
   pub are : ArePages (heights_of (places_of width columns) records) (height - 3) pages
   pub is : pages ≡ pages_of (heights_of (places_of width columns) records) (height - 3)
 
@@ -65,9 +65,9 @@ made width height rows columns records used pages high same m are =
     let here : ArePages all (height - 3) pages =
     subst (λ n. ArePages all (n - 3) pages) same (subst (λ hs. ArePages hs (rows - 3) pages) m.used_is are) in
     record {
-      low = m.low;
+      bounded = m.bounded;
       are = here;
-      is = (pages_are_one all (height - 3) (omega arith) (heights_some (places_of width columns) records)).1 pages here;
+      is = (pages_are_unique all (height - 3) (omega arith) (heights_some (places_of width columns) records)).1 pages here;
     }
 
 pub made_kept : (width height : ℕ) (columns : List ColumnData) (records : List (List (List ℕ))) (places : List Segment) (pages : List (List Piece)) →
@@ -77,7 +77,7 @@ made_kept width height columns records places pages wide high p m = record {
   wide = wide;
   high = high;
   placed = p;
-  low = subst (λ ps. All IsLow (heights_of ps records)) (sym p) m.low;
+  bounded = subst (λ ps. All IsLow (heights_of ps records)) (sym p) m.bounded;
   are_pages = m.is ∙ ap (λ ps. pages_of (heights_of ps records) (height - 3)) (sym p);
 }
 
@@ -92,7 +92,7 @@ pub made_fewest : (width height : ℕ) (columns : List ColumnData) (records : Li
     Made width height columns records pages → 0 < length records →
     All (λ lines. lines ≤ height - 3) (heights_of (places_of width columns) records) → (others : List (List Piece)) →
     KeepWhole (heights_of (places_of width columns) records) (height - 3) others → length pages ≤ length others
-made_fewest width height columns records pages m some low others keep =
+made_fewest width height columns records pages m some bounded others keep =
     let places = places_of width columns in
     pages_are_fewest (heights_of places records) (height - 3) pages others (omega (arith, length-map records (record_height places)))
-    (heights_some places records) low m.are keep
+    (heights_some places records) bounded m.are keep

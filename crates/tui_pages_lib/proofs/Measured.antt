@@ -1,4 +1,4 @@
--- The heights of records, as they are counted.
+-- The heights of records as they are counted.
 use Rattle.std.proofs.Common.{◌≡◌, ℕ, zero, suc, ◌+◌, ◌<◌, ◌≤◌, min, max, true, false, ◌==◌, List, [], ◌∷◌, length, map, take, drop, get_or}
 use Rattle.std.proofs.Common.{refl, sym, ap, ◌∙◌, subst, arith, inl, inr}
 use Rattle.std.specs.Prelude.{All, fold, zip, slice_index}
@@ -10,9 +10,9 @@ use Rattle.std.specs.List.{AllByRecursion}
 use Rattle.tui_layout.specs.declared.segment.Segment.{Segment}
 use Rattle.tui_para.specs.Hyphens.{at_blanks}
 use Rattle.tui_para.specs.Lines.{GlyphLine}
-use Rattle.tui_para.specs.Wrapped.{IsTheOne}
+use Rattle.tui_para.specs.Wrapped.{IsUnique}
 use Rattle.tui_para.specs.WrappedText.{WrappedText, wrap_text}
-use Rattle.tui_pages_lib.specs.Heights.{IsFirstTooTall, heights_of, cell_height, most_lines, record_height}
+use Rattle.tui_pages_lib.specs.Heights.{IsFirstTooTall, heights_of, cell_height, max_lines, record_height}
 use Rattle.tui_text.specs.Text.{raw_text}
 use Rattle.tui_clusters.specs.Width.{saturated}
 use Rattle.tui_text.specs.declared.alignment.Alignment.TheVariants.{Left}
@@ -21,14 +21,14 @@ some_test : (w : ℕ) → 0 < w → (w == 0) ≡ false
 some_test w h = grind (arith, nat_tests)
 
 pub counted : (w : ℕ) (count : ℕ) (cell : List ℕ) → 0 < w →
-    IsTheOne (WrappedText w (at_blanks true) Left (raw_text cell)) (wrap_text w (at_blanks true) Left (raw_text cell)) →
+    IsUnique (WrappedText w (at_blanks true) Left (raw_text cell)) (wrap_text w (at_blanks true) Left (raw_text cell)) →
     ((lines : List GlyphLine) → WrappedText w (at_blanks true) Left (raw_text cell) lines → count ≡ saturated (length lines)) →
     count ≡ saturated (cell_height w cell)
 counted w count cell some once lines =
     let wrapped = wrap_text w (at_blanks true) Left (raw_text cell) in
     lines wrapped once.meets ∙ ap saturated (sym (cond-false _ 0 (length wrapped) (some_test w some)))
 
--- the greatest of numbers that are cut
+-- the maximum of numbers that are limited
 greatest_cut : {A : Type 0} (f : A → ℕ) (n : ℕ) (xs : List A) →
     fold max (saturated n) (map (λ x. saturated (f x)) xs) ≡ saturated (fold max n (map f xs))
 greatest_cut f n [] = refl
@@ -36,14 +36,14 @@ greatest_cut f n (x ∷ xs) =
     let both : max (saturated n) (saturated (f x)) ≡ saturated (max n (f x)) = omega arith in
     ap (λ k. fold max k (map (λ y. saturated (f y)) xs)) both ∙ greatest_cut f (max n (f x)) xs
 
--- the cells' lines, each number cut
+-- the numbers of lines of the cells, each of them limited
 abbrev pub cut_counts : List Segment → List (List ℕ) → List ℕ
 cut_counts places cells = map (λ (place, cell). saturated (cell_height place.width cell)) (zip places cells)
 
 pub height_begun : (places : List Segment) (cells : List (List ℕ)) → fold max 1 (cut_counts places cells) ≡ saturated (record_height places cells)
 height_begun places cells = greatest_cut (λ (place, cell). cell_height place.width cell) 1 (zip places cells)
 
--- one cell more, and none
+-- one more cell, and none
 pub height_more : {X : Type 0} (text : X → List ℕ) (places : List Segment) (cells : List X) (i n now next count : ℕ) (p : Segment) (c : X)
     (total : ℕ) → n ≡ min (length places) (length cells) → i < n →
     count ≡ saturated (cell_height (get_or places i p).width (text (get_or cells i c))) → next ≡ max now count →
@@ -81,7 +81,7 @@ height_done text places cells i n now total end h so_far =
           ap (λ ps. fold max now (cut_counts ps (drop i (map text cells)))) (sym (drop_past i places done)) ∙ so_far
     ]
 
--- one height more that is not too great
+-- one more height that is not too great
 low_next : {X : Type 0} (P : X → Type 0) (xs : List X) (i : ℕ) (d : X) → i < length xs → AllByRecursion P (take i xs) → P (get_or xs i d) →
     AllByRecursion P (take (i + 1) xs)
 low_next P [] i d h a p = absurd (omega arith)
@@ -91,16 +91,16 @@ low_next P (x ∷ xs) (suc i) d h a p =
     subst (λ j. AllByRecursion P (take j (x ∷ xs))) n (a.0, low_next P xs i d (omega arith) a.1 p)
 
 abbrev pub IsLow : ℕ → Type 0
-IsLow height = height ≤ most_lines
+IsLow height = height ≤ max_lines
 
-pub low_more : (xs : List ℕ) (i d : ℕ) → i < length xs → All IsLow (take i xs) → get_or xs i d ≤ most_lines → All IsLow (take (i + 1) xs)
+pub low_more : (xs : List ℕ) (i d : ℕ) → i < length xs → All IsLow (take i xs) → get_or xs i d ≤ max_lines → All IsLow (take (i + 1) xs)
 low_more xs i d h a p =
     All-from_recursion IsLow (take (i + 1) xs) (low_next IsLow xs i d h (recursion_from_All IsLow (take i xs) a) p)
 
 pub low_all : (xs : List ℕ) (i : ℕ) → length xs ≤ i → All IsLow (take i xs) → All IsLow xs
 low_all xs i h a = subst (All IsLow) (take_all i xs h) a
 
--- what is known of the heights that are cut is so of the heights
+-- what is known of the limited heights holds of the heights
 
 take_map : {A B : Type 0} (f : A → B) (n : ℕ) (xs : List A) → take n (map f xs) ≡ map f (take n xs)
 take_map f zero xs = refl
@@ -109,7 +109,7 @@ take_map f (suc n) (x ∷ xs) = ap (λ ys. f x ∷ ys) (take_map f n xs)
 
 low_heights : (heights : List ℕ) → AllByRecursion IsLow (map saturated heights) → AllByRecursion IsLow heights
 low_heights [] a = tt
-low_heights (height ∷ heights) a = let low = a.0 in (omega arith, low_heights heights a.1)
+low_heights (height ∷ heights) a = let bounded = a.0 in (omega arith, low_heights heights a.1)
 
 pub all_low : (heights cut : List ℕ) → cut ≡ map saturated heights → All IsLow cut → All IsLow heights
 all_low heights cut e a =
@@ -118,7 +118,7 @@ all_low heights cut e a =
 same_low : (heights : List ℕ) → AllByRecursion IsLow (map saturated heights) → map saturated heights ≡ heights
 same_low [] a = refl
 same_low (height ∷ heights) a =
-    let low = a.0 in
+    let bounded = a.0 in
     let same : saturated height ≡ height = omega arith in
     ap (λ h. h ∷ map saturated heights) same ∙ ap (λ hs. height ∷ hs) (same_low heights a.1)
 
@@ -140,7 +140,7 @@ first_of heights cut place e f =
       first = all_low (take place heights) (take place cut) (ap (take place) e ∙ take_map saturated place heights) f.first;
     }
 
--- no record is without a line
+-- each record has at least one line
 
 fold_some : (n : ℕ) (xs : List ℕ) → 0 < n → 0 < fold max n xs
 fold_some n [] h = h

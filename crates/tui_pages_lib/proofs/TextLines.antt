@@ -1,4 +1,4 @@
--- Text lines with which a text begins have its first lines.
+-- The text lines at the start of a text have its first lines.
 use Rattle.std.proofs.Common.{◌≡◌, ℕ, suc, ◌+◌, ◌==◌, ◌<◌, ◌≤◌, Bool, true, cond, List, [], ◌∷◌, ◌++◌, length, map, take, refl, sym, ap, ◌∙◌, arith, ⊎_elim}
 use Rattle.std.specs.List.{flat_map, onto_first}
 use Rattle.std.specs.Str.Lines.{lines, lines_of_parts, strip_carriage_return}
@@ -20,7 +20,7 @@ use Rattle.tui_text.specs.Line.{raw_line}
 use Rattle.tui_text.specs.Text.{text_lines}
 use Rattle.tui_text.specs.declared.alignment.Alignment.{Alignment}
 
--- the parts up to a newline, whatever stands behind it
+-- the parts up to a newline, whatever is after it
 record Split (front : List ℕ) : Type 0 where
   first : List ℕ
   others : List (List ℕ)
@@ -46,7 +46,7 @@ split_at (b ∷ front) =
     })
     (cases_Bool (b == 10))
 
--- the text lines up to a newline, whatever stands behind it
+-- the text lines up to a newline, whatever is after it
 ended : List ℕ → List (List ℕ)
 ended front = let s = split_at front in map strip_carriage_return (s.first ∷ s.others)
 
@@ -82,7 +82,7 @@ newlines_ended (b ∷ front) =
     omega arith)
     (cases_Bool (b == 10))
 
--- graphemes are wrapped into a line at least
+-- graphemes are wrapped into at least one line
 pub some_line : (w : ℕ) (way : Wrap) (glyphs : List Glyph) (lines : List (List Glyph)) → Wrapped w way glyphs lines → 0 < length lines
 some_line w way glyphs lines (split, wraps, e) =
     let n = by_case split wraps in
@@ -123,8 +123,8 @@ module _ (w : ℕ) (some : (glyphs : List Glyph) → 0 < length (wrap w (at_blan
       take n (wrapped_lines style alignment w true (front ++ 10 ∷ [])) ≡ take n (wrapped_lines style alignment w true (front ++ 10 ∷ more))
   shown n front more many =
       let fits = no_fewer (ended front) in
-      let first = λ (behind : List ℕ). ap (take n) (ap wrapped (lines_are front behind) ∙ wrapped-append (ended front) (lines behind))
-      ∙ take-append-le n (wrapped (ended front)) (wrapped (lines behind)) (omega arith) in
+      let first = λ (remaining : List ℕ). ap (take n) (ap wrapped (lines_are front remaining) ∙ wrapped-append (ended front) (lines remaining))
+      ∙ take-append-le n (wrapped (ended front)) (wrapped (lines remaining)) (omega arith) in
       first [] ∙ sym (first more)
 
 pub text_lines_shown : (w n : ℕ) (text part more : List ℕ) → ((glyphs : List Glyph) → 0 < length (wrap w (at_blanks true) glyphs)) →

@@ -5,7 +5,7 @@ use Rattle.tui_layout.specs.declared.constraint.Constraint.{Constraint}
 use Rattle.tui_layout.specs.declared.flex.Flex.TheVariants.{Start}
 use Rattle.tui_layout.specs.declared.segment.Segment.{Segment}
 use Rattle.tui_pages_lib.specs.Filling.{pages_of}
-use Rattle.tui_pages_lib.specs.Heights.{heights_of, most_lines}
+use Rattle.tui_pages_lib.specs.Heights.{heights_of, max_lines}
 use Rattle.tui_pages_lib.specs.declared.column.Column.{Column}
 use Rattle.tui_pages_lib.specs.declared.piece.Piece.{Piece}
 use Rattle.tui_pages_lib.specs.declared.records.Record.{Record}
@@ -32,15 +32,15 @@ pub record ReportData : Type 0 where
   pub records : List (List (List ℕ))
   pub pages : List (List Piece)
 
--- where the columns stand: as `split` cuts the width, with one free column between two
+-- where the columns are: the width is cut as `split` does, with one free column between two
 abbrev pub places_of : ℕ → List ColumnData → List Segment
 places_of width columns = columns_of width 1 (map (λ c. c.size) columns) Start
 
--- how many lines each record has
+-- the number of lines of each record
 abbrev pub report_heights : ReportData → List ℕ
 report_heights r = heights_of (places_of r.width r.columns) r.records
 
--- the pages of these records: title, names and number take three rows of each
+-- the pages of these records; the title, the names and the number take three rows of each page
 abbrev pub report_of : ℕ → ℕ → List ℕ → List ColumnData → List (List (List ℕ)) → ReportData
 report_of width height title columns records = record {
   width = width;
@@ -51,11 +51,12 @@ report_of width height title columns records = record {
   pages = pages_of (heights_of (places_of width columns) records) (height - 3);
 }
 
--- what a report keeps: sizes that are large enough, the places of its columns, records of at most 4096 lines, and their pages
+-- what holds of each report: its size is large enough, its columns are placed, its records have at most 4096 lines, and
+-- its pages are those of the records
 pub record IsReport (places : List Segment) (width height : ℕ) (columns : List ColumnData) (records : List (List (List ℕ)))
     (pages : List (List Piece)) : Type 0 where
   pub wide : 0 < width
   pub high : 4 ≤ height
   pub placed : places ≡ places_of width columns
-  pub low : All (λ lines. lines ≤ most_lines) (heights_of places records)
+  pub bounded : All (λ lines. lines ≤ max_lines) (heights_of places records)
   pub are_pages : pages ≡ pages_of (heights_of places records) (height - 3)

@@ -1,4 +1,4 @@
-//! What stands on a page.
+//! Drawing a page.
 
 ghost use Rattle.std.specs.Prelude.{◌≡◌, ◌+◌, ◌-◌, ◌<◌, ◌≤◌, ◌⊎◌, [], All, IfSome, None, OnOk, Some, length, map, slice_get, slice_index_or};
 ghost use Rattle.tui_cells.specs.Layers.{KeptOutside, Painted};
@@ -6,17 +6,17 @@ ghost use Rattle.tui_cells.specs.Rect.{covers, intersection_of, rows_from};
 ghost use Rattle.tui_para.specs.Paragraph.{paragraph_data};
 ghost use Rattle.tui_pages_lib.specs.Pages.{lines_on};
 ghost use Rattle.tui_pages_lib.specs.Report.{cells_of, column_data};
-ghost use Rattle.tui_pages_lib.specs.Starts.{GoesOnFrom, RowStarts};
+ghost use Rattle.tui_pages_lib.specs.Starts.{ContinuesFrom, RowStarts};
 ghost use Rattle.tui_pages_lib.specs.declared.piece.Piece.{Piece};
 ghost use Rattle.tui_pages_lib.specs.Strokes.{
   IsDrawable,
   cell_from,
   cells_layers,
-  drawn_in,
+  paragraph_in,
   names_layers,
   number_of,
   pieces_layers,
-  plain,
+  unwrapped,
   right_layers,
 };
 
@@ -24,7 +24,7 @@ use crate::column::Column;
 use crate::measuring::cell_paragraph;
 use crate::piece::Piece;
 use crate::records::Record;
-use crate::shown::shown_part;
+use crate::shown::visible_prefix;
 use std::alloc::Global;
 use tui_cells::{Buffer, Mem, Position, Rect, Style, Widget};
 use tui_layout::Segment;
@@ -34,36 +34,37 @@ use tui_text::{Text, set_stringn_in};
 /// The first row of the pieces, below the title and the names.
 const TOP: u16 = 2;
 
-/// A paragraph in an area, as far as the buffer has it.
+/// Draws a paragraph in the part of an area that is in the buffer.
 fn draw_in(alloc: Global, paragraph: &Paragraph<'_>, area: Rect, buf: &mut Buffer) -> Mem<()>
     requires { (paragraph_data paragraph.now).block ≡ None }
-    ensures ok { OnOk result (Painted (drawn_in buf.old.area area (paragraph_data paragraph.now)) buf.old buf.new) }
+    ensures ok { OnOk result (Painted (paragraph_in buf.old.area area (paragraph_data paragraph.now)) buf.old buf.new) }
     ensures kept { KeptOutside (covers area) buf.old buf.new }
 {
     paragraph.render(alloc, area, buf)
 }
 
-/// A text, its lines cut at the right.
+/// Writes a text. Its lines are cut at the right edge.
 pub(crate) fn draw_text(alloc: Global, text: &str, area: Rect, buf: &mut Buffer) -> Mem<()>
-    ensures ok { OnOk result (Painted (drawn_in buf.old.area area (plain text.now)) buf.old buf.new) }
+    ensures ok { OnOk result (Painted (paragraph_in buf.old.area area (unwrapped text.now)) buf.old buf.new) }
     ensures kept { KeptOutside (covers area) buf.old buf.new }
 {
     let paragraph = Paragraph::new(Text::raw(alloc, text)?);
     draw_in(alloc, &paragraph, area, buf)
 }
 
-/// The lines of a cell from one on.
+/// Draws the lines of a cell from one of them on.
 fn draw_cell(alloc: Global, cell: &str, line: u16, area: Rect, buf: &mut Buffer) -> Mem<()>
-    ensures ok { OnOk result (Painted (drawn_in buf.old.area area (cell_from line cell.now)) buf.old buf.new) }
+    ensures ok { OnOk result (Painted (paragraph_in buf.old.area area (cell_from line cell.now)) buf.old buf.new) }
     ensures kept { KeptOutside (covers area) buf.old buf.new }
 {
     let paragraph = cell_paragraph(alloc, cell, line)?;
     draw_in(alloc, &paragraph, area, buf)
 }
 
-/// All lines of a cell. It is the same as `draw_cell` from line 0 on, but moves the paragraph less.
+/// Draws all lines of a cell. The result is the same as that of `draw_cell` from line 0 on, but the paragraph is moved
+/// less often.
 fn draw_whole(alloc: Global, cell: &str, area: Rect, buf: &mut Buffer) -> Mem<()>
-    ensures ok { OnOk result (Painted (drawn_in buf.old.area area (cell_from 0 cell.now)) buf.old buf.new) }
+    ensures ok { OnOk result (Painted (paragraph_in buf.old.area area (cell_from 0 cell.now)) buf.old buf.new) }
     ensures kept { KeptOutside (covers area) buf.old buf.new }
 {
     let text = Text::raw(alloc, cell)?;
@@ -75,68 +76,97 @@ fn draw_whole(alloc: Global, cell: &str, area: Rect, buf: &mut Buffer) -> Mem<()
     draw_in(alloc, &paragraph, area, buf)
 }
 
-/// From which byte a cell goes on, and near which byte behind that its lines on the page end.
+/// A cell continues at byte `start`. Its lines on the page end about `near` bytes later.
 #[derive(Clone, Copy, Debug)]
 struct Resumed {
     start: usize,
     near: usize,
 }
 
-/// The lines of a cell from one on, with which it goes on from a byte on at the width of the clip. Of what stands behind the last
-/// row of the clip little is read.
+/// The lines of a cell from `line` on.
+#[derive(Clone, Copy)]
+struct CellRest<'a> {
+    cell: &'a str,
+    line: u16,
+}
+
+impl<'a> CellRest<'a> {
+    // Calling this gives the prover that the cell is UTF-8.
+    fn cell(self) -> &'a str
+        ensures { result.now ≡ self.entry.cell.now }
+    {
+        self.cell
+    }
+}
+
+/// An area to draw into, and the part of it that is in the buffer.
+#[derive(Clone, Copy)]
+struct ClippedArea {
+    area: Rect,
+    clip: Rect,
+}
+
+/// Draws the rest of a cell. The cell continues with its line at byte `from.start`, at the width of the clip. Only a
+/// little of the text after the last row of the clip is read.
 fn draw_from(
     alloc: Global,
-    cell: &str,
-    line: u16,
+    rest: CellRest<'_>,
     from: Resumed,
-    clip: Rect,
-    area: Rect,
+    place: ClippedArea,
     buf: &mut Buffer,
 ) -> Mem<()>
-    requires wide { 0 < clip.width }
-    requires goes_on { GoesOnFrom clip.width line cell.now from.start }
-    requires clip { clip ≡ intersection_of area buf.old.area }
-    ensures ok { OnOk result (Painted (drawn_in buf.old.area area (cell_from line cell.now)) buf.old buf.new) }
-    ensures kept { KeptOutside (covers area) buf.old buf.new }
+    requires wide { 0 < place.clip.width }
+    requires continues { ContinuesFrom place.clip.width rest.line rest.cell.now from.start }
+    requires clip { place.clip ≡ intersection_of place.area buf.old.area }
+    ensures ok { OnOk result (Painted (paragraph_in buf.old.area place.area (cell_from rest.entry.line rest.entry.cell.now)) buf.old buf.new) }
+    ensures kept { KeptOutside (covers place.area) buf.old buf.new }
 {
-    match cell.split_at_checked(from.start) {
+    let ClippedArea { area, clip } = place;
+    match rest.cell.split_at_checked(from.start) {
         Some((_, rest)) => {
             let rows = usize::from(clip.height);
-            let shown = shown_part(rest, clip.width, rows, from.near);
+            let shown = visible_prefix(rest, clip.width, rows, from.near);
             draw_whole(alloc, shown, area, buf)
         }
         None => draw_in(alloc, &Paragraph::new(Text::new(alloc)), area, buf),
     }
 }
 
-/// The same, where the byte may be known from which the cell goes on with that line at a width, as is the beginning of the first
-/// line: what stands before it is then not read.
-fn draw_rest(
-    alloc: Global,
-    cell: &str,
-    line: u16,
-    from: Option<Resumed>,
+/// The column of a cell: its width, and its area on the page.
+#[derive(Clone, Copy)]
+struct CellArea {
     width: u16,
     area: Rect,
+}
+
+/// Draws the rest of a cell. If the byte from which the cell continues with its line is known, the text before it is
+/// not read. For the first line it is the start of the cell.
+fn draw_rest(
+    alloc: Global,
+    rest: CellRest<'_>,
+    from: Option<Resumed>,
+    place: CellArea,
     buf: &mut Buffer,
 ) -> Mem<()>
-    requires { IfSome from (λ r. (line ≡ 0) × (r.start ≡ 0) ⊎ (0 < width → GoesOnFrom width line cell.now r.start)) }
-    ensures ok { OnOk result (Painted (drawn_in buf.old.area area (cell_from line cell.now)) buf.old buf.new) }
-    ensures kept { KeptOutside (covers area) buf.old buf.new }
+    requires { IfSome from (λ r. (rest.line ≡ 0) × (r.start ≡ 0) ⊎ (0 < place.width → ContinuesFrom place.width rest.line rest.cell.now r.start)) }
+    ensures ok { OnOk result (Painted (paragraph_in buf.old.area place.area (cell_from rest.entry.line rest.entry.cell.now)) buf.old buf.new) }
+    ensures kept { KeptOutside (covers place.area) buf.old buf.new }
 {
+    let CellArea { width, area } = place;
+    let cell = rest.cell();
     let clip = area.intersection(buf.area());
     match from {
         Some(from) if width > 0 && clip.width == width => {
-            draw_from(alloc, cell, line, from, clip, area, buf)
+            draw_from(alloc, rest, from, ClippedArea { area, clip }, buf)
         }
-        _ => draw_cell(alloc, cell, line, area, buf),
+        _ => draw_cell(alloc, cell, rest.line, area, buf),
     }
 }
 
-/// The bytes of two numbers of 64 bits and a `/`.
-const MOST_BYTES: usize = 41;
+/// The greatest number of bytes of two 64-bit numbers and a `/`.
+const MAX_BYTES: usize = 41;
 
-/// The number of a page, counted from 1, and how many there are.
+/// Writes the number of a page, counted from 1, and the number of pages.
 pub(crate) fn draw_number(
     alloc: Global,
     at: usize,
@@ -148,12 +178,13 @@ pub(crate) fn draw_number(
     ensures ok { OnOk result (Painted (right_layers buf.old.area area (number_of at count)) buf.old buf.new) }
     ensures kept { KeptOutside (covers area) buf.old buf.new }
 {
-    let mut number = String::with_capacity(alloc, MOST_BYTES)?;
+    let mut number = String::with_capacity(alloc, MAX_BYTES)?;
     write!(number, "{}/{count}", at + 1)?;
     set_right(number.as_str(), area, buf)
 }
 
-/// Characters of one byte and one column, so that they end at the right edge of an area's first row or are cut there.
+/// Writes a text so that it ends at the right edge of an area's first row, or is cut there. Each byte of the text is a
+/// character of one column.
 fn set_right(text: &str, area: Rect, buf: &mut Buffer) -> Mem<()>
     ensures ok { OnOk result (Painted (right_layers buf.old.area area text.now) buf.old buf.new) }
     ensures kept { KeptOutside (covers area) buf.old buf.new }
@@ -168,7 +199,7 @@ fn set_right(text: &str, area: Rect, buf: &mut Buffer) -> Mem<()>
     Ok(())
 }
 
-/// The columns' names, side by side.
+/// Writes the names of the columns, side by side.
 pub(crate) fn draw_names(
     alloc: Global,
     columns: &[Column<'_>],
@@ -187,8 +218,8 @@ pub(crate) fn draw_names(
     Ok(())
 }
 
-/// From where the cell in a column goes on with a line, where that is known.
-fn from_where(starts: &[usize], line: u16, i: usize, columns: usize) -> Option<Resumed>
+/// Returns from where the cell in a column continues with a line, if that is known.
+fn resume_point(starts: &[usize], line: u16, i: usize, columns: usize) -> Option<Resumed>
     ensures { IfSome result (λ r. (line ≡ 0) × (r.start ≡ 0) ⊎ (0 < line) × (slice_get starts.now i ≡ Some r.start)) }
 {
     let first = *starts.get(i)?;
@@ -204,69 +235,100 @@ fn from_where(starts: &[usize], line: u16, i: usize, columns: usize) -> Option<R
     })
 }
 
-/// Where the next page goes on in that column. No clause: it is looked at before it is used.
+/// Returns where the next page continues in that column. It has no clause, because its result is checked before it is
+/// used.
 fn next_start(starts: &[usize], i: usize, columns: usize) -> usize {
     let next = i.saturating_add(columns);
     if next < starts.len() { starts[next] } else { 0 }
 }
 
-/// The cells of a record from one of its lines on, side by side. `starts` are the bytes from which they go on with it, if it is not the
-/// first and as far as these are known, and behind them those from which the next page goes on with the record.
+/// A record from one of its lines on. `starts` are the bytes from which the cells continue with that line, unless it is
+/// the first one and as far as they are known. After them follow the bytes from which the next page continues with the
+/// record.
+#[derive(Clone, Copy)]
+struct RecordRest<'a, 't> {
+    record: &'a Record<'t>,
+    line: u16,
+    starts: &'a [usize],
+}
+
+/// Draws the cells of the rest of a record, side by side.
 fn draw_cells(
     alloc: Global,
-    entry: &Record<'_>,
-    line: u16,
-    starts: &[usize],
+    rest: RecordRest<'_, '_>,
     places: &[Segment],
     rows: Rect,
     buf: &mut Buffer,
 ) -> Mem<()>
-    requires { 0 < line → RowStarts line places.now (cells_of entry.now) starts.now }
-    ensures ok { OnOk result (Painted (cells_layers line buf.old.area rows places.now (cells_of entry.now)) buf.old buf.new) }
+    requires { 0 < rest.line → RowStarts rest.line places.now (cells_of rest.record.now) rest.starts.now }
+    ensures ok { OnOk result (Painted (cells_layers rest.entry.line buf.old.area rows places.now (cells_of rest.entry.record.now)) buf.old buf.new) }
     ensures kept { KeptOutside (covers rows) buf.old buf.new }
 {
-    let cells = entry.cells.as_slice();
+    let RecordRest {
+        record,
+        line,
+        starts,
+    } = rest;
+    let cells = record.cells.as_slice();
     'cells: for i in 0..places.len().min(cells.len()) {
         let place = places[i];
         let area = rows.columns_from(place.start, place.width);
-        let from = from_where(starts, line, i, places.len());
-        draw_rest(alloc, cells[i], line, from, place.width, area, buf)?;
+        let from = resume_point(starts, line, i, places.len());
+        let cell = CellRest {
+            cell: cells[i],
+            line,
+        };
+        let column = CellArea {
+            width: place.width,
+            area,
+        };
+        draw_rest(alloc, cell, from, column, buf)?;
     }
     Ok(())
 }
 
-/// The pieces of a page, one below the other. `starts` are those of the first one, and of the next page.
+/// The pieces of a page, and the records that they are pieces of. `starts` are those of the first piece and of the next
+/// page.
+#[derive(Clone, Copy)]
+pub(crate) struct PagePieces<'a, 't> {
+    pub(crate) pieces: &'a [Piece],
+    pub(crate) starts: &'a [usize],
+    pub(crate) records: &'a [Record<'t>],
+}
+
+/// Draws the pieces of a page, one below the other.
 pub(crate) fn draw_pieces(
     alloc: Global,
-    pieces: &[Piece],
-    starts: &[usize],
-    records: &[Record<'_>],
+    content: PagePieces<'_, '_>,
     places: &[Segment],
     page: Rect,
     buf: &mut Buffer,
 ) -> Mem<()>
-    requires drawable { All (IsDrawable (length records.now)) pieces.now }
-    requires fit { lines_on pieces.now + 3 ≤ page.height }
-    requires starts { (p : Piece) → slice_get pieces.now 0 ≡ Some p → 0 < p.from
-        → RowStarts p.from places.now (slice_index_or (map cells_of records.now) p.place []) starts.now }
-    ensures ok { OnOk result (Painted (pieces_layers buf.old.area page places.now (map cells_of records.now) 2 pieces.now) buf.old buf.new) }
+    requires drawable { All (IsDrawable (length content.records.now)) content.pieces.now }
+    requires fit { lines_on content.pieces.now + 3 ≤ page.height }
+    requires starts { (p : Piece) → slice_get content.pieces.now 0 ≡ Some p → 0 < p.from
+        → RowStarts p.from places.now (slice_index_or (map cells_of content.records.now) p.place []) content.starts.now }
+    ensures ok { OnOk result (Painted
+        (pieces_layers buf.old.area page places.now (map cells_of content.entry.records.now) 2 content.entry.pieces.now) buf.old buf.new) }
     ensures kept { KeptOutside (covers (rows_from page 2 (page.height - 2))) buf.old buf.new }
 {
+    let PagePieces {
+        pieces,
+        starts,
+        records,
+    } = content;
     let mut row = TOP;
     'pieces: for i in 0..pieces.len() {
         let piece = pieces[i];
         let size = (piece.to - piece.from) as u16;
         let rows = page.rows_from(row, size);
         let known = if i == 0 { starts } else { &starts[..0] };
-        draw_cells(
-            alloc,
-            &records[piece.place],
-            piece.from as u16,
-            known,
-            places,
-            rows,
-            buf,
-        )?;
+        let rest = RecordRest {
+            record: &records[piece.place],
+            line: piece.from as u16,
+            starts: known,
+        };
+        draw_cells(alloc, rest, places, rows, buf)?;
         row += size;
     }
     Ok(())

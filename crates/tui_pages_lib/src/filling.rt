@@ -1,7 +1,7 @@
-//! Pages while they are filled.
+//! Pages that are being filled.
 
 ghost use Rattle.std.specs.Prelude.{◌≡◌, ◌+◌, ◌<◌, ◌≤◌, ◌++◌, [], ◌∷◌, List, min, IfOk, OnOk};
-ghost use Rattle.tui_pages_lib.specs.Filling.{blank, cut, pages_by, with_piece};
+ghost use Rattle.tui_pages_lib.specs.Filling.{empty_draft, cut, pages_by, with_piece};
 ghost use Rattle.tui_pages_lib.specs.Pages.{size_of};
 
 use crate::pages::Pages;
@@ -10,7 +10,8 @@ use std::alloc::Global;
 use std::marker::Model;
 use tui_cells::Mem;
 
-/// Pages of which the last one still takes pieces. `start` is the place of its first piece, `used` how many lines it has.
+/// Pages, of which the last one still takes pieces. `start` is the index of its first piece, `used` the number of its
+/// lines.
 #[derive(Drop)]
 pub(crate) struct Filling {
     pieces: Vec<Piece>,
@@ -21,19 +22,19 @@ pub(crate) struct Filling {
 
 impl Model for Filling {
     ghost use Rattle.std.specs.Prelude.{drop};
-    ghost use Rattle.tui_pages_lib.specs.Filling.{Draft, IsDraft, parts_of};
+    ghost use Rattle.tui_pages_lib.specs.Filling.{Draft, IsDraft, pages_by_ends};
 
     ghost Value = { Draft };
 
-    ghost view = { λ s. record { ended = parts_of 0 s.ends.items s.pieces.items; current = drop s.start s.pieces.items } };
+    ghost view = { λ s. record { ended = pages_by_ends 0 s.ends.items s.pieces.items; current = drop s.start s.pieces.items } };
 
     ghost invariant = { λ s. IsDraft s.pieces.items s.ends.items s.start s.used };
 }
 
 impl Filling {
-    /// One page without pieces.
+    /// Returns one page without pieces.
     pub(crate) fn new(alloc: Global) -> Filling
-        ensures { result ≡ blank }
+        ensures { result ≡ empty_draft }
     {
         Filling {
             pieces: Vec::new(alloc),
@@ -43,7 +44,7 @@ impl Filling {
         }
     }
 
-    /// Cuts a record into pieces, and puts them on the pages.
+    /// Cuts a record into pieces and adds them to the pages.
     pub(crate) fn add(&mut self, room: usize, place: usize, height: usize) -> Mem<()>
         requires { 0 < room }
         ensures { OnOk result ((rest : List Piece)
@@ -52,14 +53,14 @@ impl Filling {
         let mut from = 0;
         'cutting: while from < height {
             let to = next_end(height, from, room);
-            self.put(room, Piece { place, from, to })?;
+            self.push_piece(room, Piece { place, from, to })?;
             from = to;
         }
         Ok(())
     }
 
-    /// Puts a piece on the last page, or on a new one where it does not fit there.
-    fn put(&mut self, room: usize, piece: Piece) -> Mem<()>
+    /// Adds a piece to the last page, or to a new page if it does not fit there.
+    fn push_piece(&mut self, room: usize, piece: Piece) -> Mem<()>
         requires order { piece.from ≤ piece.to }
         requires small { size_of piece ≤ room }
         ensures { OnOk result (self.new ≡ with_piece room self.old piece) }
@@ -86,7 +87,7 @@ impl Filling {
         Ok(())
     }
 
-    /// The pages, where no more pieces come.
+    /// Returns the pages. No more pieces can be added.
     pub(crate) fn finish(mut self) -> Mem<Pages>
         ensures { IfOk result (λ pages. pages ≡ self.ended ++ self.current ∷ []) }
     {
@@ -96,7 +97,7 @@ impl Filling {
     }
 }
 
-/// The line after the last one of a piece that begins at a line.
+/// Returns the line after the last one of the piece that starts at line `from`.
 fn next_end(height: usize, from: usize, room: usize) -> usize
     requires { from ≤ height }
     ensures { result ≡ min height (from + room) }

@@ -1,4 +1,4 @@
-//! Reports: records of texts in columns, cut into pages.
+//! Reports: records of texts in columns, which are cut into pages.
 #![tactic(auto)]
 
 pub mod column;

@@ -1,9 +1,9 @@
-//! How many lines records have.
+//! Counting the lines of records.
 
 ghost use Rattle.std.specs.Prelude.{◌≡◌, ◌≤◌, All, IfOk, MatchOption, map, true};
 ghost use Rattle.tui_para.specs.Hyphens.{at_blanks};
 ghost use Rattle.tui_para.specs.Paragraph.{paragraph_data};
-ghost use Rattle.tui_pages_lib.specs.Heights.{IsFirstTooTall, heights_of, cell_height, most_lines, record_height};
+ghost use Rattle.tui_pages_lib.specs.Heights.{IsFirstTooTall, heights_of, cell_height, max_lines, record_height};
 ghost use Rattle.tui_pages_lib.specs.Report.{cells_of};
 ghost use Rattle.tui_pages_lib.specs.Strokes.{cell_from};
 ghost use Rattle.tui_clusters.specs.Width.{saturated};
@@ -15,10 +15,10 @@ use tui_layout::Segment;
 use tui_para::{Paragraph, Wrap, text_wraps_exactly_once, wrapped_count};
 use tui_text::Text;
 
-/// The most lines that a record may have.
-const MOST_LINES: usize = 4096;
+/// The greatest number of lines that a record may have.
+const MAX_LINES: usize = 4096;
 
-/// How cells are wrapped: without the blanks at which their lines break.
+/// Returns how cells are wrapped: spaces at which a line breaks are dropped.
 fn cell_wrap() -> Wrap
     ensures { result ≡ at_blanks true }
 {
@@ -28,7 +28,7 @@ fn cell_wrap() -> Wrap
     }
 }
 
-/// A cell, wrapped, from one of its lines on.
+/// Returns a wrapped cell from one of its lines on.
 pub(crate) fn cell_paragraph<'a>(alloc: Global, cell: &'a str, line: u16) -> Mem<Paragraph<'a>>
     ensures { IfOk result (λ paragraph. paragraph_data paragraph ≡ cell_from line cell.now) }
 {
@@ -36,7 +36,7 @@ pub(crate) fn cell_paragraph<'a>(alloc: Global, cell: &'a str, line: u16) -> Mem
     Ok(Paragraph::new(text).wrap(cell_wrap()).scroll((line, 0)))
 }
 
-/// How many lines a cell has in a column of this width, cut at the greatest number of 64 bits.
+/// Returns how many lines a cell has in a column of this width, at most the greatest 64-bit number.
 fn cell_height(alloc: Global, width: u16, cell: &str) -> Mem<usize>
     ensures { IfOk result (λ count. count ≡ saturated (cell_height width cell.now)) }
 {
@@ -48,7 +48,7 @@ fn cell_height(alloc: Global, width: u16, cell: &str) -> Mem<usize>
     Ok(wrapped_count(&text, width, cell_wrap()))
 }
 
-/// How many lines a record has: as many as its tallest cell, and at least one. Cut alike.
+/// Returns how many lines a record has: as many as its tallest cell, and at least one. It is limited in the same way.
 fn record_height(alloc: Global, places: &[Segment], entry: &Record<'_>) -> Mem<usize>
     ensures { IfOk result (λ height. height ≡ saturated (record_height places.now (cells_of entry.now))) }
 {
@@ -61,7 +61,7 @@ fn record_height(alloc: Global, places: &[Segment], entry: &Record<'_>) -> Mem<u
     Ok(height)
 }
 
-/// How many lines each record has, cut alike.
+/// Returns how many lines each record has, limited in the same way.
 pub(crate) fn heights(alloc: Global, places: &[Segment], records: &[Record<'_>]) -> Mem<Vec<usize>>
     ensures { IfOk result (λ heights. heights.items ≡ map saturated (heights_of places.now (map cells_of records.now))) }
 {
@@ -72,12 +72,12 @@ pub(crate) fn heights(alloc: Global, places: &[Segment], records: &[Record<'_>])
     Ok(heights)
 }
 
-/// The first place where a record has too many lines.
+/// Returns the index of the first record that has too many lines.
 pub(crate) fn first_too_tall(heights: &[usize]) -> Option<usize>
-    ensures { MatchOption result (All (λ height. height ≤ most_lines) heights.now) (IsFirstTooTall heights.now) }
+    ensures { MatchOption result (All (λ height. height ≤ max_lines) heights.now) (IsFirstTooTall heights.now) }
 {
     'heights: for place in 0..heights.len() {
-        if heights[place] > MOST_LINES {
+        if heights[place] > MAX_LINES {
             return Some(place);
         }
     }

@@ -12,35 +12,35 @@ use std::alloc::Global;
 use std::marker::Model;
 use tui_cells::Mem;
 
-/// Pages that show the lines of records, in order. A record that fits on a page stays whole.
+/// Pages that show the lines of records, in order. A record that fits on a page is kept whole.
 #[derive(Drop)]
 pub struct Pages {
-    // The pieces of all pages, and for each page the place of its end among them.
+    // The pieces of all pages, and for each page the index of its end among them.
     pub(crate) pieces: Vec<Piece>,
     pub(crate) ends: Vec<usize>,
 }
 
 impl Model for Pages {
     ghost use Rattle.std.specs.Prelude.{List, length};
-    ghost use Rattle.tui_pages_lib.specs.Filling.{EndAt, parts_of};
+    ghost use Rattle.tui_pages_lib.specs.Filling.{AreEndsUpTo, pages_by_ends};
     ghost use Rattle.tui_pages_lib.specs.declared.piece.Piece.{Piece};
 
     ghost Value = { List (List Piece) };
 
-    ghost view = { λ s. parts_of 0 s.ends.items s.pieces.items };
+    ghost view = { λ s. pages_by_ends 0 s.ends.items s.pieces.items };
 
-    ghost invariant = { λ s. EndAt 0 s.ends.items (length s.pieces.items) };
+    ghost invariant = { λ s. AreEndsUpTo 0 s.ends.items (length s.pieces.items) };
 }
 
 impl Pages {
-    /// The pages of records of these heights, each at least 1, on pages of `room` lines, at least 1. Without records there is one
-    /// page without pieces. `NoMemory` where there is none for the pieces.
+    /// Cuts records of these heights, each at least 1, into pages of `room` lines, at least 1. Without records there is
+    /// one page without pieces. Fails with `NoMemory` if the pieces can't be allocated.
     pub fn new(alloc: Global, heights: &[usize], room: usize) -> Mem<Pages>
         requires room { 0 < room }
         requires heights { All (λ height. 0 < height) heights.now }
         ensures pages { IfOk result (λ pages. ArePages heights.now room pages) }
 
-        // Where no record is taller than a page, no pages that keep the records whole are fewer.
+        // If no record is taller than a page, no pages that keep the records whole are fewer.
         ensures fewest { 0 < length heights.now → All (λ height. height ≤ room) heights.now
             → IfOk result (λ pages. (others : List (List Piece)) → KeepWhole heights.now room others
             → length pages ≤ length others) }
@@ -49,14 +49,14 @@ impl Pages {
         Ok(pages)
     }
 
-    /// The number of pages.
+    /// Returns the number of pages.
     pub fn page_count(&self) -> usize
         ensures { result ≡ length self.now }
     {
         self.ends.len()
     }
 
-    /// The pieces of a page, in order. Pages count from 0.
+    /// Returns the pieces of a page, in order. Pages count from 0.
     pub fn page(&self, at: usize) -> &[Piece]
         requires { at < length self.now }
         ensures { slice_get self.now at ≡ Some result.now }
@@ -66,14 +66,14 @@ impl Pages {
         part(&self.pieces, start, end)
     }
 
-    /// The pieces of all pages, one after another.
+    /// Returns the pieces of all pages, one after another.
     pub(crate) fn pieces(&self) -> &[Piece]
         ensures { result.now ≡ all_pieces self.now }
     {
         &self.pieces
     }
 
-    /// How many pieces stand before a page.
+    /// Returns how many pieces are before a page.
     pub(crate) fn pieces_before(&self, at: usize) -> usize
         requires { at < length self.now }
         ensures { result ≡ pieces_before self.now at }
@@ -90,7 +90,7 @@ fn part(pieces: &[Piece], start: usize, end: usize) -> &[Piece]
     &pieces[start..end]
 }
 
-/// The place where part `at` begins, where the parts end at these places.
+/// Returns the index at which part `at` starts, if the parts end at these indices.
 fn start_of(ends: &[usize], at: usize) -> usize
     requires { at < length ends.now }
     ensures { result ≡ slice_index (0 ∷ ends.now) at }
@@ -98,7 +98,7 @@ fn start_of(ends: &[usize], at: usize) -> usize
     if at == 0 { 0 } else { ends[at - 1] }
 }
 
-/// The pages, filled with the pieces of one record after another.
+/// Returns the pages, filled with the pieces of one record after another.
 fn filled(alloc: Global, heights: &[usize], room: usize) -> Mem<Pages>
     requires room { 0 < room }
     ensures { IfOk result (λ pages. pages ≡ pages_of heights.now room) }

@@ -1,6 +1,7 @@
 //! Pieces of records.
 
-/// A part of a record on one page: its lines from `from` to the one before `to`, counted from 0, of the record at `place`.
+/// The part of a record that is on one page: the lines from `from` to the one before `to`, counted from 0, of the
+/// record at index `place`.
 #[derive(Clone, Copy, Debug, PartialEq, Eq, Hash)]
 pub struct Piece {
     pub place: usize,

@@ -3,14 +3,14 @@
 ghost use Rattle.std.specs.Prelude.{◌≡◌, ◌↔◌, ◌⊎◌, ◌-◌, ◌<◌, ◌≤◌, ℕ, List, Err, IfOk, OnOk, All, length, map, slice_get, Some};
 ghost use Rattle.tui_cells.specs.Layers.{KeptOutside, Painted};
 ghost use Rattle.tui_cells.specs.Rect.{covers};
-ghost use Rattle.tui_pages_lib.specs.Heights.{IsFirstTooTall, heights_of, most_lines};
+ghost use Rattle.tui_pages_lib.specs.Heights.{IsFirstTooTall, heights_of, max_lines};
 ghost use Rattle.tui_pages_lib.specs.Pages.{ArePages, KeepWhole};
 ghost use Rattle.tui_pages_lib.specs.Report.{cells_of, column_data, places_of, report_heights, report_of};
 ghost use Rattle.tui_pages_lib.specs.Strokes.{body_area, body_layers, head_area, head_layers, page_area, page_layers};
 ghost use Rattle.tui_pages_lib.specs.declared.piece.Piece.{Piece};
 
 use crate::column::Column;
-use crate::drawing::{draw_names, draw_number, draw_pieces, draw_text};
+use crate::drawing::{PagePieces, draw_names, draw_number, draw_pieces, draw_text};
 use crate::measuring::{first_too_tall, heights};
 use crate::pages::Pages;
 use crate::piece::Piece;
@@ -22,8 +22,9 @@ use std::marker::Model;
 use tui_cells::{Buffer, Mem, Rect};
 use tui_layout::{Constraint, Flex, Segment, split};
 
-/// Records of texts in columns, cut into pages of one size. Each page has the title in its first row, the columns' names in the
-/// second, its number at the right of the last, and in the rows between as many lines of the records as there is room for.
+/// Records of texts in columns, cut into pages of one size. Each page has the title in its first row and the names of
+/// the columns in the second. Its number is at the right of the last row. The rows between show as many lines of the
+/// records as there is room for.
 pub struct Report<'a> {
     width: u16,
     height: u16,
@@ -32,11 +33,12 @@ pub struct Report<'a> {
     places: Vec<Segment>,
     records: Vec<Record<'a>>,
     pages: Pages,
-    // The bytes from which the cells of each piece go on that goes on with a record, the first one of its page, column by column.
+    // For each piece that continues a record of the page before: the bytes from which its cells continue, column by
+    // column.
     starts: Vec<usize>,
 }
 
-// Written out, so that a crate above proves nothing of what it holds to let it go.
+// Written by hand, so that dependent crates need no proofs about dropping the fields.
 impl<'a> Drop for Report<'a> {
     fn drop(self) {
         let Report {
@@ -56,7 +58,7 @@ impl<'a> Model for Report<'a> {
     ghost use Rattle.std.specs.Prelude.{length, map};
     ghost use Rattle.tui_pages_lib.specs.Pages.{all_pieces};
     ghost use Rattle.tui_pages_lib.specs.Report.{IsReport, ReportData, column_data, cells_of};
-    ghost use Rattle.tui_pages_lib.specs.Starts.{HaveRows, going_on};
+    ghost use Rattle.tui_pages_lib.specs.Starts.{HaveRows, continued_pieces};
 
     ghost Value = { ReportData };
 
@@ -70,15 +72,16 @@ impl<'a> Model for Report<'a> {
     } };
 
     ghost invariant = { λ r. IsReport r.places.items r.width r.height (map column_data r.columns.items) (map cells_of r.records.items) r.pages
-        × HaveRows r.places.items (map cells_of r.records.items) (all_pieces r.pages) (length (going_on (all_pieces r.pages))) r.starts.items };
+        × HaveRows r.places.items (map cells_of r.records.items) (all_pieces r.pages) (length (continued_pieces (all_pieces r.pages))) r.starts.items };
 }
 
 impl<'a> Report<'a> {
-    /// The pages of these records, each `width` columns of cells and `height` rows large. A record has as many lines as its
-    /// tallest cell, wrapped in its column, and at least one.
+    /// Cuts these records into pages, each `width` columns wide and `height` rows high. A record has as many lines as
+    /// its tallest cell, wrapped in its column, and at least one.
     ///
-    /// `TooSmall` comes exactly where the width is 0 or the height below 4; `TooTall` exactly where a record has more than 4096
-    /// lines, with the first such place. `NoMemory` where there is none for the texts' lines and the pages.
+    /// Fails with `TooSmall` if and only if the width is 0 or the height below 4. Fails with `TooTall` if and only if a
+    /// record has more than 4096 lines, with the index of the first such record. Fails with `NoMemory` if the lines of
+    /// the texts or the pages can't be allocated.
     pub fn new(
         alloc: Global,
         width: u16,
@@ -90,12 +93,12 @@ impl<'a> Report<'a> {
         ensures small { (result ≡ Err ReportError.TooSmall) ↔ (width ≡ 0) ⊎ (height < 4) }
         ensures tall { (place : ℕ) → result ≡ Err (ReportError.TooTall place)
             → IsFirstTooTall (heights_of (places_of width (map column_data columns.entry.items)) (map cells_of records.entry.items)) place }
-        ensures low { IfOk result (λ report. All (λ lines. lines ≤ most_lines) (report_heights report)) }
+        ensures bounded { IfOk result (λ report. All (λ lines. lines ≤ max_lines) (report_heights report)) }
         ensures ok { IfOk result (λ report. report
             ≡ report_of width height title.now (map column_data columns.entry.items) (map cells_of records.entry.items)) }
         ensures pages { IfOk result (λ report. ArePages (report_heights report) (height - 3) report.pages) }
 
-        // Where there are records and all fit, no pages that keep them whole are fewer.
+        // If there are records and all fit, no pages that keep them whole are fewer.
         ensures fewest { IfOk result (λ report. 0 < length report.records → All (λ lines. lines ≤ height - 3) (report_heights report)
             → (others : List (List Piece)) → KeepWhole (report_heights report) (height - 3) others → length report.pages ≤ length others) }
     {
@@ -122,14 +125,14 @@ impl<'a> Report<'a> {
         })
     }
 
-    /// The number of pages.
+    /// Returns the number of pages.
     pub fn page_count(&self) -> usize
         ensures { result ≡ length self.now.pages }
     {
         self.pages.page_count()
     }
 
-    /// The pieces of records that stand on a page, from the top. Pages count from 0.
+    /// Returns the pieces of records on a page, from the top. Pages count from 0.
     pub fn page(&self, at: usize) -> &[Piece]
         requires { at < length self.now.pages }
         ensures { slice_get self.now.pages at ≡ Some result.now }
@@ -137,9 +140,10 @@ impl<'a> Report<'a> {
         self.pages.page(at)
     }
 
-    /// Draws a page: the title, the columns' names, the pieces one below the other, each with its cells in their columns, and
-    /// in the last row at the right the page's number from 1 and how many there are. Pages count from 0, and a page stands at the
-    /// origin. At `NoMemory` the buffer's area and all cells outside the page are as before.
+    /// Draws a page at the origin. It has the title, the names of the columns, and the pieces one below the other, each
+    /// with its cells in their columns. At the right of the last row are the number of the page, from 1, and the number
+    /// of pages. The argument `at` counts from 0. On `NoMemory` the buffer's area and all cells outside the page are
+    /// unchanged.
     pub fn draw_page(&self, alloc: Global, at: usize, buf: &mut Buffer) -> Mem<()>
         requires { at < length self.now.pages }
         ensures ok { OnOk result (Painted (page_layers self.now at buf.old.area) buf.old buf.new) }
@@ -149,8 +153,8 @@ impl<'a> Report<'a> {
         self.draw_body(alloc, at, buf)
     }
 
-    /// Draws what all pages have in common, in the first two rows: the title and the columns' names. At `NoMemory` the buffer's
-    /// area and all cells outside these rows are as before.
+    /// Draws what all pages have in common, in the first two rows: the title and the names of the columns. On
+    /// `NoMemory` the buffer's area and all cells outside these rows are unchanged.
     pub fn draw_head(&self, alloc: Global, buf: &mut Buffer) -> Mem<()>
         ensures ok { OnOk result (Painted (head_layers self.now buf.old.area) buf.old buf.new) }
         ensures kept { KeptOutside (covers (head_area self.now)) buf.old buf.new }
@@ -161,8 +165,8 @@ impl<'a> Report<'a> {
         draw_names(alloc, &self.columns, &self.places, names, buf)
     }
 
-    /// Draws the other rows of a page: its pieces and its number. Pages count from 0. At `NoMemory` the buffer's area and all
-    /// cells outside these rows are as before.
+    /// Draws the other rows of a page: its pieces and its number. Pages count from 0. On `NoMemory` the buffer's area
+    /// and all cells outside these rows are unchanged.
     pub fn draw_body(&self, alloc: Global, at: usize, buf: &mut Buffer) -> Mem<()>
         requires { at < length self.now.pages }
         ensures ok { OnOk result (Painted (body_layers self.now at buf.old.area) buf.old buf.new) }
@@ -173,21 +177,18 @@ impl<'a> Report<'a> {
         let before = self.pages.pieces_before(at);
         let columns = self.places.len();
         let starts = starts_from(&self.starts, self.pages.pieces(), before, columns);
-        draw_pieces(
-            alloc,
+        let content = PagePieces {
             pieces,
             starts,
-            &self.records,
-            &self.places,
-            page,
-            buf,
-        )?;
+            records: &self.records,
+        };
+        draw_pieces(alloc, content, &self.places, page, buf)?;
         let last = page.rows_from(self.height - 1, 1);
         draw_number(alloc, at, self.pages.page_count(), last, buf)
     }
 }
 
-/// Where the columns stand in the width.
+/// Returns where the columns are in the width.
 fn places(alloc: Global, width: u16, columns: &[Column<'_>]) -> Mem<Vec<Segment>>
     ensures { IfOk result (λ places. places.items ≡ places_of width (map column_data columns.now)) }
 {
@@ -195,7 +196,7 @@ fn places(alloc: Global, width: u16, columns: &[Column<'_>]) -> Mem<Vec<Segment>
     split(alloc, width, 1, &sizes, Flex::Start)
 }
 
-/// How wide the columns are to be.
+/// Returns the requested widths of the columns.
 fn sizes(alloc: Global, columns: &[Column<'_>]) -> Mem<Vec<Constraint>>
     ensures { IfOk result (λ sizes. sizes.items ≡ map (λ c. c.size) (map column_data columns.now)) }
 {

@@ -1,18 +1,18 @@
-//! Why there is no report.
+//! Why a report can't be made.
 
 use thiserror::Error;
 use tui_cells::NoMemory;
 
-/// Why there is no report of some records.
+/// Why a report of some records can't be made.
 #[derive(Clone, Copy, Debug, PartialEq, Eq, Error)]
 pub enum ReportError {
     /// The width is 0 or the height is below 4.
     #[error("TooSmall")]
     TooSmall,
-    /// A record has more than 4096 lines; `place` is that of the first such record, from 0.
+    /// A record has more than 4096 lines. `place` is the index of the first such record.
     #[error("TooTall")]
     TooTall { place: usize },
-    /// The memory that the report takes was not there.
+    /// Out of memory for the report.
     #[error("NoMemory")]
     NoMemory,
 }

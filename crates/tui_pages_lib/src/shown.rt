@@ -1,18 +1,18 @@
-//! What a page is handed of a cell.
+//! The part of a cell that is drawn on a page.
 
 ghost use Rattle.std.specs.Prelude.{◌≡◌, ◌<◌, [], ◌∷◌, length, take, true};
 ghost use Rattle.tui_line_places.specs.Parts.{HaveSameLines};
 ghost use Rattle.tui_pages_lib.specs.Shown.{AreTextLines, newlines};
 
-use tui_line_places::{Lines, first_part, is_behind_newline};
+use tui_line_places::{Lines, first_part, is_after_newline};
 use tui_para::wraps_exactly_once;
 
-/// The byte of a newline.
+/// The newline byte.
 const NEWLINE: u8 = 10;
 
-/// A first part of a text that has the same first `lines` lines at a width: what stands before byte `near`, where that is
-/// `lines` text lines, and else one that ends little behind it.
-pub(crate) fn shown_part(text: &str, width: u16, lines: usize, near: usize) -> &str
+/// Returns a prefix of a text that has the same first `lines` lines at a width. If the text before byte `near` consists
+/// of at least `lines` complete text lines, that is the prefix; otherwise one that ends shortly after `near`.
+pub(crate) fn visible_prefix(text: &str, width: u16, lines: usize, near: usize) -> &str
     requires { 0 < width }
     ensures { HaveSameLines width true lines text.now result.now }
 {
@@ -25,11 +25,11 @@ pub(crate) fn shown_part(text: &str, width: u16, lines: usize, near: usize) -> &
     first_part(text, Lines { width, trim: true }, lines, near)
 }
 
-/// Whether at least `lines` text lines stand before a place, and nothing else.
+/// Returns whether at least `lines` text lines are before byte `place`, and the last of them ends there.
 fn are_text_lines(bytes: &[u8], place: usize, lines: usize) -> bool
     ensures { result ≡ true → AreTextLines lines (take place bytes.now) }
 {
-    is_behind_newline(bytes, place) && lines <= newlines(&bytes[..place])
+    is_after_newline(bytes, place) && lines <= newlines(&bytes[..place])
 }
 
 fn newlines(bytes: &[u8]) -> usize

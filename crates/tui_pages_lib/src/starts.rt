@@ -1,4 +1,4 @@
-//! Where records go on from page to page.
+//! Where records continue from page to page.
 
 ghost use Rattle.std.specs.Prelude.{
   ◌≡◌,
@@ -24,15 +24,15 @@ ghost use Rattle.std.specs.Prelude.{
 ghost use Rattle.std.specs.Str.{IsCharBoundary};
 ghost use Rattle.tui_pages_lib.specs.Report.{cells_of};
 ghost use Rattle.tui_pages_lib.specs.Starts.{
-  ArePartFrom,
-  GoesOnFrom,
+  IsSliceFrom,
+  ContinuesFrom,
   HaveRows,
   HaveStarts,
-  IsBegun,
+  IsKnownStart,
   IsLast,
   StartsAt,
   cell_at,
-  going_on,
+  continued_pieces,
 };
 ghost use Rattle.tui_pages_lib.specs.declared.piece.Piece.{Piece};
 
@@ -43,11 +43,11 @@ use tui_cells::Mem;
 use tui_layout::Segment;
 use tui_line_places::{Lines, from_line};
 
-/// No byte of a cell: one without further lines goes on here.
-const NOWHERE: usize = usize::MAX;
+/// The start for a cell without further lines. It is not a byte of any cell.
+const NO_START: usize = usize::MAX;
 
-/// Where a text begins with which a cell ends.
-fn place_in(cell: &str, rest: &str) -> usize
+/// Returns the byte at which the end `rest` of a cell starts.
+fn byte_offset_in(cell: &str, rest: &str) -> usize
     requires { (front : List ℕ) × (cell.now ≡ front ++ rest.now) }
     ensures rest { drop result cell.now ≡ rest.now }
     ensures begins { IsCharBoundary cell.now result }
@@ -55,16 +55,16 @@ fn place_in(cell: &str, rest: &str) -> usize
     cell.len() - rest.len()
 }
 
-/// Where a cell goes on `lines` lines further.
-fn moved_on(cell: &str, start: usize, width: u16, lines: usize) -> usize
-    ensures further { (line : ℕ) → GoesOnFrom width line cell.now start → GoesOnFrom width (line + lines) cell.now result }
-    ensures begins { GoesOnFrom width 0 cell.now 0 }
+/// Returns where a cell continues `lines` lines further on.
+fn start_after_lines(cell: &str, start: usize, width: u16, lines: usize) -> usize
+    ensures further { (line : ℕ) → ContinuesFrom width line cell.now start → ContinuesFrom width (line + lines) cell.now result }
+    ensures begins { ContinuesFrom width 0 cell.now 0 }
 {
     match cell.split_at_checked(start) {
-        None => NOWHERE,
+        None => NO_START,
         Some((_, rest)) => match from_line(rest, Lines { width, trim: true }, lines) {
-            None => NOWHERE,
-            Some(left) => place_in(cell, left),
+            None => NO_START,
+            Some(left) => byte_offset_in(cell, left),
         },
     }
 }
@@ -76,9 +76,9 @@ fn cell_at<'a>(records: &[Record<'a>], place: usize, i: usize) -> Option<&'a str
     entry.cells.as_slice().get(i).copied()
 }
 
-/// A place from which a piece's cell is reached: that of the piece before, where that shows the same record, or else its beginning.
-/// Answers the byte and its line.
-fn place_before(
+/// Returns a byte and its line, from which a piece's cell can be reached. They are those of the piece before if that
+/// shows the same record, otherwise the start of the cell.
+fn known_start(
     piece: Piece,
     before: Option<Piece>,
     columns: usize,
@@ -86,18 +86,18 @@ fn place_before(
 ) -> (usize, usize)
     requires { 0 < columns }
     ensures line { result.1 ≤ piece.from }
-    ensures place { IsBegun before columns known.now piece.place result.0 result.1 }
+    ensures place { IsKnownStart before columns known.now piece.place result.0 result.1 }
 {
     if let Some(before) = before {
-        let is_behind = before.place == piece.place && before.from <= piece.from;
-        if is_behind && columns <= known.len() {
+        let is_continued = before.place == piece.place && before.from <= piece.from;
+        if is_continued && columns <= known.len() {
             return (known[known.len() - columns], before.from);
         }
     }
     (0, 0)
 }
 
-/// Where the next cell of a piece goes on, behind those that are known of it and of the pieces before.
+/// Returns where the next cell of a piece continues. The cells before it, and those of the pieces before, are known.
 fn next_start(
     places: &[Segment],
     records: &[Record<'_>],
@@ -113,16 +113,16 @@ fn next_start(
     let i = known.len() % places.len();
     let width = places[i].width;
     if width == 0 {
-        return NOWHERE;
+        return NO_START;
     }
     let Some(cell) = cell_at(records, piece.place, i) else {
-        return NOWHERE;
+        return NO_START;
     };
-    let (start, line) = place_before(piece, before, places.len(), known);
-    moved_on(cell, start, width, piece.from - line)
+    let (start, line) = known_start(piece, before, places.len(), known);
+    start_after_lines(cell, start, width, piece.from - line)
 }
 
-/// Adds where each cell of a piece goes on, column by column, behind what is known of the pieces before.
+/// Adds where each cell of a piece continues, column by column, after what is known of the pieces before.
 fn add_row(
     places: &[Segment],
     records: &[Record<'_>],
@@ -130,7 +130,7 @@ fn add_row(
     before: Option<Piece>,
     starts: &mut Vec<usize>,
 ) -> Mem<()>
-    ensures { OnOk result ((pieces : List Piece) (count : ℕ) → slice_get (going_on pieces) count ≡ Some piece
+    ensures { OnOk result ((pieces : List Piece) (count : ℕ) → slice_get (continued_pieces pieces) count ≡ Some piece
         → IsLast pieces count before → HaveRows places.now (map cells_of records.now) pieces count starts.old.items
         → HaveRows places.now (map cells_of records.now) pieces (count + 1) starts.new.items) }
 {
@@ -141,21 +141,22 @@ fn add_row(
     Ok(())
 }
 
-/// How many pieces go on with a record. No clause: it decides only how much memory is taken at once.
-fn count_going_on(pieces: &[Piece]) -> usize {
+/// Returns how many pieces continue a record. It has no clause, because it decides only how much memory is allocated at
+/// once.
+fn count_continued(pieces: &[Piece]) -> usize {
     pieces.iter().filter(|piece| piece.from > 0).count()
 }
 
-/// Where each cell of each piece goes on that goes on with a record, piece by piece and column by column.
+/// Returns where the cells continue, for each piece that continues a record, piece by piece and column by column.
 pub(crate) fn starts(
     alloc: Global,
     places: &[Segment],
     records: &[Record<'_>],
     pieces: &[Piece],
 ) -> Mem<Vec<usize>>
-    ensures { IfOk result (λ starts. HaveRows places.now (map cells_of records.now) pieces.now (length (going_on pieces.now)) starts.items) }
+    ensures { IfOk result (λ starts. HaveRows places.now (map cells_of records.now) pieces.now (length (continued_pieces pieces.now)) starts.items) }
 {
-    let count = places.len().saturating_mul(count_going_on(pieces));
+    let count = places.len().saturating_mul(count_continued(pieces));
     let mut starts = Vec::with_capacity(alloc, count)?;
     let mut before = None;
     'pieces: for at in 0..pieces.len() {
@@ -169,7 +170,8 @@ pub(crate) fn starts(
     Ok(starts)
 }
 
-/// How many pieces go on before this one, which `before` stand before: all but the first of each record up to its own.
+/// Returns how many pieces that continue a record are before this one, which has `before` pieces before it. These are
+/// all pieces except the first one of each record up to its own.
 fn row_of(piece: Piece, before: usize) -> usize
     ensures { 0 < piece.from → result ≡ before - (piece.place + 1) }
 {
@@ -181,8 +183,8 @@ fn row_of(piece: Piece, before: usize) -> usize
     }
 }
 
-/// How many pieces go on up to this one, and with the next one if that shows the same record. No clause: it decides only how much of
-/// the record is read.
+/// Returns how many pieces continue a record up to this one, and with the next one if that shows the same record. It
+/// has no clause, because it decides only how much of the record is read.
 fn end_of(piece: Piece, before: usize, next: Option<&Piece>) -> usize {
     let count = before.saturating_sub(piece.place);
     match next {
@@ -191,9 +193,9 @@ fn end_of(piece: Piece, before: usize, next: Option<&Piece>) -> usize {
     }
 }
 
-/// The rows from one to the one before another, as far as they are there.
+/// Returns the rows from one to the one before another, as far as they exist.
 fn rows(starts: &[usize], from: usize, to: usize, columns: usize) -> &[usize]
-    ensures { ArePartFrom (from * columns) starts.now result.now }
+    ensures { IsSliceFrom (from * columns) starts.now result.now }
 {
     let first = from.saturating_mul(columns);
     let end = to.saturating_mul(columns).min(starts.len());
@@ -204,8 +206,8 @@ fn rows(starts: &[usize], from: usize, to: usize, columns: usize) -> &[usize]
     }
 }
 
-/// Where the cells of a piece go on, which `before` stand before, if it goes on with its record, and behind that where those of the next
-/// one do, if that goes on with the same one.
+/// Returns where the cells of a piece continue, if it continues its record. `before` pieces are before it. If the next
+/// piece continues the same record, its starts follow.
 pub(crate) fn starts_from<'a>(
     starts: &'a [usize],
     pieces: &[Piece],
@@ -213,7 +215,7 @@ pub(crate) fn starts_from<'a>(
     columns: usize,
 ) -> &'a [usize]
     ensures { (piece : Piece) → slice_get pieces.now before ≡ Some piece → 0 < piece.from
-        → ArePartFrom ((before - (piece.place + 1)) * columns) starts.now result.now }
+        → IsSliceFrom ((before - (piece.place + 1)) * columns) starts.now result.now }
 {
     let Some(piece) = pieces.get(before).copied() else {
         return &[];

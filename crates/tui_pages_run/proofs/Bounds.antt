@@ -6,7 +6,7 @@ use Rattle.serde_json.specs.Data.{Data}
 use Rattle.serde_json.specs.Find.{as_str, get}
 use Rattle.tui_json.specs.Members.{member}
 use Rattle.tui_json.specs.Number.{between, u16_of, within}
-use Rattle.tui_json.specs.Refusals.{◌>>=◌, or_refuse}
+use Rattle.tui_json.specs.Refusals.{◌>>=◌, or_reject}
 use Rattle.tui_json.specs.Members.{elements_within}
 use Rattle.tui_json.specs.Refusals.{numbered}
 use Rattle.tui_pages_run.specs.Input.{InputData, SheetData, column_of, input_of, record_of, required, sheet_of}
@@ -14,32 +14,32 @@ use Rattle.tui_pages_run.specs.Refusals.{bad_input, field_name}
 use Rattle.tui_pages_run.specs.declared.field.ReportField.TheVariants as fields
 use Rattle.tui_pages_run.specs.declared.refusal.PagesRefusal.{PagesRefusal}
 
-between_least : (low high m n : ℕ) → between low high m ≡ Some n → low ≤ n
-between_least low high m n is = by_test (nat_le low m && nat_le m high) refl is
+between_least : (bounded high m n : ℕ) → between bounded high m ≡ Some n → bounded ≤ n
+between_least bounded high m n is = by_test (nat_le bounded m && nat_le m high) refl is
   where
-    by_test : (b : Bool) → nat_le low m && nat_le m high ≡ b → cond b (Some m) None ≡ Some n → low ≤ n
+    by_test : (b : Bool) → nat_le bounded m && nat_le m high ≡ b → cond b (Some m) None ≡ Some n → bounded ≤ n
     by_test true e found = let same : m ≡ n = cc in grind (arith, nat_tests)
     by_test false e found = absurd cc
 
-within_least : (low high : ℕ) (d : Data) (n : ℕ) → within low high d ≡ Some n → low ≤ n
+within_least : (bounded high : ℕ) (d : Data) (n : ℕ) → within bounded high d ≡ Some n → bounded ≤ n
 unfolding within
-within_least low high d n is = by_number (u16_of d) is
+within_least bounded high d n is = by_number (u16_of d) is
   where
-    by_number : (o : Option ℕ) → option_and_then (between low high) o ≡ Some n → low ≤ n
-    by_number (Some m) found = between_least low high m n found
+    by_number : (o : Option ℕ) → option_and_then (between bounded high) o ≡ Some n → bounded ≤ n
+    by_number (Some m) found = between_least bounded high m n found
     by_number None found = absurd cc
 
--- a size that is at least so much, where a field is accepted
-required_least : (low high : ℕ) (key : List ℕ) (refusal : PagesRefusal) (d : Data) (n : ℕ) →
-    or_refuse refusal (member (within low high) key d) ≡ Ok n → low ≤ n
-required_least low high key refusal d n is = by_member (get key d) is
+-- a field in a range is at least its lower bound
+required_least : (bounded high : ℕ) (key : List ℕ) (refusal : PagesRefusal) (d : Data) (n : ℕ) →
+    or_reject refusal (member (within bounded high) key d) ≡ Ok n → bounded ≤ n
+required_least bounded high key refusal d n is = by_member (get key d) is
   where
-    by_found : (o : Option ℕ) → ((m : ℕ) → o ≡ Some m → low ≤ m) → or_refuse refusal o ≡ Ok n → low ≤ n
-    by_found (Some m) least found = let same : m ≡ n = cc in subst (λ (k : ℕ). low ≤ k) same (least m refl)
+    by_found : (o : Option ℕ) → ((m : ℕ) → o ≡ Some m → bounded ≤ m) → or_reject refusal o ≡ Ok n → bounded ≤ n
+    by_found (Some m) least found = let same : m ≡ n = cc in subst (λ (k : ℕ). bounded ≤ k) same (least m refl)
     by_found None least found = absurd cc
 
-    by_member : (o : Option Data) → or_refuse refusal (option_and_then (within low high) o) ≡ Ok n → low ≤ n
-    by_member (Some found) h = by_found (within low high found) (λ m e. within_least low high found m e) h
+    by_member : (o : Option Data) → or_reject refusal (option_and_then (within bounded high) o) ≡ Ok n → bounded ≤ n
+    by_member (Some found) h = by_found (within bounded high found) (λ m e. within_least bounded high found m e) h
     by_member None h = absurd cc
 
 bind_ok : {A B R : Type 0} (r : Result A R) (f : A → Result B R) (y : B) → (r >>= f) ≡ Ok y → (x : A) × (r ≡ Ok x) × (f x ≡ Ok y)
@@ -63,7 +63,7 @@ sheet_least d s is =
     one_ok : (a b : SheetData) (r : Result SheetData PagesRefusal) → r ≡ Ok a → r ≡ Ok b → a ≡ b
     one_ok a b r e f = cc
 
--- an input that is accepted has pages that are large enough
+-- the pages of an accepted input are large enough
 pub input_least : (d : Data) (input : InputData) → input_of d ≡ Ok input → (1 ≤ input.sheet.width) × (4 ≤ input.sheet.height)
 unfolding input_of
 input_least d input is =

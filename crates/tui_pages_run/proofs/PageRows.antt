@@ -42,7 +42,7 @@ row_cell c x y left top inside =
 same_some : (c d : Look) → Some c ≡ Some d → c ≡ d
 same_some c d e = cc
 
--- rows that have at each position the blank cell under some strokes
+-- the rows of a screen in which each cell is a blank one after some strokes
 drawn_rows : (area : Rect) (layers : List Layer) (c : Screen) → IsSheet area → c.area ≡ area → IsScreen c →
     ((x y : ℕ) → covers area x y ≡ true → cell_at c x y ≡ Some (layers_at layers x y blank)) → c.rows ≡ rows_under layers area
 drawn_rows area layers c sheet there shape cells =
@@ -60,7 +60,7 @@ drawn_rows area layers c sheet there shape cells =
         let top : c.area.y ≡ 0 = rw there sheet.top in
         same_some _ _ (sym (row_cell c x y left top also) ∙ cells x y inside))
 
--- the part of a page that is turned, as the program has it
+-- the part of a page that is redrawn for each page, as the program computes it
 pub body_is : (r : ReportData) (area body : Rect) → area ≡ page_area r → body ≡ rows_from area 2 area.height → body ≡ body_area r
 body_is r area body is part =
     let high : min (min r.height 65535) (min r.height 65535 - 2) ≡ min (r.height - 2) (min r.height 65535 - 2) = omega arith in
@@ -122,10 +122,10 @@ module _ (r : ReportData) (at : ℕ) (body : Rect) (a b c : Screen) (is : body �
     below = head.below;
   }
 
-  -- a page that is turned to
-  pub turned : Painted (body_layers r at b.area) b c → IsScreen c → c.rows ≡ page_rows r at
+  -- a page that is drawn over another
+  pub page_drawn : Painted (body_layers r at b.area) b c → IsScreen c → c.rows ≡ page_rows r at
   unfolding page_rows
-  turned painted shape =
+  page_drawn painted shape =
       let there : b.area ≡ page_area r = wiped_is.area ∙ head.area in
       let first = head_layers r (page_area r) in
       let second = body_layers r at (page_area r) in

@@ -1,4 +1,4 @@
--- What is written of a report.
+-- The output for a report.
 use Rattle.std.specs.Prelude.{◌≡◌, ℕ, zero, suc, ◌+◌, ◌<◌, true, false, Some, List, [], ◌++◌, length, map, flat_map, codes, decimal}
 use Rattle.std.specs.List.{range_with_len}
 use Rattle.tui_cells.specs.Buffer.{Screen, cell_at}
@@ -10,23 +10,23 @@ use Rattle.tui_rows.specs.RowLine.{row_line}
 use Rattle.tui_pages_lib.specs.Report.{ReportData}
 use Rattle.tui_pages_lib.specs.Strokes.{body_area, head_layers, page_area, page_layers}
 
--- the cells of an area at the origin, row by row: each is the blank one under some strokes
+-- the cells of an area at the origin, row by row: each is a blank cell after some strokes
 abbrev pub rows_under : List Layer → Rect → List (List Look)
 rows_under layers area =
     map (λ y. map (λ x. layers_at layers x y blank) (range_with_len 0 area.width)) (range_with_len 0 area.height)
 
--- those of a page
+-- the rows of a page
 unfoldable pub page_rows : ReportData → ℕ → List (List Look)
 page_rows r at = rows_under (page_layers r at (page_area r)) (page_area r)
 
--- the buffer of a page shows the title and the names, which do not reach into the rows below theirs
+-- the buffer shows the title and the names of a page; they don't reach into the rows below theirs
 pub record ShowsHead (r : ReportData) (s : Screen) : Type 0 where
   pub area : s.area ≡ page_area r
   pub above : (x y : ℕ) → covers (page_area r) x y ≡ true → covers (body_area r) x y ≡ false →
       cell_at s x y ≡ Some (layers_at (head_layers r (page_area r)) x y blank)
   pub below : (x y : ℕ) → covers (body_area r) x y ≡ true → layers_at (head_layers r (page_area r)) x y blank ≡ blank
 
--- a page, counted from 0: a line with its number from 1 and how many there are, and its rows
+-- a page, counted from 0: a line with its number, from 1, and the number of pages, and then its rows
 unfoldable pub page_text : ReportData → ℕ → List ℕ
 page_text r at =
     codes "p " ++ (decimal (at + 1) ++ (codes " " ++ (decimal (length r.pages) ++ (codes "\n" ++ flat_map row_line (page_rows r at)))))
@@ -40,10 +40,10 @@ first_pages r (suc count) = first_pages r count ++ page_text r count
 abbrev pub AreAllPages : ReportData → List ℕ → Type 0
 AreAllPages r text = text ≡ first_pages r (length r.pages)
 
--- some of the first pages, each of them whole, but not all
+-- some of the first pages, each of them complete, but not all
 abbrev pub AreFewerPages : ReportData → List ℕ → Type 0
 AreFewerPages r text = (count : ℕ) × (count < length r.pages) × (text ≡ first_pages r count)
 
--- the line that says how many pages there are
+-- the line with the number of pages
 unfoldable pub count_line : ReportData → List ℕ
 count_line r = codes "pages " ++ (decimal (length r.pages) ++ codes "\n")

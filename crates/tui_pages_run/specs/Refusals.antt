@@ -1,4 +1,4 @@
--- What is refused, and the line that says so.
+-- Why an input is rejected, and the line that says so.
 use Rattle.std.specs.Prelude.{ℕ, List, ◌++◌, Option, codes, decimal}
 use Rattle.tui_program.specs.FieldLine.{refused_field}
 use Rattle.tui_pages_run.specs.declared.field.ReportField.{ReportField}
@@ -16,11 +16,11 @@ field_name fields.Name = codes "name"
 field_name fields.Size = codes "size"
 field_name fields.Records = codes "records"
 
--- a field of the input, or of the column or the record of a number
+-- the rejection of a field of the input, or of the column or the record with a number
 abbrev pub bad_input : Option ℕ → ReportField → PagesRefusal
 bad_input at field = refusals.BadInput at field
 
--- the line of a refusal
+-- the line of a rejection
 abbrev pub refusal_line : PagesRefusal → List ℕ
 refusal_line (refusals.BadInput at field) = refused_field (field_name field) at
 refusal_line (refusals.TooTall place) = codes "refused: record " ++ (decimal place ++ codes " too tall\n")

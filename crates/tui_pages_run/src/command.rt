@@ -1,38 +1,38 @@
-//! The commands: their words, and what they write.
+//! The commands: their arguments, and what they write.
 
 ghost use Rattle.std.specs.Prelude.{◌≡◌};
 ghost use Rattle.tui_pages_lib.specs.Strokes.{page_area};
-ghost use Rattle.tui_program.specs.Endings.{AnswersWith, no_refusal};
-ghost use Rattle.tui_pages_run.specs.Rules.{MayStandAlone, IsWritten};
+ghost use Rattle.tui_program.specs.Outcomes.{AnswersWith, no_refusal};
+ghost use Rattle.tui_pages_run.specs.Rules.{IsAllowedPartial, IsWritten};
 
 use crate::paged_report::{PagedReport, read_report};
 use crate::printing::{print_count, print_pages};
-use crate::refusal::{PagesRefusal, put_refusal};
+use crate::refusal::{PagesRefusal, write_refusal};
 use serde_json::Value;
 use std::alloc::Global;
-use tui_outside::{Sink, WriteFault};
-use tui_program::{Job, Leftovers, Reader, Stop, are_none, is_word};
+use tui_io::{Sink, WriteFault};
+use tui_program::{Cleanup, Job, JsonCommand, Stop, are_empty, is_single_argument};
 
 /// A command of the program. Each reads a report.
 #[derive(Clone, Copy, Debug, PartialEq, Eq)]
 pub enum PagesCommand {
-    /// No words: writes the pages.
+    /// No arguments: writes the pages.
     Print,
-    /// `count` says how many pages they are.
+    /// `count` writes how many pages there are.
     Count,
 }
 
-impl Reader for PagesCommand {
-    ghost use Rattle.tui_pages_run.specs.Rules.{Names, few_words};
+impl JsonCommand for PagesCommand {
+    ghost use Rattle.tui_pages_run.specs.Rules.{Names, few_arguments};
 
     ghost named = { Names };
 
-    ghost few = { few_words };
+    ghost few = { few_arguments };
 
-    fn reader_of(words: &[String]) -> Option<PagesCommand> {
-        if are_none(words) {
+    fn json_command_of(arguments: &[String]) -> Option<PagesCommand> {
+        if are_empty(arguments) {
             Some(PagesCommand::Print)
-        } else if is_word(words, "count") {
+        } else if is_single_argument(arguments, "count") {
             Some(PagesCommand::Count)
         } else {
             None
@@ -52,20 +52,20 @@ impl Job for PagesCommand {
         alloc: Global,
         value: &Value,
         sink: &mut K,
-        leftovers: Leftovers,
+        cleanup: Cleanup,
     ) -> Result<(), Stop<PagesRefusal>> {
         let paged = read_report(alloc, value)?;
         let answer = write(*self, alloc, &paged, sink);
-        leftovers.done_with(paged);
+        cleanup.dispose_of(paged);
         answer
     }
 
-    fn refuse<K: Sink>(&self, refusal: PagesRefusal, sink: &mut K) -> Result<(), WriteFault> {
-        put_refusal(refusal, sink)
+    fn reject<K: Sink>(&self, refusal: PagesRefusal, sink: &mut K) -> Result<(), WriteFault> {
+        write_refusal(refusal, sink)
     }
 }
 
-/// Writes what is due for a report.
+/// Writes the expected output for a report.
 fn write<K: Sink>(
     command: PagesCommand,
     alloc: Global,
@@ -73,8 +73,8 @@ fn write<K: Sink>(
     sink: &mut K,
 ) -> Result<(), Stop<PagesRefusal>>
     requires { paged.now.area ≡ page_area paged.now.report }
-    ensures { AnswersWith (IsWritten command paged.now.report) (MayStandAlone command paged.now.report) no_refusal
-        (K.told sink.old) (K.told sink.new) result }
+    ensures { AnswersWith (IsWritten command paged.now.report) (IsAllowedPartial command paged.now.report) no_refusal
+        (K.observed sink.old) (K.observed sink.new) result }
 {
     match command {
         PagesCommand::Print => print_pages(alloc, paged.area, &paged.report, sink),

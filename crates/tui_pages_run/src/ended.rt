@@ -1,60 +1,61 @@
-//! How a run of the program ends.
+//! The outcome of a run of the program.
 
 ghost use Rattle.std.specs.Prelude.{◌≡◌};
 
 use crate::field::ReportField;
 use crate::refusal::PagesRefusal;
 use std::process::ExitCode;
-use tui_program::{Broken, Ending, Written};
+use tui_program::{Broken, Outcome, Written};
 
-/// How a run ends. Only `Ok` has written the output whole; the endings from `Usage` to `TooTall` have written one line that says so.
+/// The outcome of a run. Only `Ok` has written the output completely. The outcomes from `Usage` to `TooTall` have
+/// written one line that says what is wrong.
 #[derive(Clone, Copy, Debug, PartialEq, Eq)]
 pub enum PagesEnded {
-    /// All was read and written.
+    /// Everything was read and written.
     Ok,
-    /// The words name no command.
+    /// The arguments name no command.
     Usage,
     /// The input has more than 1,048,576 bytes.
     TooLong,
-    /// The input is no JSON in UTF-8.
+    /// The input is not JSON in UTF-8.
     NotJson,
-    /// A field of the input, or of the column or the record of this number from 0, is missing or of the wrong kind.
+    /// A field of the input, or of the column or the record with this number, from 0, is missing or of the wrong kind.
     BadInput {
         at: Option<usize>,
         field: ReportField,
     },
-    /// A record has more than 4096 lines; `place` is that of the first such record, from 0.
+    /// A record has more than 4096 lines. `place` is the number of the first such record, from 0.
     TooTall {
         place: usize,
     },
-    /// A read failed; nothing is written.
+    /// A read failed. Nothing was written.
     ReadFault,
-    /// A put failed; the sink holds the first bytes of the output.
+    /// A write failed. The sink has the first bytes of the output.
     WriteFault,
-    /// The memory was not there; nothing is written, or the first pages, each of them whole.
+    /// Out of memory. Nothing was written, or the first pages, each of them complete.
     NoMemory,
 }
 
-impl From<Ending<PagesRefusal>> for PagesEnded {
-    ghost use Rattle.tui_pages_run.specs.Ended.{ending_of};
+impl From<Outcome<PagesRefusal>> for PagesEnded {
+    ghost use Rattle.tui_pages_run.specs.Ended.{outcome_of};
 
-    ghost from_gives = { λ ending ended. ending_of ended ≡ ending };
+    ghost from_gives = { λ outcome ended. outcome_of ended ≡ outcome };
 
-    fn from(ending: Ending<PagesRefusal>) -> PagesEnded {
-        match ending {
-            Ending::Written(Written::Output) => PagesEnded::Ok,
-            Ending::Written(Written::Usage) => PagesEnded::Usage,
-            Ending::Written(Written::TooLong) => PagesEnded::TooLong,
-            Ending::Written(Written::NotJson) => PagesEnded::NotJson,
-            Ending::Written(Written::Refused(PagesRefusal::BadInput { at, field })) => {
+    fn from(outcome: Outcome<PagesRefusal>) -> PagesEnded {
+        match outcome {
+            Outcome::Written(Written::Output) => PagesEnded::Ok,
+            Outcome::Written(Written::Usage) => PagesEnded::Usage,
+            Outcome::Written(Written::TooLong) => PagesEnded::TooLong,
+            Outcome::Written(Written::NotJson) => PagesEnded::NotJson,
+            Outcome::Written(Written::Refused(PagesRefusal::BadInput { at, field })) => {
                 PagesEnded::BadInput { at, field }
             }
-            Ending::Written(Written::Refused(PagesRefusal::TooTall { place })) => {
+            Outcome::Written(Written::Refused(PagesRefusal::TooTall { place })) => {
                 PagesEnded::TooTall { place }
             }
-            Ending::Broken(Broken::ReadFault) => PagesEnded::ReadFault,
-            Ending::Broken(Broken::WriteFault) => PagesEnded::WriteFault,
-            Ending::Broken(Broken::NoMemory) => PagesEnded::NoMemory,
+            Outcome::Broken(Broken::ReadFault) => PagesEnded::ReadFault,
+            Outcome::Broken(Broken::WriteFault) => PagesEnded::WriteFault,
+            Outcome::Broken(Broken::NoMemory) => PagesEnded::NoMemory,
         }
     }
 }
@@ -63,7 +64,7 @@ impl PagesEnded {
     ghost use Rattle.std.specs.Process.{exit_status};
     ghost use Rattle.tui_pages_run.specs.Ended.{status_of};
 
-    /// The exit status of the program.
+    /// Returns the exit status of the program.
     pub fn status(&self) -> u8
         ensures { result ≡ status_of self.now }
     {
@@ -80,7 +81,7 @@ impl PagesEnded {
         }
     }
 
-    /// The exit status, as `main` answers it.
+    /// Returns the exit status as an `ExitCode` for `main`.
     pub fn exit_code(&self) -> ExitCode
         ensures { exit_status result ≡ status_of self.now }
     {

@@ -19,7 +19,7 @@ impl ReportField {
     ghost use Rattle.std.specs.Prelude.{◌≡◌};
     ghost use Rattle.tui_pages_run.specs.Refusals.{field_name};
 
-    /// Its name in the input, as `columns`.
+    /// Returns the name of the field in the input, such as `columns`.
     pub fn name(&self) -> &'static str
         ensures { result.now ≡ field_name self.now }
     {

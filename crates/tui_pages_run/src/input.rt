@@ -25,7 +25,7 @@ pub(crate) struct Sheet<'v> {
     pub(crate) title: &'v str,
 }
 
-/// All fields of an input. Its texts are borrowed from the value that was read.
+/// All fields of an input. Its strings are borrowed from the JSON value.
 #[derive(Drop)]
 pub(crate) struct Input<'v> {
     pub(crate) sheet: Sheet<'v>,
@@ -33,8 +33,8 @@ pub(crate) struct Input<'v> {
     pub(crate) records: Vec<Record<'v>>,
 }
 
-/// The input that a value is. It is refused at the first field that is missing or not of its kind: of the input, or of the column
-/// or the record of a number.
+/// Reads the input from a JSON value. Fails at the first field that is missing or not of its kind, of the input or of
+/// one of its columns or records.
 #[tactic(auto, unfolding(crate::specs::Input::input_of))]
 pub(crate) fn read_input<'v>(
     alloc: Global,
@@ -76,13 +76,13 @@ fn read_sheet<'v>(alloc: Global, value: &'v Value) -> Result<Sheet<'v>, InputErr
 impl<'v> Numbered<'v, ReportField> for Column<'v> {
     ghost use Rattle.tui_pages_lib.specs.Report.{ColumnData};
 
-    type Known = ();
+    type Context = ();
 
-    ghost Seen = { ColumnData };
+    ghost AsData = { ColumnData };
 
-    ghost seen = { column_data };
+    ghost as_data = { column_data };
 
-    ghost tests = { λ known. column_of };
+    ghost tests = { λ context. column_of };
 
     #[tactic(auto, unfolding(crate::specs::Input::column_of))]
     fn read(
@@ -101,13 +101,13 @@ impl<'v> Numbered<'v, ReportField> for Column<'v> {
 impl<'v> Numbered<'v, ReportField> for Record<'v> {
     ghost use Rattle.std.specs.Prelude.{ℕ, List};
 
-    type Known = ();
+    type Context = ();
 
-    ghost Seen = { List (List ℕ) };
+    ghost AsData = { List (List ℕ) };
 
-    ghost seen = { cells_of };
+    ghost as_data = { cells_of };
 
-    ghost tests = { λ known. record_of };
+    ghost tests = { λ context. record_of };
 
     fn read(
         alloc: Global,

@@ -1,4 +1,4 @@
-//! The program of printed pages: it reads a report in JSON, cuts it into pages, and writes them or says how many they are.
+//! The program `tui_pages`: it reads a report in JSON and cuts it into pages. It writes them, or how many there are.
 #![tactic(auto)]
 
 mod command;

@@ -1,4 +1,4 @@
-//! The report that is read.
+//! Reports that are read from JSON.
 
 ghost use Rattle.std.specs.Prelude.{◌≡◌, IfOk};
 ghost use Rattle.serde_json.specs.View.{view};
@@ -21,8 +21,8 @@ pub(crate) struct PagedReport<'v> {
     pub(crate) report: Report<'v>,
 }
 
-/// The report that a value says. It is refused at the first of its tests that fails, the last of which is that no record has more
-/// lines than a report takes.
+/// Reads the report from a JSON value. Fails with the error of the first test that fails. The last test is that no
+/// record has more lines than a report may have.
 #[tactic(auto, unfolding(crate::specs::Input::report_in))]
 pub(crate) fn read_report<'v>(
     alloc: Global,

@@ -1,4 +1,4 @@
-//! Plain values of the program, which `==` tells apart and a clone leaves as they are.
+//! Values of the program that `==` compares exactly, and whose clones are equal to them.
 
 ghost use Rattle.std.proofs.Common.{rules};
 
@@ -6,27 +6,27 @@ use crate::command::PagesCommand;
 use crate::ended::PagesEnded;
 use crate::field::ReportField;
 use crate::refusal::PagesRefusal;
-use tui_program::Plain;
+use tui_program::PlainValue;
 
-impl Plain for PagesCommand {
+impl PlainValue for PagesCommand {
     ghost same = { Prim.search rules };
 
     ghost cloned = { Prim.search rules };
 }
 
-impl Plain for ReportField {
+impl PlainValue for ReportField {
     ghost same = { Prim.search rules };
 
     ghost cloned = { Prim.search rules };
 }
 
-impl Plain for PagesRefusal {
+impl PlainValue for PagesRefusal {
     ghost same = { Prim.search rules };
 
     ghost cloned = { Prim.search rules };
 }
 
-impl Plain for PagesEnded {
+impl PlainValue for PagesEnded {
     ghost same = { Prim.search rules };
 
     ghost cloned = { Prim.search rules };

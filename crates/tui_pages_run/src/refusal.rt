@@ -1,39 +1,40 @@
-//! What is refused.
+//! Reasons why an input is rejected.
 
-ghost use Rattle.tui_outside.specs.Causes.{Writes};
+ghost use Rattle.tui_io.specs.Causes.{Writes};
 ghost use Rattle.tui_pages_run.specs.Refusals.{refusal_line};
 ghost use Rattle.tui_pages_run.specs.declared.refusal.PagesRefusal.TheVariants as refusals;
 
 use crate::field::ReportField;
-use tui_outside::{Print, Sink, WriteFault};
-use tui_program::put_refused_field;
+use tui_io::{Print, Sink, WriteFault};
+use tui_program::write_refused_field;
 
-/// Why the program makes no pages of an input in JSON.
+/// Why the program rejects an input in JSON.
 #[derive(Clone, Copy, Debug, PartialEq, Eq)]
 pub enum PagesRefusal {
-    /// A field is missing or of the wrong kind: of the input, or of the column or the record of this number from 0.
+    /// A field is missing or of the wrong kind: of the input, or of the column or the record with this number, from 0.
     BadInput {
         at: Option<usize>,
         field: ReportField,
     },
-    /// A record has more than 4096 lines; `place` is that of the first such record, from 0.
+    /// A record has more than 4096 lines. `place` is the number of the first such record, from 0.
     TooTall {
         place: usize,
     },
 }
 
-/// Writes the line of a refusal. `WriteFault`: the sink has taken the first bytes, but not all of them. Takes no memory.
-pub(crate) fn put_refusal<K: Sink>(refusal: PagesRefusal, sink: &mut K) -> Result<(), WriteFault>
-    ensures { Writes (K.told sink.old) (K.told sink.new) result (refusal_line refusal) }
+/// Writes the line of a rejection. On `WriteFault` the sink has taken the first bytes, but not all of them. Does not
+/// allocate.
+pub(crate) fn write_refusal<K: Sink>(refusal: PagesRefusal, sink: &mut K) -> Result<(), WriteFault>
+    ensures { Writes (K.observed sink.old) (K.observed sink.new) result (refusal_line refusal) }
 {
     match refusal {
-        PagesRefusal::BadInput { at, field } => put_refused_field(field.name(), at, sink),
-        PagesRefusal::TooTall { place } => put_too_tall(place, sink),
+        PagesRefusal::BadInput { at, field } => write_refused_field(field.name(), at, sink),
+        PagesRefusal::TooTall { place } => write_too_tall(place, sink),
     }
 }
 
-fn put_too_tall<K: Sink>(place: usize, sink: &mut K) -> Result<(), WriteFault>
-    ensures { Writes (K.told sink.old) (K.told sink.new) result (refusal_line (refusals.TooTall place)) }
+fn write_too_tall<K: Sink>(place: usize, sink: &mut K) -> Result<(), WriteFault>
+    ensures { Writes (K.observed sink.old) (K.observed sink.new) result (refusal_line (refusals.TooTall place)) }
 {
     let mut print = Print::new();
     print.text(sink, "refused: record ");

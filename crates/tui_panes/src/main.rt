@@ -1,10 +1,10 @@
-//! The program `tui_panes`: it reads a tree of panes and changes in JSON from standard input, and writes the screen, or which leaf
-//! stands at a position, to standard output.
+//! The program `tui_panes`: it reads a tree of panes and changes in JSON from standard input. It writes the screen, or
+//! which leaf is at a position, to standard output.
 #![tactic(auto)]
 
 use std::process::ExitCode;
 use std::{env, io};
-use tui_outside::{StdSink, StdSource};
+use tui_io::{StdSink, StdSource};
 use tui_panes_run::run_program;
 
 fn main(rt: HostRuntime) -> ExitCode {

@@ -1,4 +1,4 @@
--- How deep a pane goes, part by part.
+-- How deep a pane is, part by part.
 use Rattle.std.proofs.Common.{◌≡◌, ℕ, ◌+◌, ◌-◌, ◌<◌, ◌≤◌, max, Bool, true, false, ◌&&◌, List, ◌∷◌, length, get_or, drop, refl, sym, ap, ◌∙◌, arith, Vec, Global}
 use Rattle.std.specs.Prelude.{nat_le}
 use Rattle.std.proofs.lemmas.List.{drop_all, drop_more}
@@ -28,7 +28,7 @@ some_within limit some = grind (arith, nat_tests)
 nothing_within : (limit : ℕ) → nat_le 0 limit ≡ true
 nothing_within limit = grind (arith, nat_tests)
 
--- each pane has a level
+-- each pane has at least one level
 pub none_within : (pane : PaneData) → false ≡ nat_le (levels pane) 0
 unfolding levels parts_levels
 none_within (leaf item) = refl
@@ -46,7 +46,7 @@ split_within pane direction spacing flex parts limit result is some e =
     e ∙ one_more (parts_levels (parts_of parts.items)) limit some
     ∙ ap (λ p. nat_le (levels p) limit) (sym (ap pane_data is ∙ split_is direction spacing flex parts))
 
--- the first of the parts to come, and the others
+-- the first of the remaining parts, and the parts after it
 part_within : (parts : List Part) (i limit : ℕ) (p : Part) → i < length parts → p ≡ get_or parts i p →
     nat_le (parts_levels (parts_of (drop i parts))) limit
     ≡ (nat_le (levels (pane_data p.pane)) limit && nat_le (parts_levels (parts_of (drop (i + 1) parts))) limit)

@@ -1,4 +1,4 @@
--- What panes keep beside their leaves.
+-- What panes store beside their leaves.
 use Rattle.std.proofs.Common.{◌≡◌, ℕ, ◌<◌, Bool, true, false, ◌&&◌, List, ◌++◌, length, get_or, take, drop, All}
 use Rattle.std.proofs.Common.{sym, ap, ◌∙◌, subst, arith, inl, inr, Option, Some, None}
 use Rattle.std.specs.Prelude.{◌↔◌, IfNone, IfSome}
@@ -9,36 +9,36 @@ use Rattle.tui_cells.specs.declared.rect.Rect.{Rect}
 use Rattle.tui_cells.specs.Rect.{covers}
 use Rattle.tui_scene.specs.Item.{PlacedData}
 use Rattle.tui_scene.specs.Scene.{no_widget, placed_at}
-use Rattle.tui_panes_lib.specs.Panes.{AreKept, rects_of}
-use Rattle.tui_panes_lib.specs.Apart.{LieApart}
+use Rattle.tui_panes_lib.specs.Panes.{AreConsistent, rects_of}
+use Rattle.tui_panes_lib.specs.Apart.{AreDisjointWithin}
 use Rattle.tui_panes_lib.specs.Place.{PaneData, leaves_in}
-use Rattle.tui_panes_lib.proofs.LeavesApart.{lie_apart}
+use Rattle.tui_panes_lib.proofs.DisjointLeaves.{are_disjoint_within}
 
 -- new panes
 pub new_kept : (area : Rect) (pane : PaneData) (rects : List Rect) (marks : List Bool) (leaves : List PlacedData) → leaves ≡ leaves_in area pane →
-    rects ≡ rects_of leaves → length marks ≡ length rects → AreKept area rects marks leaves
-new_kept area pane rects marks leaves placed is as_many = record {
+    rects ≡ rects_of leaves → length marks ≡ length rects → AreConsistent area rects marks leaves
+new_kept area pane rects marks leaves placed is same_length = record {
   rects_are = is;
-  apart = subst (LieApart area) (sym (is ∙ ap rects_of placed)) (lie_apart area pane);
-  as_many = as_many ∙ ap length is ∙ length-map leaves (λ p. p.area);
+  apart = subst (AreDisjointWithin area) (sym (is ∙ ap rects_of placed)) (are_disjoint_within area pane);
+  same_length = same_length ∙ ap length is ∙ length-map leaves (λ p. p.area);
 }
 
--- with other leaves in the same rectangles
-pub still_kept : (area : Rect) (rects : List Rect) (marks others : List Bool) (leaves new : List PlacedData) → AreKept area rects marks leaves →
-    rects_of new ≡ rects_of leaves → length others ≡ length marks → AreKept area rects others new
+-- the same for other leaves in the same rectangles
+pub still_kept : (area : Rect) (rects : List Rect) (marks others : List Bool) (leaves new : List PlacedData) → AreConsistent area rects marks leaves →
+    rects_of new ≡ rects_of leaves → length others ≡ length marks → AreConsistent area rects others new
 still_kept area rects marks others leaves new kept same long = record {
   rects_are = kept.rects_are ∙ sym same;
   apart = kept.apart;
-  as_many = long ∙ kept.as_many ∙ sym (length-map leaves (λ p. p.area)) ∙ ap length (sym same) ∙ length-map new (λ p. p.area);
+  same_length = long ∙ kept.same_length ∙ sym (length-map leaves (λ p. p.area)) ∙ ap length (sym same) ∙ length-map new (λ p. p.area);
 }
 
--- marks that were lent and came back
-pub marks_back : (marks lent : List Bool) (n : ℕ) → n ≡ length marks → length lent ≡ length marks →
-    length (take n (lent ++ drop (length lent) marks)) ≡ length marks
-marks_back marks lent n is long =
-    omega (arith, length-take n (lent ++ drop (length lent) marks), length-append lent (drop (length lent) marks), length-drop (length lent) marks)
+-- marks that were borrowed as a slice and given back
+pub marks_back : (marks borrowed : List Bool) (n : ℕ) → n ≡ length marks → length borrowed ≡ length marks →
+    length (take n (borrowed ++ drop (length borrowed) marks)) ≡ length marks
+marks_back marks borrowed n is long =
+    omega (arith, length-take n (borrowed ++ drop (length borrowed) marks), length-append borrowed (drop (length borrowed) marks), length-drop (length borrowed) marks)
 
--- the leaf that has a position
+-- the leaf that contains a position
 
 pub rect_is : (rects : List Rect) (leaves : List PlacedData) (i : ℕ) (d : Rect) → rects ≡ rects_of leaves → i < length leaves → get_or rects i d ≡ (placed_at leaves i).area
 rect_is rects leaves i d is lt = ap (λ (rs : List Rect). get_or rs i d) is ∙ get_or-map (λ p. p.area) leaves i no_widget d lt
@@ -49,7 +49,7 @@ both_true a b e f h = absurd (cc)
 no_true : (a : Bool) → a ≡ true → a ≡ false → ⊥
 no_true a e f = absurd (cc)
 
-pub one_leaf : (area : Rect) (rects : List Rect) (marks : List Bool) (leaves : List PlacedData) (x y i k : ℕ) → AreKept area rects marks leaves →
+pub one_leaf : (area : Rect) (rects : List Rect) (marks : List Bool) (leaves : List PlacedData) (x y i k : ℕ) → AreConsistent area rects marks leaves →
     i < length leaves → k < length leaves → covers (placed_at leaves i).area x y ≡ true → covers (placed_at leaves k).area x y ≡ true → i ≡ k
 one_leaf area rects marks leaves x y i k kept below within here there =
     let d = no_widget.area in
@@ -62,7 +62,7 @@ one_leaf area rects marks leaves x y i k kept below within here there =
       | inr (inr more) ↦ absurd (both_true _ _ other one (kept.apart.apart k i d more (omega arith) x y))
     ]
 
-pub leaf_found : (area : Rect) (rects : List Rect) (marks : List Bool) (leaves : List PlacedData) (x y : ℕ) (found : Option ℕ) → AreKept area rects marks leaves →
+pub leaf_found : (area : Rect) (rects : List Rect) (marks : List Bool) (leaves : List PlacedData) (x y : ℕ) (found : Option ℕ) → AreConsistent area rects marks leaves →
     IfSome found (λ i. (i < length rects) × ((d : Rect) → covers (get_or rects i d) x y ≡ true)) → IfNone found (All (λ r. covers r x y ≡ false) rects) →
     (i : ℕ) → (found ≡ Some i) ↔ ((i < length leaves) × (covers (placed_at leaves i).area x y ≡ true))
 leaf_found area rects marks leaves x y (Some k) kept some none i =

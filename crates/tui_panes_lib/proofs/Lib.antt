@@ -1,10 +1,10 @@
 pub mod Depth
 pub mod Kept
 pub mod Leaves
-pub mod LeavesApart
+pub mod DisjointLeaves
 pub mod Marked
 pub mod Orders
 pub mod Placed
-pub mod Put
-pub mod StandApart
-pub mod TriedAgain
+pub mod ReplacedLeaf
+pub mod AreDisjointItems
+pub mod Retried

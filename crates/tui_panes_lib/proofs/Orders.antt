@@ -1,4 +1,4 @@
--- What stands at the numbers of an order.
+-- Indices at which a number is in an order.
 use Rattle.std.proofs.Common.{◌≡◌, ℕ, suc, ◌+◌, ◌<◌, ◌≤◌, ◌==◌, Bool, true, false, if◌then◌else◌, List, [], ◌∷◌, length, get_or, set, map, take}
 use Rattle.std.proofs.Common.{refl, sym, ap, ◌∙◌, arith, inl, inr}
 use Rattle.std.specs.Prelude.{◌≢◌, ◌⊎◌, count_by}
@@ -8,7 +8,7 @@ use Rattle.std.proofs.lemmas.List.Sums.{count_by_more_yes, sum_by-cons, sum_by-t
 use Rattle.std.proofs.lemmas.Bool.{cases_eq, cases_lt, cond-false, eq-eqb, ne_eqb}
 use Rattle.tui_scene.specs.Redraw.{IsOrder}
 
--- two places that pass a test count two
+-- two indices whose numbers pass a test count two
 two_counted : (p : ℕ → Bool) (order : List ℕ) (j k : ℕ) → j < k → k < length order → p (get_or order j 0) ≡ true → p (get_or order k 0) ≡ true →
     2 ≤ count_by p order
 two_counted p order j k less within one other =
@@ -18,7 +18,7 @@ two_counted p order j k less within one other =
     let same = ap (count_by p) (take-take (j + 1) k order (omega arith)) in
     omega (arith, first, second, same, sum_by-take-le f (take k order) (j + 1), sum_by-take-le f order (k + 1))
 
--- a number stands in one place alone
+-- a number is at only one index
 pub one_place : (n : ℕ) (order : List ℕ) (j k : ℕ) → IsOrder n order → j < length order → k < length order → j ≢ k → get_or order j 0 ≢ get_or order k 0
 one_place n order j k is lt within other same =
     let below : get_or order k 0 < n = All-get_or (λ i. i < n) order k 0 within is.below in
@@ -30,10 +30,10 @@ one_place n order j k is lt within other same =
       | inr ge ↦ absurd (omega (arith, once, two_counted (λ i. i == get_or order k 0) order k j (omega (arith, other)) lt here there))
     ]
 
--- what is put in the place of one number of an order is changed there alone
-pub put_once : {A : Type 0} (xs : List A) (order : List ℕ) (k : ℕ) (y d : A) → IsOrder (length xs) order → k < length order →
+-- setting the element at one number of an order changes only the element at its index
+pub set_once : {A : Type 0} (xs : List A) (order : List ℕ) (k : ℕ) (y d : A) → IsOrder (length xs) order → k < length order →
     map (λ i. get_or (set xs (get_or order k 0) y) i d) order ≡ set (map (λ i. get_or xs i d) order) k y
-put_once {A = A} xs order k y d is within =
+set_once {A = A} xs order k y d is within =
     let leaf = get_or order k 0 in
     let new : ℕ → A = λ i. get_or (set xs leaf y) i d in
     let old : ℕ → A = λ i. get_or xs i d in
@@ -51,32 +51,32 @@ put_once {A = A} xs order k y d is within =
         get_or-set_other xs (get_or order k 0) (get_or order j 0) y d (one_place (length xs) order j k is lt within other)
         ∙ sym (get_or-set_other (map (λ i. get_or xs i d) order) k j y e other ∙ get_or-map (λ i. get_or xs i d) order j 0 e lt)
 
-record Stands (order : List ℕ) (i : ℕ) : Type 0 where
+record Occurs (order : List ℕ) (i : ℕ) : Type 0 where
   pub place : ℕ
   pub within : place < length order
   pub is : get_or order place 0 ≡ i
 
--- what counts once stands somewhere
-stands : (i : ℕ) (order : List ℕ) → count_by (λ j. j == i) order ≡ 1 → Stands order i
-stands i [] e = absurd (omega arith)
-stands i (j ∷ order) e =
+-- a number that counts once is at some index
+occurs : (i : ℕ) (order : List ℕ) → count_by (λ j. j == i) order ≡ 1 → Occurs order i
+occurs i [] e = absurd (omega arith)
+occurs i (j ∷ order) e =
     elim (cases_eq j i) [
       | inl here ↦ record { place = 0; within = omega arith; is = here }
       | inr other ↦
           (let counted : count_by (λ k. k == i) (j ∷ order) ≡ 0 + count_by (λ k. k == i) order =
           sum_by-cons (λ k. if k == i then 1 else 0) j order ∙ ap (λ n. n + count_by (λ k. k == i) order) (cond-false _ _ _ (ne_eqb j i other)) in
-          let later = stands i order (omega (arith, counted, e)) in
+          let later = occurs i order (omega (arith, counted, e)) in
           let lt = later.within in
           record { place = suc later.place; within = omega arith; is = later.is })
     ]
 
--- what is so at the numbers of an order is so at all
+-- what holds at each number of an order holds at each index of the list
 pub all_at : {A : Type 0} (f : A → A) (xs ys : List A) (order : List ℕ) (d : A) → IsOrder (length xs) order → length ys ≡ length xs →
     map (λ i. get_or ys i d) order ≡ map f (map (λ i. get_or xs i d) order) → ys ≡ map f xs
 all_at {A = A} f xs ys order d is long same =
     same_lists ys (map f xs) (long ∙ sym (length-map xs f)) (λ i e lt.
     let within : i < length xs = omega (arith, long) in
-    let at = stands i order (is.once i within) in
+    let at = occurs i order (is.once i within) in
     let old : ℕ → A = λ i. get_or xs i d in
     let new : ℕ → A = λ i. get_or ys i d in
     let there = at.within in

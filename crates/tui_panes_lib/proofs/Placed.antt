@@ -1,4 +1,4 @@
--- The panes of the code, part by part.
+-- The panes of the code are placed part by part.
 use mathlib.Core.Former.{Count}
 use Rattle.std.proofs.Common.{◌≡◌, ℕ, suc, ◌+◌, ◌<◌, ◌≤◌, List, [], ◌∷◌, ◌++◌, length, get_or, drop, refl, sym, ap, ◌∙◌, subst, arith, Result, Ok, Err, OnOk, Vec, Global}
 use Rattle.std.proofs.lemmas.List.{append_assoc, append-nil, drop_more}
@@ -13,7 +13,7 @@ use Rattle.tui_layout.specs.declared.segment.Segment.{Segment}
 use Rattle.tui_layout.proofs.Placing.{length-made}
 use Rattle.tui_scene.specs.Item.{PlacedData, item_data}
 use Rattle.tui_scene.specs.declared.item.Item.{Item}
-use Rattle.tui_panes_lib.specs.Place.{split, part, sizes_of, side_of, part_of, place_in, place_parts, near_of}
+use Rattle.tui_panes_lib.specs.Place.{split, part, sizes_of, side_of, part_of, place_in, place_parts, origin_of}
 use Rattle.tui_panes_lib.specs.Pane.{pane_data, parts_data, parts_of, sizes_data}
 use Rattle.tui_panes_lib.specs.declared.pane.Part.{Part}
 use Rattle.tui_panes_lib.specs.declared.pane.Pane.{Pane, Leaf, Split, Split', Row_of-Part, end_of-Part, more_of-Part, items-the_row-Part, items_hidden-the_row-Part-0}
@@ -43,20 +43,20 @@ length-columns : (size spacing : ℕ) (cs : List Constraint) (flex : Flex) → l
 unfolding columns_of
 length-columns size spacing cs flex = length-made _ cs
 
--- as many columns as parts
-pub as_many : (size spacing : ℕ) (flex : Flex) (sizes : List Constraint) (columns : List Segment) (ps qs : List Part) → sizes ≡ sizes_data ps → columns ≡ columns_of size spacing sizes flex → qs ≡ ps
+-- there are as many columns as parts
+pub same_length : (size spacing : ℕ) (flex : Flex) (sizes : List Constraint) (columns : List Segment) (ps qs : List Part) → sizes ≡ sizes_data ps → columns ≡ columns_of size spacing sizes flex → qs ≡ ps
     → 0 + length qs ≡ length columns
-as_many size spacing flex sizes columns ps qs e f g =
+same_length size spacing flex sizes columns ps qs e f g =
     omega (arith, ap length f, length-columns size spacing sizes flex, ap length e, length-sizes ps, ap length g)
 
--- a column lies on its side
+-- a column is inside its side
 pub column_inside : (direction : Direction) (area : Rect) (spacing side i : ℕ) (columns : List Segment) (column : Segment) → AreInOrder side spacing columns → i < length columns
     → column ≡ get_or columns i column → column.start + column.width ≤ side
 column_inside direction area spacing side i columns column order h e =
     subst (λ (s : Segment). s.start + s.width ≤ side) (sym e) (All-get_or (λ (s : Segment). s.start + s.width ≤ side) columns i column h order.inside)
 
 pub near_fits : (direction : Direction) (area : Rect) (side : ℕ) (column : Segment) → side ≡ side_of direction area → column.start + column.width ≤ side
-    → area.x + area.width ≤ 65535 → area.y + area.height ≤ 65535 → near_of direction area + column.start < 65536
+    → area.x + area.width ≤ 65535 → area.y + area.height ≤ 65535 → origin_of direction area + column.start < 65536
 near_fits Horizontal area side column e h a b = omega arith
 near_fits Vertical area side column e h a b = omega arith
 
@@ -67,7 +67,7 @@ unfolding place_in
 leaf_placed (Ok x) area pane item old new is e = e ∙ ap (λ p. old ++ place_in area (pane_data p)) (sym is)
 leaf_placed (Err x) area pane item old new is e = tt
 
--- one part more
+-- one more part
 pub part_placed : (direction : Direction) (area r : Rect) (at : ℕ) (columns : List Segment) (column : Segment) (p : Part) (items rest : List Part) (scene next goal : List PlacedData)
     → at < length columns → column ≡ get_or columns at column → items ≡ p ∷ rest → r ≡ part_of direction area column → next ≡ scene ++ place_in r (pane_data p.pane)
     → scene ++ place_parts direction area (drop at columns) (parts_of items) ≡ goal → next ++ place_parts direction area (drop (at + 1) columns) (parts_of rest) ≡ goal

@@ -1,4 +1,4 @@
--- A drawing of leaves in an order.
+-- Drawing leaves in an order.
 use Rattle.std.specs.Prelude.{◌≡◌, ℕ, All, List, Some, length, map, slice_get}
 use Rattle.tui_cells.specs.declared.rect.Rect.{Rect}
 use Rattle.tui_cells.specs.Buffer.{Screen}
@@ -18,19 +18,19 @@ HaveNoShadow leaves = All (λ p. HasNoShadow p.item) leaves
 abbrev pub in_order : List ℕ → List PlacedData → List PlacedData
 in_order order leaves = map (placed_at leaves) order
 
--- panes whose leaves have the states that a drawing in a buffer of an area leaves
+-- the panes after a drawing in a buffer with this area, which updates the states of the leaves
 abbrev pub panes_after : Rect → PanesData → PanesData
 panes_after buffer panes = record { area = panes.area; leaves = map (placed_after buffer) panes.leaves }
 
--- A drawing of leaves in an order that ended at a leaf: as a drawing of a scene that has the leaves in that order, it ended at
--- the place where that leaf stands.
+-- A drawing of leaves in an order that stopped at a leaf: the drawing of the scene that has the leaves in this order
+-- stopped at the index of that leaf.
 pub record StoppedAt (order : List ℕ) (old new : List PlacedData) (before after : Screen) (leaf : ℕ) : Type 0 where
   pub place : ℕ
   pub here : slice_get order place ≡ Some leaf
   pub stopped : Stopped (in_order order old) (in_order order new) before after place
-  pub as_many : length new ≡ length old
+  pub same_length : length new ≡ length old
 
--- what an error of a drawing of leaves says
+-- what the error of a drawing of leaves means
 abbrev pub StoppedInOrder : List ℕ → List PlacedData → List PlacedData → Screen → Screen → OrderError → Type 0
 StoppedInOrder order old new before after NotOrder = ⊥
 StoppedInOrder order old new before after (NoMemory leaf) = StoppedAt order old new before after leaf

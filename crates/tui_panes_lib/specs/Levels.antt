@@ -2,7 +2,7 @@
 use Rattle.std.specs.Prelude.{ℕ, ◌+◌, max}
 use Rattle.tui_panes_lib.specs.Place.{PaneData, PartsData, leaf, split, no_parts, part}
 
--- a leaf has one level; a split stands one level above the deepest of its parts
+-- a leaf has one level; a split has one level more than the deepest of its parts
 unfoldable mutual
   pub levels : PaneData → ℕ
   levels (leaf item) = 1

@@ -20,7 +20,7 @@ abbrev pub sizes_data : List Part → List Constraint
 sizes_data [] = []
 sizes_data (p ∷ ps) = p.size ∷ sizes_data ps
 
--- parts, from the list that holds them
+-- the parts in a list
 abbrev pub parts_of : List Part → PartsData
 parts_of [] = no_parts
 parts_of (p ∷ ps) = part p.size (pane_data p.pane) (parts_of ps)

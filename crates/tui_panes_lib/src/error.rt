@@ -1,14 +1,14 @@
-//! Why panes are not placed.
+//! Why panes can't be placed.
 
 use thiserror::Error;
 
-/// Why panes are not placed.
+/// Why panes can't be placed.
 #[derive(Clone, Copy, Debug, PartialEq, Eq, Error)]
 pub enum PanesError {
     /// The tree has more than 32 levels. A lone leaf has one.
     #[error("TooDeep")]
     TooDeep,
-    /// Memory was wanting.
+    /// Out of memory.
     #[error("NoMemory")]
     NoMemory,
 }

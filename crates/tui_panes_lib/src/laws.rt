@@ -1,16 +1,17 @@
-//! What holds of all panes.
+//! Laws of all panes.
 
-ghost use Rattle.tui_panes_lib.specs.Laws.{PanesLieApart, PanesStayFresh, TriedAgainIsFresh};
+ghost use Rattle.tui_panes_lib.specs.Laws.{PanesAreDisjoint, PanesStayFresh, RetriedIsFresh};
 
-/// The rectangles of the leaves lie in the area, and no two have a position in common.
+/// The rectangles of the leaves are inside the area, and no two share a position.
 pub fn tree_laws()
-    ensures apart { PanesLieApart }
+    ensures apart { PanesAreDisjoint }
 {}
 
-/// Where no widget has a shadow: after a drawing of all panes on a blank buffer and any replacements, the buffer is the one that
-/// the panes, with the widgets and states that they have, draw on a blank buffer. So it is again where replacements wanted memory,
-/// once the same leaf is replaced, whatever is put there.
+/// Holds if no widget has a shadow. All panes are drawn on a blank buffer, and then leaves are replaced any number of
+/// times. The buffer is then the one that the panes, with their current widgets and states, draw on a blank buffer. If
+/// replacements of one leaf fail with `NoMemory`, the same holds as soon as that leaf is replaced successfully, by any
+/// widget.
 pub fn panes_laws()
     ensures fresh { PanesStayFresh }
-    ensures again { TriedAgainIsFresh }
+    ensures again { RetriedIsFresh }
 {}

@@ -6,10 +6,10 @@ ghost use Rattle.tui_panes_lib.specs.Pane.{pane_data, parts_of};
 
 use crate::pane::{Pane, Part};
 
-/// Whether a pane has at most `limit` levels. It goes no deeper than that, whatever the tree.
+/// Returns whether a pane has at most `limit` levels. The recursion goes no deeper than that, for any tree.
 #[cycle(levels)]
 #[tactic(auto, using(crate::proofs::Depth::none_within, crate::proofs::Depth::leaf_within, crate::proofs::Depth::split_within))]
-pub(crate) fn stands_within(pane: &Pane<'_>, limit: u8) -> bool
+pub(crate) fn is_within_levels(pane: &Pane<'_>, limit: u8) -> bool
     ensures { result ≡ nat_le (levels (pane_data pane.now)) limit }
 {
     if limit == 0 {
@@ -17,18 +17,18 @@ pub(crate) fn stands_within(pane: &Pane<'_>, limit: u8) -> bool
     }
     match pane {
         Pane::Leaf(_) => true,
-        Pane::Split { parts, .. } => stand_within(parts.as_slice(), limit - 1),
+        Pane::Split { parts, .. } => are_within_levels(parts.as_slice(), limit - 1),
     }
 }
 
-/// Whether each of the parts has.
+/// Returns whether each of the parts has at most `limit` levels.
 #[cycle(levels)]
 #[tactic(auto, using(crate::proofs::Depth::within_more, crate::proofs::Depth::too_deep, crate::proofs::Depth::all_within))]
-fn stand_within(parts: &[Part<'_>], limit: u8) -> bool
+fn are_within_levels(parts: &[Part<'_>], limit: u8) -> bool
     ensures { result ≡ nat_le (parts_levels (parts_of parts.now)) limit }
 {
     'parts: for part in parts {
-        if !stands_within(&part.pane, limit) {
+        if !is_within_levels(&part.pane, limit) {
             return false;
         }
     }

@@ -1,4 +1,5 @@
-//! Panes: trees of splits of an area, the rectangle of each leaf, and the leaves on a screen, drawn in any order, and one of them anew.
+//! Panes: an area that is split into a tree. Each leaf has a rectangle and a widget. Leaves can be drawn in any order,
+//! and a single leaf can be replaced and redrawn.
 #![tactic(auto)]
 
 mod drawing;

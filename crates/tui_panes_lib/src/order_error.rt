@@ -1,14 +1,14 @@
-//! Why panes are not drawn.
+//! Why panes can't be drawn.
 
 use thiserror::Error;
 
-/// Why panes are not drawn, or not all of them.
+/// Why panes can't be drawn, or not all of them.
 #[derive(Clone, Copy, Debug, PartialEq, Eq, Error)]
 pub enum OrderError {
-    /// The order does not have the number of each leaf once and no other.
+    /// The order does not have the number of each leaf exactly once and no other number.
     #[error("NotOrder")]
     NotOrder,
-    /// The leaf numbered `at` wanted memory. Leaves count from 0.
+    /// Out of memory in the leaf numbered `at`, counted from 0.
     #[error("NoMemory")]
     NoMemory { at: usize },
 }

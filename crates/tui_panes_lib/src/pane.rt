@@ -9,17 +9,17 @@ use tui_scene::Item;
 pub enum Pane<'v> {
     /// A widget over the whole pane.
     Leaf(Item<'v>),
-    /// Parts in order, along the pane's width (Horizontal) or its height (Vertical).
+    /// Parts in order, along the pane's width (`Horizontal`) or its height (`Vertical`).
     Split {
         direction: Direction,
-        /// How many columns or rows stay free between two parts.
+        /// How many columns or rows are left free between two parts.
         spacing: u16,
         flex: Flex,
         parts: Vec<Part<'v>>,
     },
 }
 
-/// A part of a split: how much of the split's side it asks for, and the pane that stands there.
+/// A part of a split: how much of the split side it requests, and its pane.
 #[cycle(panes)]
 #[derive(Drop)]
 pub struct Part<'v> {

@@ -5,16 +5,16 @@ ghost use Rattle.tui_cells.specs.Buffer.{IsFilled};
 ghost use Rattle.tui_cells.specs.Cell.{blank};
 ghost use Rattle.tui_cells.specs.Layers.{KeptOutside};
 ghost use Rattle.tui_cells.specs.Rect.{covers};
-ghost use Rattle.tui_scene.specs.Item.{IsLightPlaced, item_data, placed_after};
+ghost use Rattle.tui_scene.specs.Item.{IsAllocationFreePlaced, item_data, placed_after};
 ghost use Rattle.tui_scene.specs.Laws.{Draws};
 ghost use Rattle.tui_scene.specs.Redraw.{IsFresh, IsOrder, IsReplaced};
-ghost use Rattle.tui_scene.specs.Scene.{Run, placed_at};
+ghost use Rattle.tui_scene.specs.Scene.{DrawRun, placed_at};
 ghost use Rattle.tui_scene.specs.Shadow.{HasNoShadow};
 ghost use Rattle.tui_panes_lib.specs.Draw.{HaveNoShadow, StoppedAt, in_order, panes_after};
 ghost use Rattle.tui_panes_lib.specs.Panes.{panes_of, rects_of};
-ghost use Rattle.tui_panes_lib.specs.Replace.{IsRedrawn, panes_with, put_in, touched};
+ghost use Rattle.tui_panes_lib.specs.Replace.{IsRedrawn, panes_with, item_in_leaf, touched};
 ghost use Rattle.tui_panes_lib.specs.declared.order_error.OrderError.TheVariants as orders;
-ghost use Rattle.tui_panes_lib.specs.Apart.{LieApart};
+ghost use Rattle.tui_panes_lib.specs.Apart.{AreDisjointWithin};
 ghost use Rattle.tui_panes_lib.specs.Levels.{levels};
 ghost use Rattle.tui_panes_lib.specs.Pane.{pane_data};
 ghost use Rattle.tui_panes_lib.specs.declared.error.PanesError.TheVariants as errors;
@@ -29,17 +29,17 @@ use std::marker::Model;
 use tui_cells::{Buffer, Mem, Position, Rect};
 use tui_scene::{Item, Placed, Scene};
 
-/// The leaves of a tree of panes on a screen, in order, each a widget with its state in a rectangle of the panes' area. Leaves
-/// count from 0, outermost and first part first.
+/// The leaves of a tree of panes on a screen, in order. Each is a widget with its state in a rectangle of the panes'
+/// area. Leaves are numbered from 0 in depth-first order, the first part of each split first.
 pub struct Panes<'v> {
     area: Rect,
     rects: Vec<Rect>,
     scene: Scene<'v>,
-    // One for each leaf, made once, so that the test of an order takes no memory.
+    // One for each leaf, allocated once, so that testing an order does not allocate.
     marks: Vec<bool>,
 }
 
-// Written out, so that a crate above proves nothing of what it holds to let it go.
+// Written by hand, so that dependent crates need no proofs about dropping the fields.
 impl<'v> Drop for Panes<'v> {
     fn drop(self) {
         let Panes {
@@ -52,18 +52,18 @@ impl<'v> Drop for Panes<'v> {
 }
 
 impl<'v> Model for Panes<'v> {
-    ghost use Rattle.tui_panes_lib.specs.Panes.{AreKept, PanesData};
+    ghost use Rattle.tui_panes_lib.specs.Panes.{AreConsistent, PanesData};
 
     ghost Value = { PanesData };
 
     ghost view = { λ p. record { area = p.area; leaves = p.scene } };
 
-    ghost invariant = { λ p. AreKept p.area p.rects.items p.marks.items p.scene };
+    ghost invariant = { λ p. AreConsistent p.area p.rects.items p.marks.items p.scene };
 }
 
 impl<'v> Panes<'v> {
-    /// The panes of a tree in an area, each leaf where `scene_in` places it. `TooDeep` comes exactly where the tree has more than 32
-    /// levels, a lone leaf having one; `NoMemory` where there is none for the leaves.
+    /// Places the panes of a tree in an area, each leaf where `scene_in` places it. Fails with `TooDeep` if and only if
+    /// the tree has more than 32 levels; a single leaf has one. Fails with `NoMemory` if the leaves can't be allocated.
     pub fn new(alloc: Global, area: Rect, root: Pane<'v>) -> Result<Panes<'v>, PanesError>
         ensures placed { IfOk result (λ panes. panes ≡ panes_of area (pane_data root.entry)) }
         ensures deep { (result ≡ Err errors.TooDeep) ↔ (32 < levels (pane_data root.entry)) }
@@ -83,22 +83,22 @@ impl<'v> Panes<'v> {
         })
     }
 
-    /// The rectangle of each leaf. Each lies in the area, and no two have a position in common.
+    /// Returns the rectangle of each leaf. Each is inside the area, and no two share a position.
     pub fn rects(&self) -> &[Rect]
         ensures places { result.now ≡ rects_of self.now.leaves }
-        ensures apart { LieApart self.now.area result.now }
+        ensures apart { AreDisjointWithin self.now.area result.now }
     {
         self.rects.as_slice()
     }
 
-    /// The leaves as a scene: each widget with its state and its rectangle.
+    /// Returns the leaves as a scene: each widget with its state and its rectangle.
     pub fn scene(&self) -> &Scene<'v>
         ensures { result.now ≡ self.now.leaves }
     {
         &self.scene
     }
 
-    /// The leaf whose rectangle has a position, if there is one.
+    /// Returns the leaf whose rectangle contains a position, if there is one.
     pub fn leaf_at(&self, p: Position) -> Option<usize>
         ensures { (i : ℕ) → (result ≡ Some i)
             ↔ ((i < length self.now.leaves) × (covers (placed_at self.now.leaves i).area p.x p.y ≡ true)) }
@@ -108,11 +108,16 @@ impl<'v> Panes<'v> {
 
     /// Draws all leaves, in the order of their numbers in `order`, from first to last.
     ///
-    /// `NotOrder` comes exactly where `order` does not have the number of each leaf once and no other; the test takes no memory, and
-    /// nothing is drawn then. Ok: the buffer and the states are those of a run over the leaves in that order; where no widget has a
-    /// shadow, those of the leaves from first to last, whatever the order. `NoMemory`: the leaves before the one named, as the order
-    /// has them, are drawn and have their states moved; that one may have changed cells of its footprint and has its state as before;
-    /// the others have done nothing. For a right order the answer is Ok where each widget takes no memory or does not meet the buffer.
+    /// The buffer and the states are then those of a run over the leaves in that order. If no widget has a shadow, they
+    /// are those of the leaves from first to last, for any order.
+    ///
+    /// Fails with `NotOrder` if and only if `order` does not have the number of each leaf exactly once and no other
+    /// number. This test does not allocate, and nothing is drawn then.
+    ///
+    /// Fails with `NoMemory` if a leaf fails to allocate. The leaves before it in `order` are then drawn and their
+    /// states are updated. That leaf may have changed cells of its footprint, and its state is unchanged. The others
+    /// have done nothing. With a valid order the call cannot fail if each widget does not allocate or is outside the
+    /// buffer.
     pub fn draw(
         &mut self,
         alloc: Global,
@@ -121,7 +126,7 @@ impl<'v> Panes<'v> {
     ) -> Result<(), OrderError>
         ensures not_order { (result ≡ Err orders.NotOrder) ↔ (IsOrder (length self.old.leaves) order.now → ⊥) }
         ensures nothing { result ≡ Err orders.NotOrder → (self.new ≡ self.old) × (buf.new ≡ buf.old) }
-        ensures run { OnOk result (Run (in_order order.now self.old.leaves) (in_order order.now self.new.leaves) buf.old buf.new) }
+        ensures run { OnOk result (DrawRun (in_order order.now self.old.leaves) (in_order order.now self.new.leaves) buf.old buf.new) }
         ensures given { OnOk result (Draws (in_order order.now self.old.leaves) (in_order order.now self.new.leaves) buf.old buf.new) }
         ensures states { OnOk result (self.new ≡ panes_after buf.old.area self.old) }
         ensures any { HaveNoShadow self.old.leaves → OnOk result (Draws self.old.leaves self.new.leaves buf.old buf.new) }
@@ -129,7 +134,7 @@ impl<'v> Panes<'v> {
             → OnOk result (IsFresh self.new.leaves buf.new) }
         ensures no_memory { (at : ℕ) → result ≡ Err (orders.NoMemory at)
             → (self.new.area ≡ self.old.area) × StoppedAt order.now self.old.leaves self.new.leaves buf.old buf.new at }
-        ensures light { IsOrder (length self.old.leaves) order.now → All (IsLightPlaced buf.old.area) self.old.leaves → IsOk result }
+        ensures allocation_free { IsOrder (length self.old.leaves) order.now → All (IsAllocationFreePlaced buf.old.area) self.old.leaves → IsOk result }
     {
         if !is_order(&mut self.marks, order) {
             return Err(OrderError::NotOrder);
@@ -137,12 +142,17 @@ impl<'v> Panes<'v> {
         draw_leaves(alloc, &mut self.scene, order, buf)
     }
 
-    /// Puts a widget in the leaf numbered `leaf`, resets the leaf's rectangle and draws the leaf, and no other. Ok: whatever the
-    /// buffer held, each cell is the old one, reset within the rectangle, under the widget's strokes; the other leaves are as before.
-    /// Where no widget has a shadow and the buffer was fresh, as the leaves draw it on a blank buffer, it is fresh again. `NoMemory`:
-    /// the leaf has its old widget with its old state, and no cell outside the rectangle and the new widget's footprint has changed.
-    /// Where no widget has a shadow, replacing the same leaf again, whatever is put there, makes the buffer fresh that was fresh before;
-    /// replacing another leaf does not. Where the widget takes no memory or does not meet the buffer, the answer is Ok.
+    /// Replaces the widget of the leaf numbered `leaf`, resets the leaf's rectangle and draws only that leaf. Then each
+    /// cell is the old one, reset inside the rectangle, under the widget's strokes, for any old buffer. The other
+    /// leaves are unchanged.
+    ///
+    /// A buffer is fresh if the leaves would draw it on a blank buffer. If no widget has a shadow and the buffer was
+    /// fresh, it is fresh again.
+    ///
+    /// On `NoMemory` the leaf has its old widget with its old state. No cell outside the rectangle and the new widget's
+    /// footprint has changed. If no widget has a shadow and the buffer was fresh before, replacing the same leaf again,
+    /// by any widget, makes it fresh again. Replacing another leaf does not. The call cannot fail if the widget does
+    /// not allocate or is outside the buffer.
     pub fn replace(
         &mut self,
         alloc: Global,
@@ -152,17 +162,17 @@ impl<'v> Panes<'v> {
     ) -> Mem<()>
         requires { leaf < length self.old.leaves }
         ensures ok { OnOk result
-            (IsRedrawn (put_in self.old.leaves leaf (item_data item.entry)) (placed_at self.new.leaves leaf) buf.old buf.new) }
+            (IsRedrawn (item_in_leaf self.old.leaves leaf (item_data item.entry)) (placed_at self.new.leaves leaf) buf.old buf.new) }
         ensures states { OnOk result (self.new ≡ panes_with self.old leaf
-            (placed_after buf.old.area (put_in self.old.leaves leaf (item_data item.entry)))) }
+            (placed_after buf.old.area (item_in_leaf self.old.leaves leaf (item_data item.entry)))) }
         ensures replaced { HasNoShadow (item_data item.entry)
-            → OnOk result (IsReplaced self.old.leaves leaf (put_in self.old.leaves leaf (item_data item.entry)) buf.old buf.new) }
+            → OnOk result (IsReplaced self.old.leaves leaf (item_in_leaf self.old.leaves leaf (item_data item.entry)) buf.old buf.new) }
         ensures fresh { HaveNoShadow self.old.leaves → HasNoShadow (item_data item.entry) → IsFresh self.old.leaves buf.old
             → OnOk result (IsFresh self.new.leaves buf.new) }
         ensures err { OnErr result (self.new ≡ self.old) }
         ensures kept { OnErr result
-            (KeptOutside (touched buf.old.area (put_in self.old.leaves leaf (item_data item.entry))) buf.old buf.new) }
-        ensures light { IsLightPlaced buf.old.area (put_in self.old.leaves leaf (item_data item.entry)) → IsOk result }
+            (KeptOutside (touched buf.old.area (item_in_leaf self.old.leaves leaf (item_data item.entry))) buf.old buf.new) }
+        ensures allocation_free { IsAllocationFreePlaced buf.old.area (item_in_leaf self.old.leaves leaf (item_data item.entry)) → IsOk result }
     {
         let area = self.rects[leaf];
         redraw(alloc, &mut self.scene, leaf, Placed { area, item }, buf)

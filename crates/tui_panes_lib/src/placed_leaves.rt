@@ -10,7 +10,7 @@ use std::alloc::Global;
 use tui_cells::{Mem, Position, Rect};
 use tui_scene::Placed;
 
-/// The rectangles of widgets.
+/// Returns the rectangles of widgets.
 pub(crate) fn areas(alloc: Global, items: &[Placed<'_>]) -> Mem<Vec<Rect>>
     ensures { IfOk result (λ rects. rects.items ≡ rects_of (map placed_data items.now)) }
 {
@@ -21,7 +21,7 @@ pub(crate) fn areas(alloc: Global, items: &[Placed<'_>]) -> Mem<Vec<Rect>>
     Ok(rects)
 }
 
-/// `count` marks.
+/// Returns `count` marks, none of them set.
 pub(crate) fn marks(alloc: Global, count: usize) -> Mem<Vec<bool>>
     ensures { IfOk result (λ marks. length marks.items ≡ count) }
 {
@@ -32,7 +32,7 @@ pub(crate) fn marks(alloc: Global, count: usize) -> Mem<Vec<bool>>
     Ok(marks)
 }
 
-/// The first rectangle that has a position.
+/// Returns the first rectangle that contains a position.
 pub(crate) fn first_at(rects: &[Rect], p: Position) -> Option<usize>
     ensures some { IfSome result (λ i. (i < length rects.now) × ((d : Rect) → covers (slice_index_or rects.now i d) p.x p.y ≡ true)) }
     ensures none { IfNone result (All (λ r. covers r p.x p.y ≡ false) rects.now) }

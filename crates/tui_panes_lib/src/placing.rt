@@ -1,33 +1,35 @@
-//! Where panes are placed.
+//! Placing panes.
 
 ghost use Rattle.std.specs.Prelude.{◌≡◌, ◌+◌, ◌<◌, ◌≤◌, ◌++◌, ◌↔◌, Err, IfOk, OnOk, IsTrue, length};
 ghost use Rattle.tui_cells.specs.Rect.{farthest_edge};
 ghost use Rattle.tui_layout.specs.Columns.{columns_of};
 ghost use Rattle.tui_panes_lib.specs.Levels.{levels};
 ghost use Rattle.tui_panes_lib.specs.Pane.{pane_data, sizes_data};
-ghost use Rattle.tui_panes_lib.specs.Place.{near_of, part_of, place_in, leaves_in, side_of};
+ghost use Rattle.tui_panes_lib.specs.Place.{origin_of, part_of, place_in, leaves_in, side_of};
 ghost use Rattle.tui_panes_lib.specs.declared.error.PanesError.TheVariants.{TooDeep};
 
 use crate::error::PanesError;
-use crate::levels::stands_within;
+use crate::levels::is_within_levels;
 use crate::pane::{Pane, Part};
 use std::alloc::Global;
 use tui_cells::{Mem, NoMemory, Rect};
 use tui_layout::{Constraint, Direction, Segment, split};
 use tui_scene::{Placed, Scene};
 
-/// The levels of the deepest tree that is placed.
-const MOST_LEVELS: u8 = 32;
+/// The levels of the deepest tree that can be placed.
+const MAX_LEVELS: u8 = 32;
 
-/// The leaves of a tree of panes in order, each with its rectangle of an area. The area's far edges are cut at 65535 first. A
-/// leaf has its whole area. A split cuts the width (Horizontal) or the height (Vertical) of its area into columns, one for each
-/// part, as `split` of the layout does, and its parts have these columns. TooDeep exactly where the tree has more than 32 levels,
-/// a lone leaf having one; it is tested first, and takes no memory.
+/// Returns the leaves of a tree of panes in order, each with its rectangle of an area. First the far edges of the area
+/// are limited to 65535. A leaf takes its whole area. A split cuts the width (`Horizontal`) or the height (`Vertical`)
+/// of its area into segments, one for each part, as `split` of the layout does. Each part takes its segment.
+///
+/// Fails with `TooDeep` if and only if the tree has more than 32 levels; a single leaf has one. This is tested first
+/// and does not allocate.
 pub fn scene_in<'v>(alloc: Global, area: Rect, root: Pane<'v>) -> Result<Scene<'v>, PanesError>
     ensures placed { IfOk result (λ scene. scene ≡ leaves_in area (pane_data root.entry)) }
     ensures deep { (result ≡ Err TooDeep) ↔ (32 < levels (pane_data root.entry)) }
 {
-    if !stands_within(&root, MOST_LEVELS) {
+    if !is_within_levels(&root, MAX_LEVELS) {
         return Err(PanesError::TooDeep);
     }
     let mut scene = Scene::new(alloc);
@@ -65,7 +67,7 @@ fn place<'v>(alloc: Global, area: Rect, pane: Pane<'v>, scene: &mut Scene<'v>) -
     }
 }
 
-/// The sizes of parts.
+/// Returns the requested sizes of parts.
 fn sizes(alloc: Global, parts: &[Part<'_>]) -> Mem<Vec<Constraint>>
     ensures { IfOk result (λ sizes. sizes.items ≡ sizes_data parts.now) }
 {
@@ -86,7 +88,7 @@ fn side(direction: Direction, area: Rect) -> u16
 }
 
 fn part_area(direction: Direction, area: Rect, column: Segment) -> Rect
-    requires { near_of direction area + column.start < 65536 }
+    requires { origin_of direction area + column.start < 65536 }
     ensures { result ≡ part_of direction area column }
 {
     match direction {

@@ -12,7 +12,7 @@ use Rattle.tui_cells.specs.declared.rect.Rect.{Rect}
 use Rattle.tui_json.specs.Constraint.{constraint_of}
 use Rattle.tui_json.specs.Members.{elements_within}
 use Rattle.tui_json.specs.Number.{below, u64_of}
-use Rattle.tui_json.specs.Refusals.{◌>>=◌, numbered, or_refuse}
+use Rattle.tui_json.specs.Refusals.{◌>>=◌, numbered, or_reject}
 use Rattle.tui_layout.specs.Columns.{columns_of}
 use Rattle.tui_layout.specs.declared.constraint.Constraint.{Constraint}
 use Rattle.tui_layout.specs.declared.direction.Direction.{Direction}
@@ -27,7 +27,7 @@ use Rattle.tui_panes_run.specs.Counts.{CountsData, no_panes, with_leaf, with_spl
 use Rattle.tui_panes_run.specs.Input.{InputData, input_of, most_below, size_in}
 use Rattle.tui_json.specs.Objects.{object_of}
 use Rattle.tui_panes_run.specs.Refusals.{bad_pane}
-use Rattle.tui_panes_run.specs.Tree.{Reader, by_parts, leaf_in, lone_in, optional, pane_in, part_in, parts_in, required, shape_in, split_in, values_in}
+use Rattle.tui_panes_run.specs.Tree.{JsonCommand, by_parts, leaf_in, lone_in, optional, pane_in, part_in, parts_in, required, shape_in, split_in, values_in}
 use Rattle.tui_panes_run.specs.Widgets.{widget_in}
 use Rattle.tui_panes_run.proofs.Trees.{no_values}
 use Rattle.tui_panes_run.specs.declared.change_field.ChangeField.TheVariants as changing
@@ -35,7 +35,7 @@ use Rattle.tui_panes_run.specs.declared.field.PaneField.TheVariants as fields
 use Rattle.tui_panes_run.specs.declared.input.Size.{Size}
 use Rattle.tui_panes_run.specs.declared.refusal.PanesRefusal.{PanesRefusal}
 
--- where one test after the other passes, each does
+-- if two tests after one another pass, each of them does
 pub record Passed {A B R : Type 0} (r : Result A R) (f : A → Result B R) (y : B) : Type 0 where
   pub value : A
   pub first : r ≡ Ok value
@@ -51,18 +51,18 @@ good x = Ok x
 same_ok : {A : Type 0} (x y : A) → good x ≡ good y → x ≡ y
 same_ok x y e = cc
 
--- a pane, and the counts behind it: it has few levels, and as many leaves are placed as were counted
+-- a pane and the counts after it: it has few levels, and as many leaves are placed as were counted
 pub record IsRead (most : ℕ) (at : CountsData) (pane : PaneData) (next : CountsData) : Type 0 where
   pub levels_are : levels pane ≤ most
   pub leaves_are : (area : Rect) → next.leaves ≡ at.leaves + length (place_in area pane)
 
--- the same of parts, on as many columns as they are
+-- the same for parts, on as many columns as there are parts
 pub record AreRead (most : ℕ) (at : CountsData) (parts : PartsData) (next : CountsData) : Type 0 where
   pub levels_are : parts_levels parts ≤ most
   pub leaves_are : (direction : Direction) (area : Rect) (columns : List Segment) → length columns ≡ length (sizes_of parts) →
       next.leaves ≡ at.leaves + length (place_parts direction area columns parts)
 
-abbrev ReadsWithin : ℕ → Reader PaneData → Type 0
+abbrev ReadsWithin : ℕ → JsonCommand PaneData → Type 0
 ReadsWithin most pane_of = (at : CountsData) (d : Data) (r : PaneData × CountsData) → pane_of at d ≡ Ok r → IsRead most at r.0 r.1
 
 no_more : (most : ℕ) (at : CountsData) → AreRead most at no_parts at
@@ -89,7 +89,7 @@ one_more most at mid next size pane parts one rest = record {
         let both = length-append (place_in (part_of direction area column) pane) (place_parts direction area columns parts) in
         omega (arith, here, there, both)
 
-pub parts_read : (most : ℕ) (pane_of : Reader PaneData) → ReadsWithin most pane_of → (number : ℕ) (at : CountsData) (ds : Items)
+pub parts_read : (most : ℕ) (pane_of : JsonCommand PaneData) → ReadsWithin most pane_of → (number : ℕ) (at : CountsData) (ds : Items)
     (r : PartsData × CountsData) → parts_in pane_of number at ds ≡ Ok r → AreRead most at r.0 r.1
 unfolding parts_in part_in
 parts_read most pane_of reads number at no_items r e =
@@ -98,7 +98,7 @@ parts_read most pane_of reads number at (item d ds) r e =
     let one = passed (part_in pane_of number at d) _ r e in
     let rest = passed (parts_in pane_of number one.value.1 ds) _ r one.next in
     let size = passed (required constraint_of (Some number) fields.Size d) _ one.value one.first in
-    let value = passed (or_refuse (bad_pane (Some at.panes) fields.Item) (get (codes "pane") d)) _ one.value size.next in
+    let value = passed (or_reject (bad_pane (Some at.panes) fields.Item) (get (codes "pane") d)) _ one.value size.next in
     let pane = passed (pane_of at value.value) _ one.value value.next in
     let is : ((size.value, pane.value.0), pane.value.1) ≡ one.value = same_ok _ _ pane.next in
     let here = subst (λ (p : (Constraint × PaneData) × CountsData). IsRead most at p.0.1 p.1) is (reads at value.value pane.value pane.first) in
@@ -128,7 +128,7 @@ split_is_read room at next direction spacing flex parts read = record {
       (columns_long (side_of direction area) spacing (sizes_of parts) flex);
 }
 
-split_read : (room : ℕ) (pane_of : Reader PaneData) → (0 < room → ReadsWithin room pane_of) → (at : CountsData) (d : Data) (r : PaneData × CountsData) →
+split_read : (room : ℕ) (pane_of : JsonCommand PaneData) → (0 < room → ReadsWithin room pane_of) → (at : CountsData) (d : Data) (r : PaneData × CountsData) →
     split_in pane_of room at d ≡ Ok r → IsRead (suc room) at r.0 r.1
 unfolding split_in
 split_read room pane_of reads at d r e =
@@ -150,7 +150,7 @@ lone_read room at d r e =
     let widget = passed (leaf_in at d) _ r e in
     subst (λ (r : PaneData × CountsData). IsRead (suc room) at r.0 r.1) (same_ok _ _ widget.next) (lone_is_read room at widget.value)
 
-by_member : (room : ℕ) (pane_of : Reader PaneData) → (0 < room → ReadsWithin room pane_of) → (at : CountsData) (d : Data) (parts : Option Data)
+by_member : (room : ℕ) (pane_of : JsonCommand PaneData) → (0 < room → ReadsWithin room pane_of) → (at : CountsData) (d : Data) (parts : Option Data)
     (r : PaneData × CountsData) → by_parts pane_of room at d parts ≡ Ok r → IsRead (suc room) at r.0 r.1
 by_member room pane_of reads at d (Some parts) r e = split_read room pane_of reads at d r e
 by_member room pane_of reads at d None r e = lone_read room at d r e
@@ -161,7 +161,7 @@ unfolding pane_in
 pane_read zero at d r e = by_member zero lone_in (λ some. absurd (omega (arith, some))) at d (get (codes "parts") d) r e
 pane_read (suc room) at d r e = by_member (suc room) (pane_in room) (λ some. pane_read room) at d (get (codes "parts") d) r e
 
--- a number that is below
+-- a number that passes `below` is less
 below_is : (leaves n m : ℕ) → below leaves n ≡ Some m → m < leaves
 below_is leaves n m e = grind (arith, nat_tests, e)
 
@@ -169,11 +169,11 @@ number_is : (leaves m : ℕ) (read : Option ℕ) → option_and_then (below leav
 number_is leaves m None e = absurd cc
 number_is leaves m (Some n) e = below_is leaves n m e
 
-member_is : (leaves m : ℕ) (found : Option Data) → or_refuse bad_change (option_and_then (leaf_number leaves) found) ≡ Ok m → m < leaves
+member_is : (leaves m : ℕ) (found : Option Data) → or_reject bad_change (option_and_then (leaf_number leaves) found) ≡ Ok m → m < leaves
 member_is leaves m None e = absurd cc
 member_is leaves m (Some d) e = by_number (leaf_number leaves d) refl e
   where
-    by_number : (o : Option ℕ) → leaf_number leaves d ≡ o → or_refuse bad_change o ≡ Ok m → m < leaves
+    by_number : (o : Option ℕ) → leaf_number leaves d ≡ o → or_reject bad_change o ≡ Ok m → m < leaves
     by_number None is h = absurd cc
     by_number (Some n) is h = let same : n ≡ m = same_ok n m h in subst (λ (k : ℕ). k < leaves) same (number_is leaves n (u64_of d) is)
 
@@ -225,7 +225,7 @@ pub accepted : (d : Data) (input : InputData) → input_of d ≡ Ok input → Is
 unfolding input_of
 accepted d input e =
     let size = passed (size_in d) _ input e in
-    let value = passed (or_refuse (bad_pane None fields.Root) (get (codes "root") d)) _ input size.next in
+    let value = passed (or_reject (bad_pane None fields.Root) (get (codes "root") d)) _ input size.next in
     let root = passed (pane_in most_below no_panes value.value) _ input value.next in
     let changes = passed (changes_in root.value.1.leaves d) _ input root.next in
     let read = pane_read most_below no_panes value.value root.value root.first in

@@ -11,7 +11,7 @@ use Rattle.tui_panes_run.specs.Changes.{ChangeData}
 use Rattle.tui_panes_run.specs.Input.{InputData}
 use Rattle.tui_panes_run.specs.Shown.{AreChanged, leaves_of, screen_area}
 
--- what is still to be changed leads to what all changes lead to
+-- the changes that remain lead to what all changes lead to
 abbrev pub ChangesGoOn : List PlacedData → Screen → List ChangeData → List PlacedData → Screen → List ChangeData → Type 0
 ChangesGoOn leaves before all now screen rest =
     (last : List PlacedData) (after : Screen) → AreChanged now screen rest last after → AreChanged leaves before all last after
@@ -19,7 +19,7 @@ ChangesGoOn leaves before all now screen rest =
 abbrev pub AreBelow : List PlacedData → List ChangeData → Type 0
 AreBelow leaves changes = AllByRecursion (λ (c : ChangeData). c.leaf < length leaves) changes
 
--- a drawing leaves as many leaves
+-- a drawing keeps the number of leaves
 pub still_below : (input : InputData) (placed moved : PanesData) (buffer : Rect) (changes : List ChangeData) → placed ≡ panes_of (screen_area input) input.root →
     moved ≡ panes_after buffer placed → All (λ (c : ChangeData). c.leaf < length (leaves_of input)) changes →
     All (λ (c : ChangeData). c.leaf < length moved.leaves) changes

@@ -1,6 +1,6 @@
--- Words that name no command.
+-- Arguments that name no command.
 use Rattle.std.proofs.Common.{ℕ, List, [], ◌∷◌, codes, String, Global}
-use Rattle.tui_program.specs.Words.{AreTexts, HaveNumbers}
+use Rattle.tui_program.specs.Arguments.{AreTexts, HaveNumbers}
 use Rattle.tui_panes_run.specs.Rules.{Names, places}
 use Rattle.tui_panes_run.specs.declared.command.PanesCommand.{PanesCommand}
 use Rattle.tui_panes_run.specs.declared.command.PanesCommand.TheVariants as command

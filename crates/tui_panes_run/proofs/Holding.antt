@@ -1,4 +1,4 @@
--- The leaf that has a position.
+-- The leaf that contains a position.
 use Rattle.std.proofs.Common.{◌≡◌, ℕ, ◌<◌, Bool, true, false, List, length, Option, Some, None, refl}
 use Rattle.std.specs.Prelude.{◌↔◌}
 use Rattle.tui_cells.specs.Rect.{covers}

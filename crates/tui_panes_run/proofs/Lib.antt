@@ -1,5 +1,5 @@
 pub mod Accepted
-pub mod Afresh
+pub mod FromBlank
 pub mod Changing
 pub mod Commands
 pub mod Holding

@@ -15,7 +15,7 @@ each_below : (n a limit : ℕ) → a + n ≤ limit → AllByRecursion (λ i. i <
 each_below zero a limit le = tt
 each_below (suc n) a limit le = (omega arith, each_below n (a + 1) limit (omega arith))
 
--- a number is counted where it stands, and nowhere else
+-- a number is counted at its own index, and nowhere else
 one : ℕ → ℕ → ℕ
 one i j = if j == i then 1 else 0
 

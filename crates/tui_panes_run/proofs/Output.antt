@@ -1,4 +1,4 @@
--- An output is one.
+-- An input has one output.
 use Rattle.std.proofs.Common.{◌≡◌, ℕ, ◌+◌, ◌<◌, Bool, true, false, ◌&&◌, List, [], ◌∷◌, length, get_or, map, Option, Some, None, option_map}
 use Rattle.std.proofs.Common.{refl, sym, ap, ◌∙◌, subst, arith, inl, inr}
 use Rattle.std.specs.Prelude.{◌⊎◌, Ok}
@@ -16,19 +16,19 @@ use Rattle.tui_scene.specs.Scene.{no_widget, placed_at, scene_layers}
 use Rattle.tui_scene.proofs.Drawn.{filled_cell, one_screen}
 use Rattle.tui_panes_lib.specs.Draw.{in_order}
 use Rattle.tui_panes_lib.specs.Panes.{rects_of}
-use Rattle.tui_panes_lib.specs.Replace.{put_in}
-use Rattle.tui_panes_lib.proofs.LeavesApart.{lie_apart}
-use Rattle.tui_panes_lib.specs.Apart.{LieApart}
+use Rattle.tui_panes_lib.specs.Replace.{item_in_leaf}
+use Rattle.tui_panes_lib.proofs.DisjointLeaves.{are_disjoint_within}
+use Rattle.tui_panes_lib.specs.Apart.{AreDisjointWithin}
 use Rattle.tui_panes_run.specs.Changes.{ChangeData}
 use Rattle.tui_panes_run.specs.Found.{IsFound, IsLeafAt, leaf_line}
 use Rattle.tui_panes_run.specs.Input.{InputData}
-use Rattle.tui_panes_run.specs.Laws.{AreDrawnAfresh, OutputIsOne, ReverseIsSame, standing}
+use Rattle.tui_panes_run.specs.Laws.{AreDrawnFromBlank, OutputIsOne, ReverseIsSame, leaves_after}
 use Rattle.tui_panes_run.specs.Order.{numbers_of}
 use Rattle.tui_panes_run.specs.Shown.{AreChanged, ArePanesShown, changed, leaves_of, screen_area}
 use Rattle.tui_panes_run.specs.declared.command.PanesCommand.TheVariants as command
 use Rattle.tui_panes_run.specs.declared.order.Order.{Order}
 use Rattle.tui_panes_run.specs.declared.order.Order.TheVariants as order
-use Rattle.tui_panes_run.proofs.Afresh.{prints_afresh}
+use Rattle.tui_panes_run.proofs.FromBlank.{prints_afresh}
 
 -- the same strokes on the same cells
 same_painted : {ls : List Layer} {a b c d : Screen} → SameCells a c → Painted ls a b → Painted ls c d → SameCells b d
@@ -51,7 +51,7 @@ same_drawn r ps a b c d p q first second =
     same_painted (same_blank r a c p q) first
     (subst (λ (k : Rect). Painted (scene_layers k ps) c d) (q.area_is ∙ sym p.area_is) second)
 
--- what the same changes of the same leaves leave
+-- the same leaves, and screens with the same cells
 record AreAlike (last other : List PlacedData) (a b : Screen) : Type 0 where
   leaves : other ≡ last
   screens : SameCells a b
@@ -66,7 +66,7 @@ changed_alike leaves a b [] last other after different same p q = record {
   };
 }
 changed_alike leaves a b (c ∷ cs) last other after different same p q =
-    let placed = put_in leaves c.leaf c.item in
+    let placed = item_in_leaf leaves c.leaf c.item in
     let reset = same_painted same p.1.is_reset q.1.is_reset in
     let strokes = subst (λ (r : Rect). Painted (placed_layers r placed) q.1.reset q.0) same.area q.1.strokes in
     let next = same_painted reset p.1.strokes strokes in
@@ -93,7 +93,7 @@ one_drawing o input text other a b =
     (changed_alike p.moved p.drawn q.drawn input.changes a.last b.last a.screen b.screen drawn p.changed
     (subst (λ (ps : List PlacedData). AreChanged ps q.drawn input.changes b.last b.screen) moved q.changed))
 
--- one leaf has a position
+-- at most one leaf contains a position
 
 abbrev area_of_leaf : PlacedData → Rect
 area_of_leaf p = p.area
@@ -103,7 +103,7 @@ both_cover true true p q h = absurd cc
 both_cover true false p q h = absurd cc
 both_cover false b p q h = absurd cc
 
-not_both : (area : Rect) (leaves : List PlacedData) (i j x y : ℕ) → LieApart area (map area_of_leaf leaves) → i < j → j < length leaves →
+not_both : (area : Rect) (leaves : List PlacedData) (i j x y : ℕ) → AreDisjointWithin area (map area_of_leaf leaves) → i < j → j < length leaves →
     covers (placed_at leaves i).area x y ≡ true → covers (placed_at leaves j).area x y ≡ true → ⊥
 not_both area leaves i j x y lie less lt here there =
     let rects = map area_of_leaf leaves in
@@ -112,7 +112,7 @@ not_both area leaves i j x y lie less lt here there =
     let apart = lie.apart i j no_widget.area less (omega (arith, length-map leaves area_of_leaf)) x y in
     both_cover _ _ (ap (λ (r : Rect). covers r x y) first ∙ here) (ap (λ (r : Rect). covers r x y) second ∙ there) apart
 
-same_leaf : (area : Rect) (leaves : List PlacedData) (x y : ℕ) (a b : Option ℕ) → LieApart area (map area_of_leaf leaves) → IsLeafAt leaves x y a → IsLeafAt leaves x y b → b ≡ a
+same_leaf : (area : Rect) (leaves : List PlacedData) (x y : ℕ) (a b : Option ℕ) → AreDisjointWithin area (map area_of_leaf leaves) → IsLeafAt leaves x y a → IsLeafAt leaves x y b → b ≡ a
 same_leaf area leaves x y (Some i) (Some j) lie p q =
     elim (cases_lt i j) [
       | inl less ↦ absurd (not_both area leaves i j x y lie less q.0 p.1 q.1)
@@ -127,21 +127,21 @@ same_leaf area leaves x y None None lie p q = refl
 
 one_found : (x y : ℕ) (input : InputData) (text other : List ℕ) → IsFound x y input text → IsFound x y input other → other ≡ text
 one_found x y input text other a b =
-    let leaf = same_leaf (screen_area input) (leaves_of input) x y a.0 b.0 (lie_apart (screen_area input) input.root) a.1 b.1 in
+    let leaf = same_leaf (screen_area input) (leaves_of input) x y a.0 b.0 (are_disjoint_within (screen_area input) input.root) a.1 b.1 in
     b.2 ∙ ap leaf_line leaf ∙ sym a.2
 
 pub one_output : OutputIsOne
 one_output (command.Draw o) input text other a b = one_drawing o input text other a b
 one_output (command.At x y) input text other a b = one_found x y input text other a b
 
--- what both orders print is the screen that the widgets draw that stand there at last
+-- in both orders the printed screen is what the final widgets draw
 
-both_afresh : (input : InputData) (last other : List PlacedData) (a b : Screen) → AreDrawnAfresh input last a → AreDrawnAfresh input other b → AreAlike last other a b
+both_afresh : (input : InputData) (last other : List PlacedData) (a b : Screen) → AreDrawnFromBlank input last a → AreDrawnFromBlank input other b → AreAlike last other a b
 both_afresh input last other a b p q =
-    let stand = standing (leaves_of input) input.changes in
+    let leaves_now = leaves_after (leaves_of input) input.changes in
     record {
-      leaves = q.given.states ∙ (ap (λ (r : Rect). map (placed_after r) stand) (q.blank_first.area_is ∙ sym p.blank_first.area_is) ∙ sym p.given.states);
-      screens = same_drawn (screen_area input) stand p.first a q.first b p.blank_first q.blank_first p.given.cells q.given.cells;
+      leaves = q.given.states ∙ (ap (λ (r : Rect). map (placed_after r) leaves_now) (q.blank_first.area_is ∙ sym p.blank_first.area_is) ∙ sym p.given.states);
+      screens = same_drawn (screen_area input) leaves_now p.first a q.first b p.blank_first q.blank_first p.given.cells q.given.cells;
     }
 
 pub reverse_is_same : ReverseIsSame

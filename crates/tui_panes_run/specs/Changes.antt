@@ -10,36 +10,37 @@ use Rattle.tui_json.specs.Objects.{object_of}
 use Rattle.tui_panes_run.specs.Refusals.{bad_pane}
 use Rattle.tui_panes_run.specs.Tree.{optional}
 use Rattle.tui_panes_run.specs.Widgets.{widget_in}
-use Rattle.tui_panes_run.specs.declared.change.Change.{Change}
+use Rattle.tui_panes_run.specs.declared.change.PaneChange.{PaneChange}
 use Rattle.tui_panes_run.specs.declared.change_field.ChangeField.{ChangeField}
 use Rattle.tui_panes_run.specs.declared.change_field.ChangeField.TheVariants as changing
 use Rattle.tui_panes_run.specs.declared.field.PaneField.TheVariants as fields
 use Rattle.tui_panes_run.specs.declared.refusal.PanesRefusal.{PanesRefusal}
 
--- a leaf by its number, and the widget that is put there
+-- the number of a leaf, and the widget that replaces the leaf's
 pub record ChangeData : Type 0 where
   pub leaf : ℕ
   pub item : ItemData
 
-abbrev pub change_data : Change → ChangeData
+abbrev pub change_data : PaneChange → ChangeData
 change_data c = record { leaf = c.leaf; item = item_data c.item }
 
 abbrev pub change_key : ChangeField → List ℕ
 change_key changing.Leaf = codes "leaf"
 change_key changing.Item = codes "item"
 
--- what is wrong with a change itself
+-- an invalid change is reported as the field `changes` of the input
 abbrev pub bad_change : PanesRefusal
 bad_change = bad_pane None fields.Changes
 
 abbrev pub in_change : {A : Type 0} → (Data → Option A) → ChangeField → Data → Result A PanesRefusal
 in_change kind field d = tests.required kind (change_key field) bad_change d
 
--- a number below that of the leaves
+-- a number less than the number of leaves
 abbrev pub leaf_number : ℕ → Data → Option ℕ
 leaf_number leaves d = option_and_then (below leaves) (u64_of d)
 
--- a change by its number, where there are that many leaves: what is no object has no fields; its widget has a number behind theirs
+-- the change of an index, where there are `leaves` leaves. A value that is not an object has no fields. The number of
+-- its widget follows those of the leaves.
 unfoldable pub change_in : ℕ → ℕ → Data → Result ChangeData PanesRefusal
 change_in leaves i d = do
   leaf ← in_change (leaf_number leaves) changing.Leaf d

@@ -1,8 +1,8 @@
--- How many panes are read.
+-- Counts of the panes that were read.
 use Rattle.std.specs.Prelude.{ℕ, ◌+◌}
 use Rattle.tui_panes_run.specs.declared.counts.Counts.{Counts}
 
--- the panes, and how many of them are leaves: the numbers of the next pane and of the next leaf
+-- the panes, and how many of them are leaves; also the numbers of the next pane and of the next leaf
 pub record CountsData : Type 0 where
   pub panes : ℕ
   pub leaves : ℕ
@@ -19,6 +19,6 @@ with_leaf c = record { panes = c.panes + 1; leaves = c.leaves + 1 }
 abbrev pub with_split : CountsData → CountsData
 with_split c = record { panes = c.panes + 1; leaves = c.leaves }
 
--- a tree has at most this many panes
+-- the most panes that a tree may have
 abbrev pub most_panes : ℕ
 most_panes = 256

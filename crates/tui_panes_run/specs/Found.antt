@@ -1,4 +1,4 @@
--- Which leaf stands at a position.
+-- Which leaf is at a position.
 use Rattle.std.specs.Prelude.{◌≡◌, ◌<◌, ℕ, List, ◌++◌, length, Option, Some, None, codes, decimal, true, false}
 use Rattle.tui_cells.specs.Rect.{covers}
 use Rattle.tui_scene.specs.Item.{PlacedData}
@@ -6,7 +6,7 @@ use Rattle.tui_scene.specs.Scene.{placed_at}
 use Rattle.tui_panes_run.specs.Input.{InputData}
 use Rattle.tui_panes_run.specs.Shown.{leaves_of}
 
--- the leaf whose rectangle has the position, or none
+-- the leaf whose rectangle contains the position, or none
 abbrev pub IsLeafAt : List PlacedData → ℕ → ℕ → Option ℕ → Type 0
 IsLeafAt leaves x y (Some i) = (i < length leaves) × (covers (placed_at leaves i).area x y ≡ true)
 IsLeafAt leaves x y None = (i : ℕ) → i < length leaves → covers (placed_at leaves i).area x y ≡ false

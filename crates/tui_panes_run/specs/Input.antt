@@ -1,9 +1,9 @@
--- The input: its fields in order, the first test that fails being the refusal.
+-- The input. Its fields are tested in order. The first test that fails decides why the input is rejected.
 use Rattle.std.specs.Prelude.{ℕ, List, map, None, Result, Ok, codes}
 use Rattle.serde_json.specs.Data.{Data}
 use Rattle.serde_json.specs.Find.{get}
 use Rattle.tui_json.specs.Number.{within}
-use Rattle.tui_json.specs.Refusals.{◌>>=◌, or_refuse}
+use Rattle.tui_json.specs.Refusals.{◌>>=◌, or_reject}
 use Rattle.tui_panes_lib.specs.Pane.{pane_data}
 use Rattle.tui_panes_lib.specs.Place.{PaneData}
 use Rattle.tui_panes_run.specs.Changes.{ChangeData, change_data, changes_in}
@@ -24,21 +24,21 @@ pub record InputData : Type 0 where
 abbrev pub input_data : Input → InputData
 input_data input = record { size = input.size; root = pane_data input.root; changes = map change_data input.changes.items }
 
--- What is no object has no fields, so it is refused at `width`.
+-- A value that is not an object has no fields, so it is rejected at `width`.
 unfoldable pub size_in : Data → Result Size PanesRefusal
 size_in d = do
   width ← required (within 1 1000) None fields.Width d
   height ← required (within 1 1000) None fields.Height d
   Ok (record { width = width; height = height })
 
--- this many levels may stand below the root, so that a tree has at most 32
+-- the most levels below the root, so that a tree has at most 32
 abbrev pub most_below : ℕ
 most_below = 31
 
 unfoldable pub input_of : Data → Result InputData PanesRefusal
 input_of d = do
   size ← size_in d
-  value ← or_refuse (bad_pane None fields.Root) (get (codes "root") d)
+  value ← or_reject (bad_pane None fields.Root) (get (codes "root") d)
   root ← pane_in most_below no_panes value
   changes ← changes_in root.1.leaves d
   Ok (record { size = size; root = root.0; changes = changes })

@@ -1,4 +1,4 @@
--- What holds of what is written.
+-- What holds for the program's output.
 use Rattle.std.specs.Prelude.{◌≡◌, ℕ, All, List, [], ◌∷◌, Ok, slice_set}
 use Rattle.serde_json.specs.Data.{Data}
 use Rattle.tui_cells.specs.Buffer.{IsFilled, Screen}
@@ -7,7 +7,7 @@ use Rattle.tui_scene.specs.Item.{PlacedData}
 use Rattle.tui_scene.specs.Laws.{Draws}
 use Rattle.tui_scene.specs.Shadow.{HasNoShadow}
 use Rattle.tui_panes_lib.specs.Draw.{HaveNoShadow}
-use Rattle.tui_panes_lib.specs.Replace.{put_in}
+use Rattle.tui_panes_lib.specs.Replace.{item_in_leaf}
 use Rattle.tui_panes_run.specs.Changes.{ChangeData}
 use Rattle.tui_panes_run.specs.Input.{InputData, input_of}
 use Rattle.tui_panes_run.specs.Rules.{IsWritten}
@@ -21,29 +21,29 @@ use Rattle.tui_panes_run.specs.declared.order.Order.TheVariants as order
 abbrev pub OutputIsOne : Type 0
 OutputIsOne = (c : PanesCommand) (input : InputData) (text other : List ℕ) → IsWritten c input text → IsWritten c input other → other ≡ text
 
--- no widget that stands in a leaf or is put there has a shadow
+-- no widget of a leaf or of a change has a shadow
 abbrev pub HasNoShadows : InputData → Type 0
 HasNoShadows input = HaveNoShadow (leaves_of input) × All (λ c. HasNoShadow c.item) input.changes
 
--- the leaves with the widgets that stand there after changes, each with the state that the input gives it
-abbrev pub standing : List PlacedData → List ChangeData → List PlacedData
-standing leaves [] = leaves
-standing leaves (c ∷ cs) = standing (slice_set leaves c.leaf (put_in leaves c.leaf c.item)) cs
+-- the leaves with their widgets after the changes, each with the state that the input gives it
+abbrev pub leaves_after : List PlacedData → List ChangeData → List PlacedData
+leaves_after leaves [] = leaves
+leaves_after leaves (c ∷ cs) = leaves_after (slice_set leaves c.leaf (item_in_leaf leaves c.leaf c.item)) cs
 
--- On a blank buffer the widgets that stand there after all changes draw a screen, from first to last, and have these states then;
--- and with these they draw it again.
-pub record AreDrawnAfresh (input : InputData) (last : List PlacedData) (screen : Screen) : Type 0 where
+-- On a blank buffer, the final widgets draw this screen, from first to last, and leave the states `last`. With these
+-- states they draw it again.
+pub record AreDrawnFromBlank (input : InputData) (last : List PlacedData) (screen : Screen) : Type 0 where
   pub first : Screen
   pub blank_first : IsFilled (screen_area input) blank first
-  pub given : Draws (standing (leaves_of input) input.changes) last first screen
+  pub given : Draws (leaves_after (leaves_of input) input.changes) last first screen
   pub again : Draws last last first screen
 
--- without shadows the screen that is printed is that one, whatever the order of the first drawing
-abbrev pub PrintsAfresh : Type 0
-PrintsAfresh = (o : Order) (d : Data) (input : InputData) (text : List ℕ) → input_of d ≡ Ok input → HasNoShadows input →
-    (shown : ArePanesShown o input text) → AreDrawnAfresh input shown.last shown.screen
+-- without shadows the printed screen is that one, whatever the order of the first drawing
+abbrev pub PrintsAsFromBlank : Type 0
+PrintsAsFromBlank = (o : Order) (d : Data) (input : InputData) (text : List ℕ) → input_of d ≡ Ok input → HasNoShadows input →
+    (shown : ArePanesShown o input text) → AreDrawnFromBlank input shown.last shown.screen
 
--- and from last to first the same is written as from first to last
+-- and drawing from last to first writes the same as drawing from first to last
 abbrev pub ReverseIsSame : Type 0
 ReverseIsSame = (d : Data) (input : InputData) (text other : List ℕ) → input_of d ≡ Ok input → HasNoShadows input →
     IsWritten (command.Draw order.FirstToLast) input text → IsWritten (command.Draw order.LastToFirst) input other → other ≡ text

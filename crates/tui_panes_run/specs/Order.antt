@@ -1,4 +1,4 @@
--- Orders in which leaves are drawn.
+-- The orders in which leaves are drawn.
 use Rattle.std.specs.Prelude.{ℕ, List, reverse}
 use Rattle.std.specs.List.{range_with_len}
 use Rattle.tui_panes_run.specs.declared.order.Order.{Order}

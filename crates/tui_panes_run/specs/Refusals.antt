@@ -1,4 +1,4 @@
--- What is refused, and the line that says so.
+-- Why an input is rejected, and the line that says so.
 use Rattle.std.specs.Prelude.{ℕ, List, Option, codes}
 use Rattle.tui_program.specs.FieldLine.{refused_in_scene}
 use Rattle.tui_schema.specs.Field as schema
@@ -24,7 +24,7 @@ field_name fields.Item = codes "item"
 abbrev pub bad_pane : Option ℕ → PaneField → PanesRefusal
 bad_pane pane field = refusals.BadPane pane field
 
--- the line of a refusal
+-- the line that says why the input is rejected
 abbrev pub refusal_line : PanesRefusal → List ℕ
 refusal_line (refusals.BadPane pane field) = refused_in_scene (codes "pane") pane (field_name field)
 refusal_line (refusals.BadField bad) = refused_in_scene (codes "item") bad.item (schema.field_name bad.field)

@@ -1,11 +1,11 @@
--- The rules of the program: its words, and what it reads and writes.
+-- The rules of the program: its arguments, and what it reads and writes.
 use Rattle.std.specs.Prelude.{ℕ, ◌≤◌, List, [], ◌∷◌, length, codes, String}
 use Rattle.std.specs.declared.alloc.Global.{Global}
 use Rattle.tui_cells.specs.Rect.{farthest_edge}
-use Rattle.tui_program.specs.Endings.{nothing}
+use Rattle.tui_program.specs.Outcomes.{nothing}
 use Rattle.tui_program.specs.Rules.{JobRules, Rules, reading_rules}
-use Rattle.tui_program.specs.Words.{AreTexts, HaveNumbers, most_words}
-use Rattle.tui_program.proofs.Word.{few_none, few_one, few_three}
+use Rattle.tui_program.specs.Arguments.{AreTexts, HaveNumbers, most_arguments}
+use Rattle.tui_program.proofs.ArgumentLists.{few_none, few_one, few_three}
 use Rattle.tui_program.specs.declared.numerals.Numerals.{Numerals}
 use Rattle.tui_panes_run.specs.Found.{IsFound}
 use Rattle.tui_panes_run.specs.Input.{InputData, input_of}
@@ -20,17 +20,17 @@ use Rattle.tui_panes_run.specs.declared.refusal.PanesRefusal.{PanesRefusal}
 abbrev pub places : Numerals
 places = record { digits = 5; least = 0; most = farthest_edge }
 
--- the words that name a command: none, `reverse`, or `at` and two such numbers
+-- the arguments that name a command: none, `reverse`, or `at` and two such numbers
 abbrev pub Names : PanesCommand → List (String Global) → Type 0
-Names (command.Draw order.FirstToLast) words = AreTexts [] words
-Names (command.Draw order.LastToFirst) words = AreTexts (codes "reverse" ∷ []) words
-Names (command.At x y) words = HaveNumbers (codes "at") places x y words
+Names (command.Draw order.FirstToLast) arguments = AreTexts [] arguments
+Names (command.Draw order.LastToFirst) arguments = AreTexts (codes "reverse" ∷ []) arguments
+Names (command.At x y) arguments = HaveNumbers (codes "at") places x y arguments
 
--- they are three at most
-pub few_words : (c : PanesCommand) (words : List (String Global)) → Names c words → length words ≤ most_words
-few_words (command.Draw order.FirstToLast) words are = few_none words are
-few_words (command.Draw order.LastToFirst) words are = few_one (codes "reverse") words are
-few_words (command.At x y) words are = few_three (codes "at") places x y words are
+-- there are at most three
+pub few_arguments : (c : PanesCommand) (arguments : List (String Global)) → Names c arguments → length arguments ≤ most_arguments
+few_arguments (command.Draw order.FirstToLast) arguments are = few_none arguments are
+few_arguments (command.Draw order.LastToFirst) arguments are = few_one (codes "reverse") arguments are
+few_arguments (command.At x y) arguments are = few_three (codes "at") places x y arguments are
 
 -- what a command writes
 abbrev pub IsWritten : PanesCommand → InputData → List ℕ → Type 0
@@ -39,7 +39,7 @@ IsWritten (command.At x y) input text = IsFound x y input text
 
 -- what a command does with a value: nothing is written before all is drawn
 abbrev pub panes_job : PanesCommand → JobRules PanesRefusal
-panes_job c = record { Input = InputData; input_of = input_of; line = refusal_line; due = IsWritten c; part = λ input. nothing }
+panes_job c = record { Input = InputData; input_of = input_of; line = refusal_line; expected = IsWritten c; part = λ input. nothing }
 
 abbrev pub panes_rules : Rules PanesCommand PanesRefusal
 panes_rules = reading_rules Names panes_job

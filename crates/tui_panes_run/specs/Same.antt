@@ -1,4 +1,4 @@
--- Laws: refusals and endings that `==` calls equal are the same.
+-- Laws: values of `PanesRefusal` and of `PanesEnded` that are equal by `==` are the same.
 use Rattle.std.specs.Prelude.{◌≡◌, true}
 use Rattle.std.proofs.Common.{rules}
 use Rattle.std.proofs.lemmas.Bool.{and_parts}
@@ -19,7 +19,7 @@ use Rattle.tui_panes_run.specs.declared.refusal.PanesRefusal.TheVariants as refu
 same_pane_field : (a b : PaneField) → field.TheImpl.ghosts.eq a b ≡ true → a ≡ b
 same_pane_field a b e = same_true (declared enum) tt a b e
 
--- refusals that `==` calls equal are the same
+-- values of `PanesRefusal` that are equal by `==` are the same
 pub same_refusal : (a b : PanesRefusal) → refusal.TheImpl.ghosts.eq a b ≡ true → a ≡ b
 same_refusal (refusals.BadPane p f) (refusals.BadPane q g) e =
     let both = and_parts _ (field.TheImpl.ghosts.eq f g) e in
@@ -27,7 +27,7 @@ same_refusal (refusals.BadPane p f) (refusals.BadPane q g) e =
 same_refusal (refusals.BadField a) (refusals.BadField b) e = Prim.search (rules, same_bad_field a b e)
 same_refusal a b e = Prim.search rules
 
--- so are endings
+-- so are values of `PanesEnded`
 pub same_ended : (a b : PanesEnded) → ended.TheImpl.ghosts.eq a b ≡ true → a ≡ b
 same_ended (endings.BadPane p f) (endings.BadPane q g) e =
     let both = and_parts _ (field.TheImpl.ghosts.eq f g) e in

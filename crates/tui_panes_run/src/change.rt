@@ -16,39 +16,41 @@ use std::alloc::Global;
 use tui_json::{Counted, Fields, InputError, Numbered, Object, each_numbered, optional, required};
 use tui_scene::Item;
 
-/// A widget that is put in the place of a leaf's.
+/// A widget that replaces the one of a leaf.
 #[derive(Drop)]
-pub(crate) struct Change<'v> {
-    /// The leaf's number.
+pub(crate) struct PaneChange<'v> {
+    /// The number of the leaf.
     pub(crate) leaf: usize,
     pub(crate) item: Item<'v>,
 }
 
-/// The changes of an input with these leaves; none where they are absent or null.
+/// Reads the changes of an input that has these leaves. There are none if the field is absent or null.
 #[tactic(auto, unfolding(crate::specs::Changes::changes_in))]
 pub(crate) fn read_changes<'v>(
     alloc: Global,
     counts: Counts,
     value: &'v Value,
-) -> Result<Vec<Change<'v>>, InputError<PanesRefusal>>
+) -> Result<Vec<PaneChange<'v>>, InputError<PanesRefusal>>
     ensures { Gives (λ changes. map change_data changes.items) result (changes_in counts.leaves (view value.now)) }
 {
     let found: Option<Counted<'v, 0, 256>> = optional(alloc, None, PaneField::Changes, value)?;
     match found {
-        Some(Counted(values)) => each_numbered::<Change<'v>, ChangeField>(alloc, counts, values),
+        Some(Counted(values)) => each_numbered::<PaneChange<'v>, ChangeField>(
+            alloc, counts, values,
+        ),
         None => Ok(Vec::new(alloc)),
     }
 }
 
-impl<'v> Numbered<'v, ChangeField> for Change<'v> {
+impl<'v> Numbered<'v, ChangeField> for PaneChange<'v> {
     ghost use Rattle.tui_panes_run.specs.Changes.{ChangeData};
 
     /// The leaves that a change may name.
-    type Known = Counts;
+    type Context = Counts;
 
-    ghost Seen = { ChangeData };
+    ghost AsData = { ChangeData };
 
-    ghost seen = { change_data };
+    ghost as_data = { change_data };
 
     ghost tests = { λ counts. change_in counts.leaves };
 
@@ -58,15 +60,15 @@ impl<'v> Numbered<'v, ChangeField> for Change<'v> {
         counts: Counts,
         number: usize,
         value: &'v Value,
-    ) -> Result<Change<'v>, InputError<PanesRefusal>> {
+    ) -> Result<PaneChange<'v>, InputError<PanesRefusal>> {
         let leaf = read_place(alloc, counts.leaves, value)?;
         let Object(item) = required(alloc, None, ChangeField::Item, value)?;
         let item = read_item(alloc, counts.leaves + number, item)?;
-        Ok(Change { leaf, item })
+        Ok(PaneChange { leaf, item })
     }
 }
 
-/// The number of a leaf, of which there are that many.
+/// Reads the number of a leaf, which must be less than `leaves`.
 fn read_place(
     alloc: Global,
     leaves: usize,

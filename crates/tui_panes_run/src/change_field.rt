@@ -4,7 +4,7 @@ use crate::field::PaneField;
 use crate::refusal::PanesRefusal;
 use tui_json::Fields;
 
-/// A field of a change in JSON. What is wrong with one is refused at `changes`.
+/// A field of a change in JSON. An invalid one is reported as the field `changes` of the input.
 #[derive(Clone, Copy)]
 pub(crate) enum ChangeField {
     Leaf,

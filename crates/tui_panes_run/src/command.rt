@@ -1,47 +1,49 @@
-//! The commands: their words, and what they write.
+//! The commands: their arguments, and what they write.
 
 ghost use Rattle.std.specs.Prelude.{◌≤◌, ◌<◌, All, length};
-ghost use Rattle.tui_program.specs.Endings.{AnswersWith, no_refusal, nothing};
+ghost use Rattle.tui_program.specs.Outcomes.{AnswersWith, no_refusal, nothing};
 ghost use Rattle.tui_panes_lib.specs.Levels.{levels};
 ghost use Rattle.tui_panes_run.specs.Found.{IsFound};
 ghost use Rattle.tui_panes_run.specs.Input.{input_data};
 ghost use Rattle.tui_panes_run.specs.Rules.{IsWritten};
 ghost use Rattle.tui_panes_run.specs.Shown.{ArePanesShown, leaves_of};
 
-use crate::finding::{leaf_in, put_leaf};
+use crate::finding::{leaf_in, write_leaf_line};
 use crate::input::{Input, read_input};
 use crate::order::Order;
-use crate::refusal::{PanesRefusal, put_refusal};
+use crate::refusal::{PanesRefusal, write_refusal};
 use crate::screen::{drawn, placed};
 use serde_json::Value;
 use std::alloc::Global;
 use tui_cells::Position;
-use tui_outside::{Sink, WriteFault};
+use tui_io::{Sink, WriteFault};
 use tui_print::write_screen;
-use tui_program::{Job, Leftovers, Numerals, Reader, Stop, are_none, is_word, numbers_after};
+use tui_program::{
+    Cleanup, Job, JsonCommand, Numerals, Stop, are_empty, is_single_argument, numbers_after,
+};
 
 /// A command of the program. Each reads a tree of panes and changes.
 #[derive(Clone, Copy, Debug, PartialEq, Eq)]
 pub enum PanesCommand {
-    /// Draws the panes in an order and makes the changes, and writes the screen. No words: from first to last; `reverse`: from last
-    /// to first.
+    /// Draws the panes in an order, makes the changes, and writes the screen. Without arguments the order is from first
+    /// to last; with `reverse` it is from last to first.
     Draw(Order),
-    /// `at X Y` writes which leaf stands at a position; nothing is drawn.
+    /// `at X Y` writes which leaf is at a position, and draws nothing.
     At { x: u16, y: u16 },
 }
 
-impl Reader for PanesCommand {
-    ghost use Rattle.tui_panes_run.specs.Rules.{Names, few_words};
+impl JsonCommand for PanesCommand {
+    ghost use Rattle.tui_panes_run.specs.Rules.{Names, few_arguments};
 
     ghost named = { Names };
 
-    ghost few = { few_words };
+    ghost few = { few_arguments };
 
-    fn reader_of(words: &[String]) -> Option<PanesCommand> {
-        if are_none(words) {
+    fn json_command_of(arguments: &[String]) -> Option<PanesCommand> {
+        if are_empty(arguments) {
             return Some(PanesCommand::Draw(Order::FirstToLast));
         }
-        if is_word(words, "reverse") {
+        if is_single_argument(arguments, "reverse") {
             return Some(PanesCommand::Draw(Order::LastToFirst));
         }
         let places = Numerals {
@@ -49,7 +51,7 @@ impl Reader for PanesCommand {
             least: 0,
             most: 65_535,
         };
-        match numbers_after(words, "at", places) {
+        match numbers_after(arguments, "at", places) {
             Some((x, y)) => Some(PanesCommand::At {
                 x: x as u16,
                 y: y as u16,
@@ -71,32 +73,32 @@ impl Job for PanesCommand {
         alloc: Global,
         value: &Value,
         sink: &mut K,
-        leftovers: Leftovers,
+        cleanup: Cleanup,
     ) -> Result<(), Stop<PanesRefusal>> {
         let input = read_input(alloc, value)?;
-        write(*self, alloc, input, sink, leftovers)
+        write(*self, alloc, input, sink, cleanup)
     }
 
-    fn refuse<K: Sink>(&self, refusal: PanesRefusal, sink: &mut K) -> Result<(), WriteFault> {
-        put_refusal(refusal, sink)
+    fn reject<K: Sink>(&self, refusal: PanesRefusal, sink: &mut K) -> Result<(), WriteFault> {
+        write_refusal(refusal, sink)
     }
 }
 
-/// Writes what is due for an input.
+/// Runs a command on an input, and writes its output.
 fn write<K: Sink>(
     command: PanesCommand,
     alloc: Global,
     input: Input<'_>,
     sink: &mut K,
-    leftovers: Leftovers,
+    cleanup: Cleanup,
 ) -> Result<(), Stop<PanesRefusal>>
     requires depth { levels (input_data input).root ≤ 32 }
     requires leaves { All (λ c. c.leaf < length (leaves_of (input_data input))) (input_data input).changes }
-    ensures { AnswersWith (IsWritten command (input_data input.entry)) nothing no_refusal (K.told sink.old) (K.told sink.new) result }
+    ensures { AnswersWith (IsWritten command (input_data input.entry)) nothing no_refusal (K.observed sink.old) (K.observed sink.new) result }
 {
     match command {
-        PanesCommand::Draw(order) => show(alloc, input, order, sink, leftovers),
-        PanesCommand::At { x, y } => find(alloc, input, Position { x, y }, sink, leftovers),
+        PanesCommand::Draw(order) => show(alloc, input, order, sink, cleanup),
+        PanesCommand::At { x, y } => find(alloc, input, Position { x, y }, sink, cleanup),
     }
 }
 
@@ -105,15 +107,15 @@ fn show<K: Sink>(
     input: Input<'_>,
     order: Order,
     sink: &mut K,
-    leftovers: Leftovers,
+    cleanup: Cleanup,
 ) -> Result<(), Stop<PanesRefusal>>
     requires depth { levels (input_data input).root ≤ 32 }
     requires leaves { All (λ c. c.leaf < length (leaves_of (input_data input))) (input_data input).changes }
-    ensures { AnswersWith (ArePanesShown order (input_data input.entry)) nothing no_refusal (K.told sink.old) (K.told sink.new) result }
+    ensures { AnswersWith (ArePanesShown order (input_data input.entry)) nothing no_refusal (K.observed sink.old) (K.observed sink.new) result }
 {
     let screen = drawn(alloc, input, order)?;
     write_screen(&screen.buffer, screen.panes.scene(), sink)?;
-    leftovers.done_with(screen);
+    cleanup.dispose_of(screen);
     Ok(())
 }
 
@@ -122,16 +124,16 @@ fn find<K: Sink>(
     input: Input<'_>,
     position: Position,
     sink: &mut K,
-    leftovers: Leftovers,
+    cleanup: Cleanup,
 ) -> Result<(), Stop<PanesRefusal>>
     requires { levels (input_data input).root ≤ 32 }
     ensures { AnswersWith (IsFound position.x position.y (input_data input.entry)) nothing no_refusal
-        (K.told sink.old) (K.told sink.new) result }
+        (K.observed sink.old) (K.observed sink.new) result }
 {
     let panes = placed(alloc, input.size, input.root)?;
     let leaf = leaf_in(&panes, position);
-    let put = put_leaf(leaf, sink);
-    leftovers.done_with(panes);
-    put?;
+    let written = write_leaf_line(leaf, sink);
+    cleanup.dispose_of(panes);
+    written?;
     Ok(())
 }

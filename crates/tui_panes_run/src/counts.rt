@@ -1,11 +1,12 @@
-//! How many panes are read.
+//! Counts of the panes that were read.
 
 ghost use Rattle.std.specs.Prelude.{◌<◌, ◌≤◌};
 
-/// A tree has at most this many panes.
+/// The most panes that a tree may have.
 pub(crate) const MOST_PANES: usize = 256;
 
-/// How many panes are read, and how many of them are leaves: the numbers of the next pane and of the next leaf.
+/// How many panes were read, and how many of them are leaves. These are also the numbers of the next pane and of the
+/// next leaf.
 #[derive(Clone, Copy)]
 pub(crate) struct Counts {
     pub(crate) panes: usize,
@@ -18,7 +19,7 @@ impl Counts {
     ghost use Rattle.std.specs.Prelude.{◌≡◌};
     ghost use Rattle.tui_panes_run.specs.Counts.{counts_data, no_panes, with_leaf, with_split};
 
-    /// Before the first pane.
+    /// Returns the counts before the first pane.
     pub(crate) fn none() -> Counts
         ensures { counts_data result ≡ no_panes }
     {
@@ -28,7 +29,7 @@ impl Counts {
         }
     }
 
-    /// With one leaf more.
+    /// Returns the counts with one more leaf.
     pub(crate) fn with_leaf(self) -> Counts
         requires { self.panes < 256 }
         ensures { counts_data result ≡ with_leaf (counts_data self) }
@@ -39,7 +40,7 @@ impl Counts {
         }
     }
 
-    /// With one split more.
+    /// Returns the counts with one more split.
     pub(crate) fn with_split(self) -> Counts
         requires { self.panes < 256 }
         ensures { counts_data result ≡ with_split (counts_data self) }

@@ -3,61 +3,61 @@
 use crate::field::PaneField;
 use crate::refusal::PanesRefusal;
 use std::process::ExitCode;
-use tui_program::{Broken, Ending, Written};
+use tui_program::{Broken, Outcome, Written};
 use tui_schema::{BadField, Field};
 
-/// How a run ends. Only `Ok` has written the output whole; the endings from `Usage` to `BadField` have written one line that says so.
+/// How a run ends. Only `Ok` has written the output in full. `Usage`, `TooLong`, `NotJson`, `BadPane` and `BadField`
+/// have written one line that says so.
 #[derive(Clone, Copy, Debug, PartialEq, Eq)]
 pub enum PanesEnded {
-    /// All was read and written.
+    /// The input was read, and the output was written.
     Ok,
-    /// The words name no command.
+    /// The arguments name no command.
     Usage,
     /// The input has more than 1,048,576 bytes.
     TooLong,
-    /// The input is no JSON in UTF-8.
+    /// The input is not JSON in UTF-8.
     NotJson,
-    /// A field of the input, or of the pane of this number, is missing or of the wrong kind. Panes count from 0, outermost and first
-    /// part first.
+    /// A field is missing or of the wrong kind. With `pane` it is a field of the pane of this number; otherwise it is a
+    /// field of the input. Panes are numbered from 0, a split before its parts, and its parts in order.
     BadPane {
         pane: Option<usize>,
         field: PaneField,
     },
-    /// A field of the widget of this number is missing or of the wrong kind. The widget of a leaf has the leaf's number, from 0; that
-    /// of a change the number of leaves and the change's, from 0.
+    /// A field of the widget of this number is missing or of the wrong kind. The widget of a leaf has the leaf's
+    /// number, from 0. The widget of a change has the number of leaves plus the index of the change, from 0.
     BadField {
         item: Option<usize>,
         field: Field,
     },
-    /// A read failed; nothing is written.
+    /// A read failed; nothing was written.
     ReadFault,
-    /// A put failed; the sink holds the first bytes of the output.
+    /// A write failed; the sink has a first part of the output.
     WriteFault,
-    /// The memory was not there; nothing is written.
+    /// Memory ran out; nothing was written.
     NoMemory,
 }
 
-impl From<Ending<PanesRefusal>> for PanesEnded {
+impl From<Outcome<PanesRefusal>> for PanesEnded {
     ghost use Rattle.std.specs.Prelude.{◌≡◌};
-    ghost use Rattle.tui_panes_run.specs.Ended.{ending_of};
+    ghost use Rattle.tui_panes_run.specs.Ended.{outcome_of};
 
-    ghost from_gives = { λ ending ended. ending_of ended ≡ ending };
+    ghost from_gives = { λ outcome ended. outcome_of ended ≡ outcome };
 
-    fn from(ending: Ending<PanesRefusal>) -> PanesEnded {
-        match ending {
-            Ending::Written(Written::Output) => PanesEnded::Ok,
-            Ending::Written(Written::Usage) => PanesEnded::Usage,
-            Ending::Written(Written::TooLong) => PanesEnded::TooLong,
-            Ending::Written(Written::NotJson) => PanesEnded::NotJson,
-            Ending::Written(Written::Refused(PanesRefusal::BadPane { pane, field })) => {
+    fn from(outcome: Outcome<PanesRefusal>) -> PanesEnded {
+        match outcome {
+            Outcome::Written(Written::Output) => PanesEnded::Ok,
+            Outcome::Written(Written::Usage) => PanesEnded::Usage,
+            Outcome::Written(Written::TooLong) => PanesEnded::TooLong,
+            Outcome::Written(Written::NotJson) => PanesEnded::NotJson,
+            Outcome::Written(Written::Refused(PanesRefusal::BadPane { pane, field })) => {
                 PanesEnded::BadPane { pane, field }
             }
-            Ending::Written(Written::Refused(PanesRefusal::BadField(BadField { item, field }))) => {
-                PanesEnded::BadField { item, field }
-            }
-            Ending::Broken(Broken::ReadFault) => PanesEnded::ReadFault,
-            Ending::Broken(Broken::WriteFault) => PanesEnded::WriteFault,
-            Ending::Broken(Broken::NoMemory) => PanesEnded::NoMemory,
+            Outcome::Written(Written::Refused(PanesRefusal::BadField(BadField { item, field }))) =>
+                { PanesEnded::BadField { item, field } }
+            Outcome::Broken(Broken::ReadFault) => PanesEnded::ReadFault,
+            Outcome::Broken(Broken::WriteFault) => PanesEnded::WriteFault,
+            Outcome::Broken(Broken::NoMemory) => PanesEnded::NoMemory,
         }
     }
 }
@@ -67,7 +67,7 @@ impl PanesEnded {
     ghost use Rattle.std.specs.Process.{exit_status};
     ghost use Rattle.tui_panes_run.specs.Ended.{status_of};
 
-    /// The exit status of the program.
+    /// Returns the exit status of the program.
     pub fn status(&self) -> u8
         ensures { result ≡ status_of self.now }
     {
@@ -84,7 +84,7 @@ impl PanesEnded {
         }
     }
 
-    /// The exit status, as `main` answers it.
+    /// Returns the exit status as `main` returns it.
     pub fn exit_code(&self) -> ExitCode
         ensures { exit_status result ≡ status_of self.now }
     {

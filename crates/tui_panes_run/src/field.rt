@@ -22,7 +22,7 @@ impl PaneField {
     ghost use Rattle.std.specs.Prelude.{◌≡◌};
     ghost use Rattle.tui_panes_run.specs.Refusals.{field_name};
 
-    /// Its name in the input, as `parts`.
+    /// Returns its name in the input, such as `parts`.
     pub fn name(&self) -> &'static str
         ensures { result.now ≡ field_name self.now }
     {

@@ -4,7 +4,7 @@ ghost use Rattle.serde_json.specs.View.{view};
 ghost use Rattle.tui_json.specs.Refusals.{Gives};
 ghost use Rattle.tui_panes_run.specs.Input.{input_data, input_of, size_in};
 
-use crate::change::{Change, read_changes};
+use crate::change::{PaneChange, read_changes};
 use crate::counts::Counts;
 use crate::field::PaneField;
 use crate::refusal::PanesRefusal;
@@ -14,7 +14,7 @@ use std::alloc::Global;
 use tui_json::{Fields, InputError, Within, any_member, required};
 use tui_panes_lib::Pane;
 
-/// So many levels may stand below the root.
+/// The most levels below the root.
 const ROOM: u8 = 31;
 
 /// The size of a screen, in columns and rows.
@@ -24,15 +24,15 @@ pub(crate) struct Size {
     pub(crate) height: u16,
 }
 
-/// All fields of an input. Its texts are borrowed from the value that was read.
+/// All fields of an input. Its strings are borrowed from the JSON value.
 #[derive(Drop)]
 pub(crate) struct Input<'v> {
     pub(crate) size: Size,
     pub(crate) root: Pane<'v>,
-    pub(crate) changes: Vec<Change<'v>>,
+    pub(crate) changes: Vec<PaneChange<'v>>,
 }
 
-/// The input that a value is. It is refused at the first test that fails.
+/// Reads an input from a JSON value. Rejects the first field that fails its test.
 #[tactic(auto, unfolding(crate::specs::Input::input_of))]
 pub(crate) fn read_input<'v>(
     alloc: Global,

@@ -12,8 +12,8 @@ use tui_json::InputError;
 use tui_scene::Item;
 use tui_schema::item_without_area;
 
-/// The widget that a value is. Its area is that of its leaf, which is known once the tree is. It is refused at the first of its
-/// fields that is missing or not of its kind, with this number.
+/// Reads a widget from a JSON value. Its area is that of its leaf, which is known once the tree is read. Rejects the
+/// first field of the widget that is missing or of the wrong kind, with this number.
 pub(crate) fn read_item<'v>(
     alloc: Global,
     number: usize,

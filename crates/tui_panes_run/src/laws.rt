@@ -1,12 +1,12 @@
-//! What holds of the program's output.
+//! What holds for the program's output.
 
-ghost use Rattle.tui_panes_run.specs.Laws.{OutputIsOne, PrintsAfresh, ReverseIsSame};
+ghost use Rattle.tui_panes_run.specs.Laws.{OutputIsOne, PrintsAsFromBlank, ReverseIsSame};
 
-/// An input has one output, whatever the run. Where no widget that stands in a leaf or is put there has a shadow, the screen that is
-/// printed is the one that the widgets that stand there at last draw on a blank buffer, from first to last; so `reverse` writes the
+/// Every run over an input writes the same output. Suppose that no widget of a leaf or of a change has a shadow. Then
+/// the printed screen is what the final widgets draw on a blank buffer, from first to last. So `reverse` writes the
 /// same.
 pub fn output_laws()
     ensures one { OutputIsOne }
-    ensures afresh { PrintsAfresh }
+    ensures from_blank { PrintsAsFromBlank }
     ensures reverse { ReverseIsSame }
 {}

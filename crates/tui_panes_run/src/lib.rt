@@ -1,5 +1,5 @@
-//! The program of panes: it reads a tree of panes in JSON and changes of single ones, and writes the screen or which leaf stands at a
-//! position.
+//! The program `tui_panes`: it reads a tree of panes and changes of single panes in JSON. It writes the screen, or
+//! which leaf is at a position.
 #![tactic(auto)]
 
 mod change;

@@ -1,4 +1,4 @@
-//! Orders in which leaves are drawn.
+//! The orders in which leaves are drawn.
 
 ghost use Rattle.std.specs.Prelude.{◌≡◌, IfOk, reverse};
 ghost use Rattle.std.specs.List.{range_with_len};
@@ -7,7 +7,7 @@ ghost use Rattle.tui_panes_run.specs.Order.{numbers_of};
 use std::alloc::Global;
 use tui_cells::Mem;
 
-/// In which order the leaves are drawn.
+/// The order in which leaves are drawn.
 #[derive(Clone, Copy, Debug, PartialEq, Eq)]
 pub enum Order {
     FirstToLast,
@@ -15,7 +15,7 @@ pub enum Order {
 }
 
 impl Order {
-    /// The numbers of this many leaves in this order.
+    /// Returns the numbers of this many leaves in this order.
     pub(crate) fn numbers(self, alloc: Global, count: usize) -> Mem<Vec<usize>>
         ensures { IfOk result (λ numbers. numbers.items ≡ numbers_of self count) }
     {

@@ -1,4 +1,4 @@
-//! Plain values of the program, which `==` tells apart and a clone leaves as they are.
+//! Plain values of the program: equal by `==` means the same, and a clone is the value.
 
 ghost use Rattle.std.proofs.Common.{rules};
 ghost use Rattle.tui_panes_run.specs.Same.{same_ended, same_refusal};
@@ -8,33 +8,33 @@ use crate::ended::PanesEnded;
 use crate::field::PaneField;
 use crate::order::Order;
 use crate::refusal::PanesRefusal;
-use tui_program::Plain;
+use tui_program::PlainValue;
 
-impl Plain for Order {
+impl PlainValue for Order {
     ghost same = { Prim.search rules };
 
     ghost cloned = { Prim.search rules };
 }
 
-impl Plain for PanesCommand {
+impl PlainValue for PanesCommand {
     ghost same = { Prim.search rules };
 
     ghost cloned = { Prim.search rules };
 }
 
-impl Plain for PaneField {
+impl PlainValue for PaneField {
     ghost same = { Prim.search rules };
 
     ghost cloned = { Prim.search rules };
 }
 
-impl Plain for PanesRefusal {
+impl PlainValue for PanesRefusal {
     ghost same = { same_refusal };
 
     ghost cloned = { Prim.search rules };
 }
 
-impl Plain for PanesEnded {
+impl PlainValue for PanesEnded {
     ghost same = { same_ended };
 
     ghost cloned = { Prim.search rules };

@@ -4,7 +4,7 @@ ghost use Rattle.std.specs.Prelude.{◌≡◌, ◌≤◌, ◌<◌, All, IfOk, On
 ghost use Rattle.tui_cells.specs.Rect.{area_of};
 ghost use Rattle.tui_scene.specs.Laws.{Draws};
 ghost use Rattle.tui_scene.specs.Redraw.{IsOrder};
-ghost use Rattle.tui_scene.specs.Scene.{Run};
+ghost use Rattle.tui_scene.specs.Scene.{DrawRun};
 ghost use Rattle.tui_panes_lib.specs.Draw.{in_order, panes_after};
 ghost use Rattle.tui_panes_lib.specs.Panes.{panes_of};
 ghost use Rattle.tui_panes_lib.specs.Levels.{levels};
@@ -14,7 +14,7 @@ ghost use Rattle.tui_panes_run.specs.Input.{input_data};
 ghost use Rattle.tui_panes_run.specs.Order.{numbers_of};
 ghost use Rattle.tui_panes_run.specs.Shown.{AreChanged, ArePanesDrawn, leaves_of, screen_area};
 
-use crate::change::Change;
+use crate::change::PaneChange;
 use crate::input::{Input, Size};
 use crate::order::Order;
 use std::alloc::Global;
@@ -28,7 +28,7 @@ pub(crate) struct Screen<'v> {
     pub(crate) buffer: Buffer,
 }
 
-/// The panes of a tree on a screen of this size.
+/// Returns the panes of a tree on a screen of this size.
 pub(crate) fn placed<'v>(alloc: Global, size: Size, root: Pane<'v>) -> Mem<Panes<'v>>
     requires { levels (pane_data root) ≤ 32 }
     ensures { IfOk result (λ panes. panes ≡ panes_of (area_of 0 0 size.width size.height) (pane_data root.entry)) }
@@ -37,12 +37,12 @@ pub(crate) fn placed<'v>(alloc: Global, size: Size, root: Pane<'v>) -> Mem<Panes
     match Panes::new(alloc, area, root) {
         Ok(panes) => Ok(panes),
         Err(PanesError::NoMemory) => Err(NoMemory),
-        // The tree was read with 32 levels at most.
+        // The tree was read with at most 32 levels.
         Err(PanesError::TooDeep) => unreachable!(),
     }
 }
 
-/// Draws all panes of an input in an order, and then makes its changes, each of which draws one pane anew.
+/// Draws all panes of an input in an order. Then makes its changes, each of which redraws one pane.
 pub(crate) fn drawn<'v>(alloc: Global, input: Input<'v>, order: Order) -> Mem<Screen<'v>>
     requires depth { levels (input_data input).root ≤ 32 }
     requires leaves { All (λ c. c.leaf < length (leaves_of (input_data input))) (input_data input).changes }
@@ -59,12 +59,12 @@ pub(crate) fn drawn<'v>(alloc: Global, input: Input<'v>, order: Order) -> Mem<Sc
     let numbers = numbers_in(alloc, &panes, order)?;
     draw_all(alloc, &mut panes, &numbers, &mut buffer)?;
     change_each(alloc, &mut panes, changes, &mut buffer)?;
-    // A print goes by rows, so their shape is part of what is drawn: `height` tells it.
+    // A screen is printed by its rows, so the proofs need their shape: this call gives it.
     let _height = buffer.height();
     Ok(Screen { panes, buffer })
 }
 
-/// The numbers of the leaves of panes in an order.
+/// Returns the numbers of the leaves of panes in an order.
 fn numbers_in(alloc: Global, panes: &Panes<'_>, order: Order) -> Mem<Vec<usize>>
     ensures { IfOk result (λ numbers. numbers.items ≡ numbers_of order (length panes.now.leaves)) }
 {
@@ -73,7 +73,7 @@ fn numbers_in(alloc: Global, panes: &Panes<'_>, order: Order) -> Mem<Vec<usize>>
 
 fn draw_all(alloc: Global, panes: &mut Panes<'_>, numbers: &[usize], buffer: &mut Buffer) -> Mem<()>
     requires { IsOrder (length panes.old.leaves) numbers.now }
-    ensures run { OnOk result (Run (in_order numbers.now panes.old.leaves) (in_order numbers.now panes.new.leaves) buffer.old buffer.new) }
+    ensures run { OnOk result (DrawRun (in_order numbers.now panes.old.leaves) (in_order numbers.now panes.new.leaves) buffer.old buffer.new) }
     ensures strokes { OnOk result
         (Draws (in_order numbers.now panes.old.leaves) (in_order numbers.now panes.new.leaves) buffer.old buffer.new) }
     ensures states { OnOk result (panes.new ≡ panes_after buffer.old.area panes.old) }
@@ -81,7 +81,7 @@ fn draw_all(alloc: Global, panes: &mut Panes<'_>, numbers: &[usize], buffer: &mu
     match panes.draw(alloc, numbers, buffer) {
         Ok(()) => Ok(()),
         Err(OrderError::NoMemory { .. }) => Err(NoMemory),
-        // The numbers have each leaf once.
+        // The numbers contain each leaf once.
         Err(OrderError::NotOrder) => unreachable!(),
     }
 }
@@ -89,7 +89,7 @@ fn draw_all(alloc: Global, panes: &mut Panes<'_>, numbers: &[usize], buffer: &mu
 fn change_each<'v>(
     alloc: Global,
     panes: &mut Panes<'v>,
-    changes: Vec<Change<'v>>,
+    changes: Vec<PaneChange<'v>>,
     buffer: &mut Buffer,
 ) -> Mem<()>
     requires { All (λ c. c.leaf < length panes.old.leaves) (map change_data changes.items) }

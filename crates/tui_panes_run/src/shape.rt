@@ -11,7 +11,7 @@ use std::alloc::Global;
 use tui_json::{InputError, optional, optional_named};
 use tui_layout::{Direction, Flex};
 
-/// How a split is cut, but for the sizes of its parts.
+/// How a split is cut, except for the sizes of its parts.
 #[derive(Clone, Copy)]
 pub(crate) struct Shape {
     pub(crate) direction: Direction,
@@ -19,7 +19,7 @@ pub(crate) struct Shape {
     pub(crate) flex: Flex,
 }
 
-/// The shape of the split of this number; what is absent or null is Horizontal, 0 and Start.
+/// Reads the shape of the split of this number. A field that is absent or null is Horizontal, 0 or Start.
 #[tactic(auto, unfolding(crate::specs::Tree::shape_in))]
 pub(crate) fn read_shape(
     alloc: Global,

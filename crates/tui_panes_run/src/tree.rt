@@ -20,8 +20,8 @@ use tui_layout::Constraint;
 use tui_panes_lib::{Pane, Part};
 use tui_scene::Item;
 
-/// The pane that a value is, which may have this many levels below its own, and the counts behind it. It is refused at the first test of
-/// it, or of a pane inside it, that fails.
+/// Reads a pane that may have `room` levels below its own, and returns it with the counts after it. Rejects the first
+/// field that fails its test, of this pane or of a pane inside it.
 #[cycle(panes)]
 #[tactic(auto, using(crate::proofs::Trees::as_split, crate::proofs::Trees::as_leaf))]
 pub(crate) fn read_pane<'v>(
@@ -52,7 +52,7 @@ fn read_lone<'v>(
     Ok((Pane::Leaf(item), counts.with_leaf()))
 }
 
-/// The widget of the next leaf.
+/// Reads the widget of the next leaf.
 #[tactic(auto, unfolding(crate::specs::Tree::leaf_in))]
 fn read_leaf<'v>(
     alloc: Global,
@@ -100,7 +100,8 @@ fn read_split<'v>(
     Ok((pane, counts))
 }
 
-/// The values of the parts of the next pane, where there is room for it and for a level below it.
+/// Reads the values of the parts of the next pane. Rejects the pane if there is no room for it, or for a level below
+/// it.
 #[tactic(auto, unfolding(crate::specs::Tree::values_in))]
 fn read_values<'v>(
     alloc: Global,
@@ -121,7 +122,7 @@ fn read_values<'v>(
     }
 }
 
-/// The parts of the split of this number, and the counts behind them.
+/// Reads the parts of the split of this number, and returns them with the counts after them.
 #[cycle(panes)]
 fn read_parts<'v>(
     alloc: Global,

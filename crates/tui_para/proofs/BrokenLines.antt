@@ -1,4 +1,4 @@
--- Where a line is broken, found backwards from the grapheme that doesn't fit.
+-- Where a line is broken, searched backwards from the grapheme that doesn't fit.
 use Rattle.std.proofs.Common.{◌≡◌, ℕ, zero, suc, ◌+◌, ◌-◌, ◌<◌, ◌≤◌, List, [], ◌∷◌, ◌++◌, length, get_or, take, drop, Bool, true, false, cond, refl, sym, ap, ◌∙◌, arith, ⊎_elim}
 use Rattle.std.specs.Prelude.{◌⊎◌, not, ◌&&◌, nat_le, nat_lt}
 use Rattle.std.proofs.lemmas.Bool.{cond-true, cond-false, le-leb, lt-leb}
@@ -7,7 +7,7 @@ use Rattle.tui_para.specs.Places.{broken_len, goes_on_for, pieces_len}
 use Rattle.tui_para.specs.Wrapped.{ends_in, no_blank}
 
 module _ {A : Type 0} (ends blank : A → Bool) (size : A → ℕ) where
-  -- whether a word is under way behind these, and how far their last piece that has ended goes
+  -- whether a word is under way after these graphemes, and where their last piece that has ended ends
   abbrev pub in_word : List A → Bool
   in_word xs = ends_in (no_blank blank) false xs
 
@@ -41,7 +41,7 @@ module _ {A : Type 0} (ends blank : A → Bool) (size : A → ℕ) where
         let long : 0 + length (take i xs) ≡ i = let e = length-take-le i xs (omega arith) in omega arith in
         ap ended (take_more xs i d near) ∙ (pieces_push false 0 0 (take i xs) x ∙ ap (λ k. cond (in_word (take i xs) && ends x) k (ended (take i xs))) long)
 
-    -- where it fits, the line goes on
+    -- if the grapheme fits, the line goes on
     pub fits_at : (room : ℕ) → size x ≤ room →
         goes_on_for ends blank size (in_word (take (i + 1) xs)) (ended (take (i + 1) xs)) (i + 1) (room - size x) (drop (i + 1) xs)
         ≡ goes_on_for ends blank size (in_word (take i xs)) (ended (take i xs)) i room (drop i xs)
@@ -56,7 +56,7 @@ module _ {A : Type 0} (ends blank : A → Bool) (size : A → ℕ) where
         ∙ (sym (cond-true (nat_le (size x) room) on (cond (nat_lt 0 next) next i) (le-leb (size x) room fits))
         ∙ sym (ap (goes_on_for ends blank size (in_word (take i xs)) (ended (take i xs)) i room) (drop_more xs i d near)))))
 
-    -- where it doesn't, it is broken
+    -- if it doesn't fit, the line is broken
     pub breaks_at : (room : ℕ) → room < size x → broken_len ends blank i xs ≡ goes_on_for ends blank size (in_word (take i xs)) (ended (take i xs)) i room (drop i xs)
     breaks_at room wide =
         let next = cond (in_word (take i xs) && ends x) i (ended (take i xs)) in
@@ -65,7 +65,7 @@ module _ {A : Type 0} (ends blank : A → Bool) (size : A → ℕ) where
         ∙ (sym (cond-false (nat_le (size x) room) on (cond (nat_lt 0 next) next i) (lt-leb (size x) room wide))
         ∙ sym (ap (goes_on_for ends blank size (in_word (take i xs)) (ended (take i xs)) i room) (drop_more xs i d near)))
 
-  -- a piece has ended at a place or not, which what stands before it and at it tell
+  -- whether a piece has ended at an index depends only on the grapheme before it and the one at it
   pub piece_ends : (xs : List A) (place : ℕ) (d : A) → 0 < place → place < length xs →
       ended (take (place + 1) xs) ≡ cond (not (blank (get_or xs (place - 1) d)) && ends (get_or xs place d)) place (ended (take place xs))
   piece_ends xs place d some near =
@@ -80,13 +80,13 @@ module _ {A : Type 0} (ends blank : A → Bool) (size : A → ℕ) where
   and_false true = refl
   and_false false = refl
 
-  -- an element is the same whatever stands for those that are lacking
+  -- an element within the list doesn't depend on the default for those past its end
   get_or_any : (xs : List A) (i : ℕ) (d e : A) → i < length xs → get_or xs i d ≡ get_or xs i e
   get_or_any [] i d e near = absurd (omega arith)
   get_or_any (x ∷ xs) zero d e near = refl
   get_or_any (x ∷ xs) (suc i) d e near = get_or_any xs i d e (omega arith)
 
-  -- from a place back: a piece ends there, or at none before it
+  -- searching backwards from an index: a piece ends there, or the search goes on before it
   module _ (xs : List A) (n place : ℕ) (d e : A) (some : 0 < place) (near : place < length xs) where
     pub ends_there : ends (get_or xs place d) ≡ true → blank (get_or xs (place - 1) e) ≡ false → ended (take (place + 1) xs) ≡ ended (take (n + 1) xs) → place ≡ broken_len ends blank n xs
     ends_there there before all =

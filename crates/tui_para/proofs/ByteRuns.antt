@@ -8,11 +8,11 @@ use Rattle.std.proofs.lemmas.List.Folds.{list_all-append}
 use Rattle.tui_cells.specs.declared.rect.Rect.{Rect}
 use Rattle.tui_cells.specs.declared.style.Style.{Style}
 use Rattle.tui_cells.specs.Buffer.{Screen}
-use Rattle.tui_cells.specs.Cell.{dress, put}
+use Rattle.tui_cells.specs.Cell.{set_style, write}
 use Rattle.tui_cells.specs.Layers.{KeptOutside, Layer, Painted, ascii_layers, at_place, in_row, over}
 use Rattle.tui_cells.specs.Rect.{bottom_of, covers, right_of}
 use Rattle.tui_cells.proofs.Painting.{KeptOutside-weaker, Painted-kept, Painted-then}
-use Rattle.tui_cells.proofs.Spelling.{ascii_stays}
+use Rattle.tui_cells.proofs.RowWritingLaws.{ascii_stays}
 use Rattle.tui_clusters.specs.Width.{width_of}
 use Rattle.tui_text.specs.Grapheme.{Glyph, glyph_of}
 use Rattle.tui_clusters.specs.Printable.{is_printable}
@@ -26,13 +26,13 @@ printable_is b low high = grind (arith, nat_tests)
 pub glyph_is : (text : List ℕ) (b : ℕ) (s style : Style) → text ≡ b ∷ [] → s ≡ style → record { text = text; style = s } ≡ byte_glyph style b
 glyph_is text b s style e f = ap₂ (λ (t : List ℕ) (k : Style). record { text = t; style = k }) e f
 
--- the graphemes from a place on
+-- the graphemes from an index on
 pub glyphs_next : (rs : List StyledGrapheme) (i : ℕ) (d : StyledGrapheme) → i < length rs → drop i (map glyph_of rs) ≡ glyph_of (get_or rs i d) ∷ drop (i + 1) (map glyph_of rs)
 glyphs_next rs i d lt =
     let items : drop i rs ≡ get_or rs i d ∷ drop (i + 1) rs = rw (add-one, drop-cons rs i d) refl in
     drop-map glyph_of i rs ∙ (ap (map glyph_of) items ∙ ap (λ t. glyph_of (get_or rs i d) ∷ t) (sym (drop-map glyph_of (i + 1) rs)))
 
--- one byte more is copied
+-- one more byte is copied
 pub printable_more : (bytes : List ℕ) (n b : ℕ) → n < length bytes → list_all is_printable (take n bytes) ≡ true → is_printable b ≡ true →
     list_all is_printable (take (n + 1) (slice_set bytes n b)) ≡ true
 printable_more bytes n b lt e f =
@@ -53,10 +53,10 @@ unfolding width_of
 byte_width b e = printable_width false (b ∷ []) b refl (grind (arith, nat_tests)) (grind (arith, nat_tests))
 
 byte_layers : (clip : Rect) (x y : ℕ) (style : Style) (b : ℕ) → covers clip x y ≡ true → width_of (b ∷ []) ≡ 1 →
-    glyph_layers clip x y (byte_glyph style b) ≡ over (at_place x y) (put (b ∷ []) ∷ dress style ∷ [])
+    glyph_layers clip x y (byte_glyph style b) ≡ over (at_place x y) (write (b ∷ []) ∷ set_style style ∷ [])
 byte_layers clip x y style b here wide = rw (wide, here) refl
 
--- the strokes of such graphemes, and of those behind them
+-- the strokes of such graphemes, and of those after them
 run_spelt : (clip : Rect) (x y : ℕ) (style : Style) (bs : List ℕ) (more : List Glyph) → clip.x ≤ x → clip.y ≤ y → y < bottom_of clip → x + length bs ≤ right_of clip →
     list_all is_printable bs ≡ true →
     run_layers clip x y (map (byte_glyph style) bs ++ more) ≡ ascii_layers x y style bs ++ run_layers clip (x + length bs) y more
@@ -66,7 +66,7 @@ run_spelt clip x y style (b ∷ bs) more left top bottom right e =
     let both = and_parts (is_printable b) _ e in
     let wide : width_of (b ∷ []) ≡ 1 = byte_width b both.0 in
     let here : covers clip x y ≡ true = grind (arith, nat_tests) in
-    let first = over (at_place x y) (put (b ∷ []) ∷ dress style ∷ []) in
+    let first = over (at_place x y) (write (b ∷ []) ∷ set_style style ∷ []) in
     let rest = map (byte_glyph style) bs ++ more in
     let end : x + 1 + length bs ≡ x + length (b ∷ bs) = omega arith in
     ap₂ (λ (ls : List Layer) n. ls ++ run_layers clip (x + n) y rest) (byte_layers clip x y style b here wide) wide

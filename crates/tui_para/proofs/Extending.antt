@@ -1,4 +1,4 @@
--- A line after which something is left stays the next line where more graphemes follow.
+-- A next line after which something is left stays the next line when more graphemes follow.
 use Rattle.std.proofs.Common.{◌≡◌, ℕ, ◌-◌, ◌≤◌, ◌<◌, List, [], ◌∷◌, ◌++◌, Bool, true, false, refl, sym, ap, ◌∙◌, inl, inr, ⊎_elim, arith}
 use Rattle.std.specs.Prelude.{◌≢◌, sum_by}
 use Rattle.std.proofs.lemmas.List.{append_assoc}

@@ -1,4 +1,4 @@
--- Of words parted by single blanks, no fewer lines would do.
+-- For words with single whitespace graphemes between them, no fewer lines are possible.
 use Rattle.std.proofs.Common.{◌≡◌, ℕ, suc, ◌+◌, ◌-◌, ◌<◌, ◌≤◌, List, [], ◌∷◌, ◌++◌, length, Bool, true, false, refl, sym, ap, ◌∙◌, subst, arith, inl, inr, ⊎_elim}
 use Rattle.std.specs.Prelude.{◌≢◌, ◌⊎◌, sum_by, not, nat_le, flat_map}
 use Rattle.std.specs.List.{AllByRecursion}
@@ -12,7 +12,7 @@ use Rattle.tui_para.specs.Division.{group_width, IsFewest, Spaced, SpacedWithin}
 use Rattle.tui_para.proofs.Unique.{same_next, prefixes, ends_in-append}
 use Rattle.tui_para.proofs.Parts.{lines_some}
 
--- a word ends in no blank
+-- a word doesn't end in whitespace
 word_ends : {A : Type 0} (blank : A → Bool) (so_far : Bool) (v : List A) → (v ≢ []) ⊎ (so_far ≡ true) → up_to blank v ≡ v → ends_in (no_blank blank) so_far v ≡ true
 word_ends blank so_far [] n e = grind arith
 word_ends blank so_far (x ∷ v) n e = grind (arith, word_ends blank (not (blank x)) v)
@@ -21,18 +21,18 @@ word_ends blank so_far (x ∷ v) n e = grind (arith, word_ends blank (not (blank
 abbrev pub NoSplits : {A : Type 0} → Rule A → Type 0
 NoSplits {A} rule = (x : A) → rule.split x ≡ false
 
--- the word in front of a blank
+-- the word before whitespace
 word_front : {A : Type 0} (blank : A → Bool) (v rest : List A) → up_to blank v ≡ v → (rest ≡ []) ⊎ (begins blank rest ≡ true) → up_to blank (v ++ rest) ≡ v
 word_front blank [] [] e h = refl
 word_front blank [] (x ∷ rest) e h = grind arith
 word_front blank (x ∷ v) rest e h = grind (arith, word_front blank v rest)
 
--- where no word is split, a piece is a word
+-- if no word is split, a piece is a word
 piece_is_word : {A : Type 0} (rule : Rule A) → NoSplits rule → (xs : List A) → up_to (ends_piece rule) xs ≡ up_to rule.blank xs
 piece_is_word rule never [] = refl
 piece_is_word rule never (x ∷ xs) = let no = never x in let i = piece_is_word rule never xs in grind arith
 
--- what begins with a word begins with no blank
+-- what begins with a word doesn't begin with whitespace
 next_piece_is : {A : Type 0} (rule : Rule A) → NoSplits rule → (xs : List A) → up_to rule.blank xs ≢ [] → next_piece rule xs ≡ up_to rule.blank xs
 next_piece_is rule never [] n = refl
 next_piece_is rule never (x ∷ xs) n = let i = piece_is_word rule never xs in grind arith
@@ -54,7 +54,7 @@ spaced_first rule v (u ∷ vs) xs s = (ap (up_to rule.blank) s.3 ∙ word_front 
 spaced_begins : {A : Type 0} (rule : Rule A) (v : List A) (vs : List (List A)) (xs : List A) → Spaced rule.blank rule.size (v ∷ vs) xs → up_to rule.blank xs ≢ []
 spaced_begins rule v vs xs s = λ e. let f = spaced_first rule v vs xs s in f.1 (sym f.0 ∙ e)
 
--- where a group of words stops and others follow
+-- a group of words stops, and others follow
 record Stops {A : Type 0} (rule : Rule A) (room width : ℕ) (others : List (List A)) (after : List A) : Type 0 where
   b : A
   rest : List A
@@ -67,7 +67,7 @@ record Stops {A : Type 0} (rule : Rule A) (room width : ℕ) (others : List (Lis
   spaced : Spaced rule.blank rule.size (next ∷ more) rest
   wide : room < width + 1 + sum_by rule.size next
 
--- the words at the front that fit, as graphemes too
+-- the group of words at the beginning that fit, also as graphemes
 record Group {A : Type 0} (rule : Rule A) (room : ℕ) (words : List (List A)) (xs : List A) : Type 0 where
   group : List (List A)
   others : List (List A)
@@ -171,7 +171,7 @@ others_fit size w [] qs words e h = subst (WordsFit size w) e h
 others_fit size w (p ∷ ps) qs [] e h = absurd (cc)
 others_fit size w (p ∷ ps) qs (v ∷ words) e h = others_fit size w ps qs words (cc) h.1
 
--- a first line of spaced words, taken with the group of words that it holds
+-- a first line of spaced words, with the group of words in it
 record FirstLine {A : Type 0} (rule : Rule A) (words : List (List A)) (rest : List A) : Type 0 where
   group : List (List A)
   others : List (List A)
@@ -215,7 +215,7 @@ not_nil : {A : Type 0} (ys : List A) (v : A) (vs : List A) → [] ≡ ys ++ v �
 not_nil [] v vs e = cc
 not_nil (y ∷ ys) v vs e = cc
 
--- what the groups after the first have: the words that are not in the first line, at least
+-- the groups after the first have at least the words that are not in the first line
 groups_left : {A : Type 0} (size : A → ℕ) (w : ℕ) (g ys p q all words : List (List A)) → g ++ all ≡ ys ++ words → words ≡ p ++ q → group_width size g ≤ w → 0 < length p → (q ≡ []) ⊎ ((next : List A) × (more : List (List A)) × (q ≡ next ∷ more) × (w < group_width size p + 1 + sum_by size next)) → (zs : List (List A)) × (all ≡ zs ++ q)
 groups_left size w g ys p q all words e c fits some stops =
     let whole : g ++ all ≡ (ys ++ p) ++ q = e ∙ (ap (λ t. ys ++ t) c ∙ sym (append_assoc ys p q)) in
@@ -233,7 +233,7 @@ groups_left size w g ys p q all words e c fits some stops =
     omega arith) stops)))
     (prefixes g all (ys ++ p) q whole)
 
--- a division of these words and others before them has no fewer groups than these have lines
+-- a division of these words, and others before them, has at least as many groups as these words have lines
 least : {A : Type 0} (rule : Rule A) → NoSplits rule → (gs : List (List (List A))) (ys words : List (List A)) (xs : List A) (lines : List (List A)) → flat_map (λ g. g) gs ≡ ys ++ words → AllByRecursion (λ g. group_width rule.size g ≤ rule.width) gs → Spaced rule.blank rule.size words xs → WordsFit rule.size rule.width words → HasLines rule xs lines → length lines ≤ length gs
 least rule never gs ys words xs [] e f s k h = omega arith
 least rule never gs ys [] xs (l ∷ ls) e f s k h = absurd (h.0 s)
@@ -282,7 +282,7 @@ all_are_kept rule (v ∷ u ∷ vs) xs p s k =
     let rest : not_wider rule.size rule.width (s.1 ∷ s.2) ≡ s.1 ∷ s.2 = cond-true (nat_le (rule.size s.1) rule.width) (s.1 ∷ not_wider rule.size rule.width s.2) (not_wider rule.size rule.width s.2) t ∙ ap (λ z. s.1 ∷ z) (all_are_kept rule (u ∷ vs) s.2 p s.6 k.1) in
     rw s.3 (word_kept rule.size rule.width v (s.1 ∷ s.2) k.0 rest)
 
--- the lines are a division of the words, and none has fewer groups
+-- the lines are a division of the words, and no division has fewer groups
 pub fewest : {A : Type 0} (rule : Rule A) → NoSplits rule → (words : List (List A)) (xs : List A) (lines : List (List A)) → 0 < rule.width → SpacedWithin rule.blank rule.size rule.width words xs →
     WrapsKept rule (not_wider rule.size rule.width xs) lines → IsFewest rule.size words rule.width (length lines)
 fewest rule never [] xs lines p s h =

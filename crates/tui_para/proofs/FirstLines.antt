@@ -1,4 +1,4 @@
--- The first line that is left of a text line of which the front was read.
+-- The first line that is left of a text line whose beginning was read.
 use Rattle.std.proofs.Common.{◌≡◌, ℕ, ◌+◌, ◌<◌, List, [], ◌∷◌, ◌++◌, Option, Some, None, true, false, length, drop, refl, sym, ap, ◌∙◌, subst, inl, inr, ⊎_elim, arith}
 use Rattle.std.specs.Prelude.{◌≢◌, ◌⊎◌, IfSome, sum_by}
 use Rattle.std.specs.List.{between}
@@ -10,8 +10,8 @@ use Rattle.tui_para.specs.Hyphenation.{marked_from}
 use Rattle.tui_para.specs.Hyphens.{glyph_rule}
 use Rattle.tui_para.specs.Marked.{splits_of, glyphs_of}
 use Rattle.tui_para.specs.Wrapped.{HasLines, IsNextLine, not_wider}
-use Rattle.tui_para.specs.Wrapping.{FirstLine, IsNextPlace, glyphs_from}
-use Rattle.tui_para.specs.declared.wrapping.breaking.Place.{Place}
+use Rattle.tui_para.specs.Wrapping.{FirstLine, AreNextBounds, glyphs_from}
+use Rattle.tui_para.specs.declared.wrapping.breaking.LineBounds.{LineBounds}
 use Rattle.tui_para.specs.declared.wrapping.text_line.TextLine.{TextLine}
 use Rattle.tui_para.proofs.Extending.{next-append}
 use Rattle.tui_para.proofs.Filled.{some_append}
@@ -30,7 +30,7 @@ line_taken rule xs line rest some n (k ∷ lines) h =
     let same = same_next rule xs xs k line h.1 rest refl h.2 n in
     (lines, ap (λ l. l ∷ lines) same.0, subst (λ r. HasLines rule r lines) same.1 h.3)
 
--- the next line of the front is the next line of all, where something is left of the front or nothing follows
+-- the next line of the graphemes that were read is the next line of all, if it leaves some of them or nothing follows
 next_of_all : {A : Type 0} (rule : Rule A) (xs line ys : List A) (next : ℕ) → (next < length xs) ⊎ (ys ≡ []) → IsNextLine rule xs line (drop next xs) →
     IsNextLine rule (xs ++ ys) line (drop next xs ++ ys)
 next_of_all rule xs line ys next known n = ⊎_elim
@@ -39,11 +39,11 @@ next_of_all rule xs line ys next known n = ⊎_elim
     known
 
 module _ {I : Type 0} (s : TextLine I) (glyphs : List Glyph) where
-  first_empty : (p : Place) → p ≡ record { start = s.place; end = s.place; next = s.place; width = 0 } → s.is_new ≡ true → glyphs ≡ [] → drop s.place (splits_of s.line) ≡ [] → FirstLine s p glyphs
+  first_empty : (p : LineBounds) → p ≡ record { start = s.place; end = s.place; next = s.place; width = 0 } → s.is_new ≡ true → glyphs ≡ [] → drop s.place (splits_of s.line) ≡ [] → FirstLine s p glyphs
   first_empty p at new none gone =
       let empty : glyphs_from s s.place glyphs ≡ [] = ap (λ k. k ++ marked_from s.line.hyphenation (not_wider glyph_width s.width glyphs)) gone ∙ ap (λ k. marked_from s.line.hyphenation (not_wider glyph_width s.width k)) none in
       rw at (record {
-        lends = λ rest h.
+        yields = λ rest h.
             let ends = no_lines (glyph_rule s.width s.wrap) _ rest empty h in
             inl (new, inl (empty, ap (λ k. k ∷ rest) (between-nil s.place (splits_of s.line)) ∙ ap (λ ks. [] ∷ ks) ends));
         takes = λ parts h. ⊎_elim
@@ -75,7 +75,7 @@ module _ {I : Type 0} (s : TextLine I) (glyphs : List Glyph) where
         let at : between (s.place + start) (s.place + end) all ≡ line = sym (between-drop s.place start end all) in
         let after : drop (s.place + next) all ++ ys ≡ drop next xs ++ ys = ap (λ k. k ++ ys) (sym (drop-drop next s.place all)) in
         record {
-          lends = λ rest h.
+          yields = λ rest h.
               let lines : has (xs ++ ys) (between (s.place + start) (s.place + end) all ∷ rest) =
               rw at (more, drop next xs ++ ys, first, subst (λ k. has k rest) after h) in
               ⊎_elim (λ e. inl (e, inr (more, lines))) (λ e. inr (e, lines)) (cases_Bool s.is_new);
@@ -85,8 +85,8 @@ module _ {I : Type 0} (s : TextLine I) (glyphs : List Glyph) where
               (taken.0, taken.1 ∙ ap (λ k. k ∷ taken.0) (sym at), subst (λ k. has k taken.0) (sym after) taken.2);
         }
 
--- the place of the one empty line
-pub empty_place : {I : Type 0} (s : TextLine I) (p : Place) → p ≡ record { start = s.place; end = s.place; next = s.place; width = 0 } → s.is_new ≡ true → s.source ≡ None → drop s.place (splits_of s.line) ≡ [] → IsNextPlace s p
+-- the bounds of the one empty line
+pub empty_place : {I : Type 0} (s : TextLine I) (p : LineBounds) → p ≡ record { start = s.place; end = s.place; next = s.place; width = 0 } → s.is_new ≡ true → s.source ≡ None → drop s.place (splits_of s.line) ≡ [] → AreNextBounds s p
 empty_place s p at new ends gone = record {
   order = rw at (omega arith);
   within = rw at (s.within, s.within);

@@ -1,4 +1,4 @@
--- The lines of `wrap` are such lines.
+-- The lines that `wrap` returns are lines by the definition.
 use Rattle.std.proofs.Common.{◌≡◌, ℕ, zero, suc, ◌+◌, ◌-◌, ◌<◌, ◌≤◌, List, [], ◌∷◌, ◌++◌, length, take, drop, Bool, true, false, cond, refl, sym, ap, ◌∙◌, subst, arith, inl, inr, ⊎_elim}
 use Rattle.std.specs.Prelude.{◌⊎◌, sum_by, not, nat_le, nat_lt, ◌&&◌}
 use Rattle.std.specs.List.{AllByRecursion}
@@ -12,19 +12,19 @@ use Rattle.tui_para.specs.Wrapped.{up_to, next_piece, without_blanks, after_brea
 use Rattle.tui_para.specs.Places.{goes_on_for, line_len, lines_of, wrap_kept}
 use Rattle.tui_para.proofs.Unique.{breaks_there, ends_in-append, piece_ends}
 
--- a piece that stands alone goes on with what doesn't end it
+-- a piece goes on with a grapheme that doesn't end it
 piece_on : {A : Type 0} (ends : A → Bool) (p : List A) (x : A) (r : List A) → up_to ends p ≡ p → ends x ≡ false → up_to ends (p ++ x ∷ r) ≡ p ++ x ∷ up_to ends r
 piece_on ends [] x r e b = rw b refl
 piece_on ends (y ∷ p) x r e b = grind (arith, piece_on ends p x r)
 
--- and blanks and a piece go on, but not after the piece with what ends it
+-- so do whitespace and a piece after it, unless the grapheme ends the piece
 pub next_piece_on : {A : Type 0} (rule : Rule A) (so_far : Bool) (p : List A) (x : A) (r : List A) → so_far ≡ false → next_piece rule p ≡ p →
     (ends_in (no_blank rule.blank) so_far p ≡ true → ends_piece rule x ≡ false) → next_piece rule (p ++ x ∷ r) ≡ p ++ x ∷ cond (rule.blank x) (next_piece rule r) (up_to (ends_piece rule) r)
 next_piece_on rule so_far [] x r f e b = ⊎_elim (λ t. rw t refl) (λ t. rw t refl) (cases_Bool (rule.blank x))
 next_piece_on rule so_far (y ∷ p) x r f e b =
     grind (arith, piece_on (ends_piece rule) p x r, piece_ends rule true p (inr refl), next_piece_on rule (not (rule.blank y)) p x r)
 
--- the same for its width
+-- the same for their width
 next_piece_wide : {A : Type 0} (rule : Rule A) (p : List A) (x : A) (r : List A) → next_piece rule p ≡ p → (ends_in (no_blank rule.blank) false p ≡ true → ends_piece rule x ≡ false) →
     sum_by rule.size p + rule.size x ≤ sum_by rule.size (next_piece rule (p ++ x ∷ r))
 next_piece_wide rule p x r e b =
@@ -43,7 +43,8 @@ both_true p q e = (grind (arith, e), grind (arith, e))
 in_goes : (p q : Bool) → (p && q) ≡ false → p ≡ true → q ≡ false
 in_goes p q e f = grind (arith, e, f)
 
--- graphemes that were read: those up to the last word's end that a blank follows, and blanks and a part of one word after them
+-- the graphemes that were read: those up to the end of the last piece that has ended, then whitespace and a part of one
+-- piece
 record Read {A : Type 0} (rule : Rule A) (in_word : Bool) (words n room : ℕ) (line piece rest : List A) : Type 0 where
   words_is : words ≡ length line
   n_is : n ≡ length line + length piece
@@ -52,10 +53,10 @@ record Read {A : Type 0} (rule : Rule A) (in_word : Bool) (words n room : ℕ) (
   room_is : room + (sum_by rule.size line + sum_by rule.size piece) ≡ rule.width
   ended : (words ≡ 0) ⊎ ((ends_in (no_blank rule.blank) false line ≡ true) × (begins (ends_piece rule) (piece ++ rest) ≡ true))
 
--- one more, where no word ends
-read_on : {A : Type 0} (rule : Rule A) (in_word : Bool) (words n room : ℕ) (line piece : List A) (x : A) (rest : List A) → rule.size x ≤ room → (in_word && ends_piece rule x) ≡ false →
+-- one more grapheme, if no piece ends before it
+read_more : {A : Type 0} (rule : Rule A) (in_word : Bool) (words n room : ℕ) (line piece : List A) (x : A) (rest : List A) → rule.size x ≤ room → (in_word && ends_piece rule x) ≡ false →
     Read rule in_word words n room line piece (x ∷ rest) → Read rule (not (rule.blank x)) words (suc n) (room - rule.size x) line (piece ++ x ∷ []) rest
-read_on rule in_word words n room line piece x rest fits goes r =
+read_more rule in_word words n room line piece x rest fits goes r =
     let a = length-append piece (x ∷ []) in
     let b = sum_by-append rule.size piece (x ∷ []) in
     let c = sum_by-cons rule.size x [] in
@@ -70,7 +71,7 @@ read_on rule in_word words n room line piece x rest fits goes r =
       ended = ⊎_elim (λ t. inl t) (λ t. inr (t.0, ap (begins (ends_piece rule)) (append_assoc piece (x ∷ []) rest) ∙ t.1)) r.ended;
     }
 
--- a word that ends with a blank has a grapheme
+-- what ends in a word has a grapheme
 word_some : {A : Type 0} (blank : A → Bool) (piece : List A) → ends_in (no_blank blank) false piece ≡ true → 0 < length piece
 word_some blank [] e = absurd (false≢true e)
 word_some blank (x ∷ piece) e = omega arith
@@ -79,7 +80,7 @@ ends_any : {A : Type 0} (blank : A → Bool) (so_far : Bool) (piece : List A) �
 ends_any blank so_far [] e = absurd (false≢true e)
 ends_any blank so_far (x ∷ piece) e = e
 
--- where a word ends, its piece goes to the line
+-- if a piece ends, it is added to the line
 word_ended : {A : Type 0} (rule : Rule A) (in_word : Bool) (words n room : ℕ) (line piece : List A) (x : A) (rest : List A) → in_word ≡ true → ends_piece rule x ≡ true →
     Read rule in_word words n room line piece (x ∷ rest) → Read rule false n n room (line ++ piece) [] (x ∷ rest) × (0 < n)
 word_ended rule in_word words n room line piece x rest e b r =
@@ -103,7 +104,7 @@ word_ended rule in_word words n room line piece x rest e b r =
 some_words : (k n : ℕ) → 0 < k → cond (nat_lt 0 k) k n ≡ k
 some_words k n some = grind (arith, nat_tests)
 
--- the line that is read where the next grapheme doesn't fit
+-- the line that was read, if the next grapheme doesn't fit
 stops : {A : Type 0} (rule : Rule A) (in_word : Bool) (words n room : ℕ) (line piece : List A) (x : A) (rest : List A) (m : ℕ) → room < rule.size x → (in_word && ends_piece rule x) ≡ false →
     m ≡ cond (nat_lt 0 words) words n → Read rule in_word words n room line piece (x ∷ rest) →
     IsLine rule (take m (line ++ (piece ++ x ∷ rest))) (drop m (line ++ (piece ++ x ∷ rest)))
@@ -128,7 +129,7 @@ stops rule in_word words n room (y ∷ line) piece x rest m wide goes e r =
     (λ ended. rw (front, back) (record { fits = omega arith; breaks = inr (breaks_there rule (rule.width - sum_by rule.size (y ∷ line)) (y ∷ line) (piece ++ x ∷ rest) ended.0 ended.1 (omega arith)) }))
     r.ended
 
--- where no word ends, by whether the next grapheme fits
+-- if no piece ends: whether the next grapheme fits or not
 goes_or_stops : {A : Type 0} (rule : Rule A) (in_word : Bool) (words n room : ℕ) (line piece : List A) (x : A) (rest : List A) (m : ℕ) → (in_word && ends_piece rule x) ≡ false →
     m ≡ cond (nat_le (rule.size x) room) (goes_on_for (ends_piece rule) rule.blank rule.size (not (rule.blank x)) words (suc n) (room - rule.size x) rest) (cond (nat_lt 0 words) words n) →
     Read rule in_word words n room line piece (x ∷ rest) →
@@ -141,13 +142,13 @@ goes_or_stops rule in_word words n room line piece x rest m goes e r next =
     let c = e ∙ cond-true (nat_le (rule.size x) room) (goes_on_for (ends_piece rule) rule.blank rule.size (not (rule.blank x)) words (suc n) (room - rule.size x) rest) (cond (nat_lt 0 words) words n) t in
     let whole : (piece ++ x ∷ []) ++ rest ≡ piece ++ x ∷ rest = append_assoc piece (x ∷ []) rest in
     subst (λ ys. IsLine rule (take m (line ++ ys)) (drop m (line ++ ys))) whole
-    (next c (read_on rule in_word words n room line piece x rest (leb-true (rule.size x) room t) goes r)))
+    (next c (read_more rule in_word words n room line piece x rest (leb-true (rule.size x) room t) goes r)))
     (λ t.
     let c = e ∙ cond-false (nat_le (rule.size x) room) (goes_on_for (ends_piece rule) rule.blank rule.size (not (rule.blank x)) words (suc n) (room - rule.size x) rest) (cond (nat_lt 0 words) words n) t in
     stops rule in_word words n room line piece x rest m (leb-false (rule.size x) room t) goes c r)
     (cases_Bool (nat_le (rule.size x) room))
 
--- the line that is read
+-- the line that was read
 line_is_read : {A : Type 0} (rule : Rule A) (in_word : Bool) (words n room : ℕ) (line piece rest : List A) (m : ℕ) → m ≡ goes_on_for (ends_piece rule) rule.blank rule.size in_word words n room rest →
     Read rule in_word words n room line piece rest → IsLine rule (take m (line ++ (piece ++ rest))) (drop m (line ++ (piece ++ rest)))
 line_is_read rule in_word words n room line piece [] m e r =
@@ -172,7 +173,7 @@ line_is_read rule in_word words n room line piece (x ∷ rest) m e r =
     (λ f k. line_is_read rule (not (rule.blank x)) words (suc n) (room - rule.size x) line (piece ++ x ∷ []) rest m f k))
     (cases_Bool (in_word && ends_piece rule x))
 
--- a line stands at the front of every list
+-- every list begins with a line
 pub line_is : {A : Type 0} (rule : Rule A) (xs : List A) (m : ℕ) → m ≡ line_len (ends_piece rule) rule.blank rule.size rule.width xs → IsLine rule (take m xs) (drop m xs)
 line_is rule xs m e = line_is_read rule false 0 0 rule.width [] [] xs m e
     (record { words_is = refl; n_is = refl; in_word_is = refl; one_piece = refl; room_is = omega arith; ended = inl refl })

@@ -1,4 +1,4 @@
--- Wrapping leaves out blanks alone.
+-- Wrapping drops only whitespace.
 use Rattle.std.proofs.Common.{◌≡◌, ℕ, ◌-◌, List, [], ◌∷◌, ◌++◌, Bool, true, false, cond, All, refl, sym, ap, ◌∙◌, ⊎_elim}
 use Rattle.std.specs.Prelude.{sum_by, nat_le}
 use Rattle.std.proofs.lemmas.Bool.{cases_Bool}
@@ -6,7 +6,7 @@ use Rattle.std.proofs.lemmas.List.Elements.{All-cons, All-from_recursion}
 use Rattle.tui_para.specs.Rule.{Rule}
 use Rattle.tui_para.specs.Wrapped.{without_blanks, after_break, line_start, HasLines, WrapsKept, LeavesOutBlanks}
 
--- blanks in front of what is left of a list
+-- whitespace before what is left of a list
 pub record Blanks {A : Type 0} (blank : A → Bool) (xs rest : List A) : Type 0 where
   pub blanks : List A
   pub all : All (λ x. blank x ≡ true) blanks
@@ -34,18 +34,18 @@ module _ {A : Type 0} (rule : Rule A) where
       (λ l. rw l (one_blank x xs xs b (no_blanks xs)))
       (cases_Bool (nat_le (rule.size x) room))
 
-  pub behind_break : (room : ℕ) (xs : List A) → Blanks rule.blank xs (after_break rule room xs)
-  behind_break room [] = no_blanks []
-  behind_break room (x ∷ xs) = ⊎_elim (λ b. rw b (break_blank room x xs b (behind_break (room - rule.size x) xs))) (λ b. rw b (no_blanks (x ∷ xs))) (cases_Bool (rule.blank x))
+  pub blanks_after_break : (room : ℕ) (xs : List A) → Blanks rule.blank xs (after_break rule room xs)
+  blanks_after_break room [] = no_blanks []
+  blanks_after_break room (x ∷ xs) = ⊎_elim (λ b. rw b (break_blank room x xs b (blanks_after_break (room - rule.size x) xs))) (λ b. rw b (no_blanks (x ∷ xs))) (cases_Bool (rule.blank x))
 
   lines_leave : (xs : List A) (lines : List (List A)) → HasLines rule xs lines → LeavesOutBlanks rule.blank xs lines
   lines_leave xs [] h = h
   lines_leave xs (line ∷ lines) (some, rest, next, more) =
       let before = before_line rule.trim xs in
-      let behind = behind_break (rule.width - sum_by rule.size line) next.after in
-      let whole : xs ≡ before.blanks ++ (line ++ (behind.blanks ++ rest)) =
-      before.whole ∙ ap (λ k. before.blanks ++ k) (next.joined ∙ ap (λ k. line ++ k) (behind.whole ∙ ap (λ k. behind.blanks ++ k) (sym next.rest_is))) in
-      (before.blanks, behind.blanks, rest, before.all, behind.all, whole, lines_leave rest lines more)
+      let after = blanks_after_break (rule.width - sum_by rule.size line) next.after in
+      let whole : xs ≡ before.blanks ++ (line ++ (after.blanks ++ rest)) =
+      before.whole ∙ ap (λ k. before.blanks ++ k) (next.joined ∙ ap (λ k. line ++ k) (after.whole ∙ ap (λ k. after.blanks ++ k) (sym next.rest_is))) in
+      (before.blanks, after.blanks, rest, before.all, after.all, whole, lines_leave rest lines more)
 
   none_out : All (λ x. rule.blank x ≡ true) []
   none_out = All-from_recursion (λ x. rule.blank x ≡ true) [] tt

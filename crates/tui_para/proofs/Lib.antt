@@ -7,11 +7,11 @@ mod Zipped
 mod BrokenLines
 mod MarkedSplits
 pub mod WithoutSplits
-mod LinesBehind
+mod LinesAfter
 mod Filled
 mod Parts
-mod Lending
-mod Answering
+mod Yielding
+mod IteratorSteps
 mod TruncatedOnce
 mod Reading
 pub mod InLine
@@ -31,9 +31,9 @@ mod Sources
 pub mod Extending
 mod FirstLines
 mod PartsRead
-mod Beginning
+mod WrapperNextLine
 mod TruncatedLines
-mod TextLends
+mod TextYields
 mod LeftOut
-pub mod LogoLight
+pub mod LogoAllocationFree
 pub mod LogoStrokes

@@ -1,4 +1,4 @@
--- Lines that may come are those that come in any case, where these are known.
+-- If the certain lines are known, no other lines may come.
 use Rattle.std.proofs.Common.{◌≡◌, ℕ, Bool, List, [], ◌∷◌, ◌++◌, Option, Some, None, map, refl, sym, ap, ◌∙◌, ⊎_elim, subst, arith}
 use Rattle.std.proofs.lemmas.Bool.{false≢true}
 use Rattle.tui_text.specs.Grapheme.{Glyph, glyph_width}
@@ -10,8 +10,8 @@ use Rattle.tui_para.specs.Given.{MayGive, WillGive, IsGlyph, MayBe, WillBe, Sour
 use Rattle.tui_para.specs.Lines.{GlyphLine, glyph_line, is_left, LinesFrom, TruncatesLine, GivenUnlessDone, WrapsLine}
 use Rattle.tui_para.specs.Hyphens.{Unsplit, glyph_rule, unsplit, wrap}
 use Rattle.tui_para.specs.Truncated.{truncate}
-use Rattle.tui_para.specs.Wrapped.{IsTheOne}
-use Rattle.tui_para.specs.Wrapping.{LinesOfRest, TruncatorLines, TruncatorMayLend, TruncatorWillLend, WrapperLines, WrapperMayLend, WrapperWillLend, truncator_answers, wrapper_answers}
+use Rattle.tui_para.specs.Wrapped.{IsUnique}
+use Rattle.tui_para.specs.Wrapping.{LinesOfRest, TruncatorLines, TruncatorMayYield, TruncatorWillYield, WrapperLines, WrapperMayYield, WrapperWillYield, truncator_input_yields, wrapper_input_yields}
 use Rattle.tui_para.specs.declared.truncator.LineTruncator.{LineTruncator}
 use Rattle.tui_para.specs.declared.wrapper.WordWrapper.{WordWrapper}
 use Rattle.tui_para.proofs.TextOnce.{each_once, truncates_only_to, wraps_only_to}
@@ -39,7 +39,7 @@ module _ {O I : Type 0} (outer : O → Option (I × Alignment) → O → Type 0)
       (λ a. ⊎_elim (λ b. absurd (false≢true (sym a.0 ∙ b.0))) (λ b. items_agree outer (MayBe inner) (WillBe inner) line_agrees o ts us a.1 b.1) w)
       m
 
--- the graphemes that a source may give are those that it gives in any case
+-- the graphemes that a source may give are those that it is certain to give
 source_agrees : {I : Type 0} (inner : I → Option StyledGrapheme → I → Type 0) (source : Option I) (glyphs others : List Glyph) → SourceGives (MayGive inner IsGlyph) source glyphs → SourceGives (WillGive inner IsGlyph) source others → glyphs ≡ others
 source_agrees inner None glyphs others m w = m ∙ sym w
 source_agrees inner (Some i) glyphs others m w = items_agree inner IsGlyph IsGlyph (λ g y z e f. sym e ∙ f) i glyphs others m w
@@ -53,7 +53,8 @@ rest_agrees is_new w way xs parts others h g = ⊎_elim
 parts_agree : (is_new : Bool) (w : ℕ) (way : Wrap) (xs : List (Glyph × Bool)) (parts others : List (List Glyph)) → Unsplit (LinesOfRest is_new w way xs) parts → Unsplit (LinesOfRest is_new w way xs) others → parts ≡ others
 parts_agree is_new w way xs parts others (split, h, e) (sliced, g, f) = e ∙ (ap unsplit (rest_agrees is_new w way xs split sliced h g) ∙ sym f)
 
--- lines that may come are those that come in any case, where this holds of what the iterators give, and that has one list of lines
+-- Lines that may come are those that are certain to come. This holds if it holds for what the iterators give, and if
+-- that has only one list of lines.
 lines_agree : {X : Type 0} (k : Answers X) (lined : X → List GlyphLine → Type 0) → ((x y : X) → k.may x → k.will y → x ≡ y) → ((x : X) (lines others : List GlyphLine) → lined x lines → lined x others → lines ≡ others) →
     (w : ℕ) (lines others : List GlyphLine) → LinesFrom k.may lined w lines → LinesFrom k.will lined w others → lines ≡ others
 lines_agree k lined agree once w lines others m v = ⊎_elim
@@ -65,8 +66,8 @@ lines_agree k lined agree once w lines others m v = ⊎_elim
     m
 
 module _ {O I : Type 0} (outer : O → Option (I × Alignment) → O → Type 0) (inner : I → Option StyledGrapheme → I → Type 0) where
-  pub wrapper_agrees : (s : WordWrapper O I) (lines known : List GlyphLine) → WrapperMayLend outer inner s lines → WrapperWillLend outer inner s known → lines ≡ known
-  wrapper_agrees s = lines_agree (wrapper_answers outer inner s) (WrapperLines s)
+  pub wrapper_agrees : (s : WordWrapper O I) (lines known : List GlyphLine) → WrapperMayYield outer inner s lines → WrapperWillYield outer inner s known → lines ≡ known
+  wrapper_agrees s = lines_agree (wrapper_input_yields outer inner s) (WrapperLines s)
       (λ x y may will. ap (λ k. (k, x.1)) (source_agrees inner s.current.source x.0 y.0 may.0 will.0) ∙ ap (λ k. (y.0, k)) (texts_agree outer inner s.done s.lines x.1 y.1 may.1 will.1))
       once s.current.width
     where
@@ -78,13 +79,13 @@ module _ {O I : Type 0} (outer : O → Option (I × Alignment) → O → Type 0)
           e ∙ (ap (λ ps. map (glyph_line s.alignment) ps ++ rest) (parts_agree s.current.is_new w way _ parts pieces p q)
           ∙ (ap (λ ls. map (glyph_line s.alignment) pieces ++ ls) (only rest each ∙ sym (only more sliced)) ∙ sym d))
 
-  pub truncator_agrees : (s : LineTruncator O I) (lines known : List GlyphLine) → TruncatorMayLend outer inner s lines → TruncatorWillLend outer inner s known → lines ≡ known
-  truncator_agrees s = lines_agree (truncator_answers outer inner s) (TruncatorLines s) (texts_agree outer inner s.done s.lines)
+  pub truncator_agrees : (s : LineTruncator O I) (lines known : List GlyphLine) → TruncatorMayYield outer inner s lines → TruncatorWillYield outer inner s known → lines ≡ known
+  truncator_agrees s = lines_agree (truncator_input_yields outer inner s) (TruncatorLines s) (texts_agree outer inner s.done s.lines)
       (λ ts lines others each sliced.
       let only = each_once (TruncatesLine s.width s.offset) (λ t. truncate glyph_width s.width (is_left t.alignment) s.offset t.glyphs ∷ []) (truncates_only_to s.width s.offset) ts in
       only lines each ∙ sym (only others sliced))
       s.width
 
--- what some list meets, and no list but the known one, is met by the known one alone
-pub the_known : (P : List GlyphLine → Type 0) (known : List GlyphLine) → ((lines : List GlyphLine) → P lines → lines ≡ known) → (lines : List GlyphLine) × P lines → IsTheOne P known
+-- if some list satisfies a predicate, and every such list is the known one, then exactly the known one does
+pub the_known : (P : List GlyphLine → Type 0) (known : List GlyphLine) → ((lines : List GlyphLine) → P lines → lines ≡ known) → (lines : List GlyphLine) × P lines → IsUnique P known
 the_known P known alone (lines, meets) = record { meets = subst P (alone lines meets) meets; alone = alone }

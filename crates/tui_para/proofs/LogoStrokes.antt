@@ -2,7 +2,7 @@
 use Rattle.std.proofs.Common.{◌≡◌, ℕ, List, None, Result, OnOk, [], ◌∷◌, refl}
 use Rattle.tui_cells.specs.declared.rect.Rect.{Rect}
 use Rattle.tui_cells.specs.Buffer.{Screen}
-use Rattle.tui_cells.specs.Cell.{dress}
+use Rattle.tui_cells.specs.Cell.{set_style}
 use Rattle.tui_cells.specs.Layers.{Painted, stroke}
 use Rattle.tui_cells.specs.Rect.{covers}
 use Rattle.tui_cells.specs.Style.{no_style}
@@ -17,7 +17,7 @@ use Rattle.tui_para.specs.Logo.{lower_line, logo_layers, upper_line}
 
 pub logo_painted : {T E : Type 0} (result : Result T E) (clip rest : Rect) (size : Size) (above under : List ℕ) (a b c d : Screen) →
     above ≡ upper_line size → under ≡ lower_line size → rest ≡ below clip →
-    Painted (stroke (covers clip) (dress no_style)) a b → Painted (row_layers clip Left (raw_line above)) b c →
+    Painted (stroke (covers clip) (set_style no_style)) a b → Painted (row_layers clip Left (raw_line above)) b c →
     OnOk result (Painted (row_layers rest Left (raw_line under)) c d) → OnOk result (Painted (logo_layers size clip) a d)
 logo_painted result clip rest size above under a b c d e f g p q r =
     on_ok result (λ last. Painted-then p

@@ -1,4 +1,4 @@
--- The places of lines are the same among graphemes and among what is seen of them.
+-- Lines have the same indices among graphemes and among their images under a function.
 use Rattle.std.proofs.Common.{◌≡◌, ℕ, suc, ◌+◌, ◌-◌, List, [], ◌∷◌, length, take, drop, Bool, true, false, cond, map, refl, sym, ap, ◌∙◌, arith, ⊎_elim, ◌<◌, min}
 use Rattle.std.specs.Prelude.{sum_by, not, nat_le, nat_lt, ◌&&◌}
 use Rattle.std.specs.List.{between}
@@ -9,7 +9,7 @@ use Rattle.tui_para.specs.Wrapped.{without_blanks, after_break, line_start, IsNe
 use Rattle.tui_para.specs.Places.{blanks_len, start_len, dropped_len, goes_on_for, line_len}
 use Rattle.tui_para.proofs.Greedy.{AllFit, all_fit-drop, line_is, line_some}
 
--- without the blanks at the front, by their number
+-- without the whitespace at the beginning, by the number of its graphemes
 module _ {A : Type 0} (rule : Rule A) where
   without_blanks-drop : (xs : List A) → without_blanks rule.blank xs ≡ drop (blanks_len rule.blank xs) xs
   without_blanks-drop [] = refl
@@ -23,7 +23,7 @@ module _ {A : Type 0} (rule : Rule A) where
   after_break-drop room [] = refl
   after_break-drop room (x ∷ xs) = grind (arith, after_break-drop (room - rule.size x) xs)
 
--- numbers of graphemes and of what a view shows of them
+-- numbers of graphemes are the same for their images
 module _ {A B : Type 0} (f : A → B) (ends blank : B → Bool) (size : B → ℕ) where
   blanks_len-map : (xs : List A) → blanks_len blank (map f xs) ≡ blanks_len (λ x. blank (f x)) xs
   blanks_len-map [] = refl
@@ -47,11 +47,11 @@ module _ {A B : Type 0} (f : A → B) (ends blank : B → Bool) (size : B → �
   sum_by-map [] = refl
   sum_by-map (x ∷ xs) = sum_by-cons size (f x) (map f xs) ∙ (ap (λ n. size (f x) + n) (sum_by-map xs) ∙ sym (sum_by-cons (λ x. size (f x)) x xs))
 
--- the rule for graphemes of which this is seen
+-- the rule for graphemes, from that for their images
 abbrev pub seen_by : {A B : Type 0} → (A → B) → Rule B → Rule A
 seen_by f rule = record { blank = λ x. rule.blank (f x); split = λ x. rule.split (f x); size = λ x. rule.size (f x); width = rule.width; trim = rule.trim }
 
--- the next line of graphemes, at the places that what is seen of them gives
+-- the next line of graphemes, at the indices that their images give
 pub next_placed : {A B : Type 0} (f : A → B) (rule : Rule B) (xs : List A) (ms ys zs : List B) (start len room n : ℕ) →
     map f xs ≡ ms → start ≡ start_len rule.blank rule.trim ms → ys ≡ drop start ms → len ≡ line_len (ends_piece rule) rule.blank rule.size rule.width ys → room + sum_by rule.size (take len ys) ≡ rule.width →
     zs ≡ drop len ys → n ≡ dropped_len rule.blank rule.size room zs → IsNextLine (seen_by f rule) xs (between start (start + len) xs) (drop (start + len + n) xs)
@@ -76,7 +76,7 @@ next_placed f rule xs ms ys zs start len room n view starts rest lasts leaves af
       rest_is = ap (λ k. drop k (drop len s)) n_is ∙ (sym (after_break-drop seen_rule room (drop len s)) ∙ ap (λ r. after_break seen_rule r (drop len s)) room_is);
     })
 
--- something is used up
+-- the next line uses something up
 pub next_moves : {A : Type 0} (rule : Rule A) (xs ys : List A) (start len : ℕ) →
     AllFit rule.size rule.width xs → ys ≡ drop start xs → len ≡ line_len (ends_piece rule) rule.blank rule.size rule.width ys → 0 < length xs → 0 < start + len
 next_moves rule xs ys start len fit rest lasts some =

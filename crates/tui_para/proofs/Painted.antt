@@ -5,7 +5,7 @@ use Rattle.std.proofs.lemmas.Bool.Decides.{nat_tests}
 use Rattle.tui_cells.specs.declared.rect.Rect.{Rect}
 use Rattle.tui_cells.specs.Rect.{covers, right_of, bottom_of}
 use Rattle.tui_cells.specs.Buffer.{Screen, cell_at}
-use Rattle.tui_cells.specs.Cell.{Look, Edit, dress, edited, put}
+use Rattle.tui_cells.specs.Cell.{Look, Edit, set_style, edited, write}
 use Rattle.tui_cells.specs.Layers.{Layer, Painted, KeptOutside, at_place, stroke}
 use Rattle.tui_cells.proofs.Painting.{Painted-then, Painted-none, Painted-region}
 use Rattle.tui_text.specs.Grapheme.{Glyph, glyph_of, glyph_width}
@@ -18,13 +18,13 @@ use Rattle.tui_para.specs.Strokes.{glyph_layers, run_layers, start_of, glyph_lin
 piece_past : (clip : Rect) (x y : ℕ) (p : Glyph) → right_of clip ≤ x → glyph_layers clip x y p ≡ []
 piece_past clip x y p far = grind (arith, nat_tests)
 
--- past the right edge nothing is painted
+-- nothing is painted past the right edge
 run_past : (clip : Rect) (x y : ℕ) (ps : List Glyph) → right_of clip ≤ x → run_layers clip x y ps ≡ []
 unfolding run_layers
 run_past clip x y [] far = refl
 run_past clip x y (p ∷ ps) far = rw (piece_past clip x y p far) (run_past clip (x + glyph_width p) y ps (omega arith))
 
--- the rest of a run from a place that was saturated
+-- a run from a saturated column on is the same
 pub run_saturated : (clip : Rect) (x w y : ℕ) (ps : List Glyph) → run_layers clip (min (x + w) 65535) y ps ≡ run_layers clip (x + w) y ps
 run_saturated clip x w y ps = grind (arith, run_past clip 65535 y ps, run_past clip (x + w) y ps)
 
@@ -64,16 +64,16 @@ stroke_kept R S e a b inside p = record { area = p.area; cells = λ x y out. p.c
     same_cell r e None f = refl
     same_cell r e (Some c) f = rw f refl
 
--- a grapheme with a width is put in its cell
-pub glyph_put : (clip : Rect) (x y : ℕ) (g : Glyph) (a b c : Screen) → covers clip x y ≡ true → 0 < glyph_width g →
-    Painted (stroke (at_place x y) (put g.text)) a b → Painted (stroke (covers (record { x = x; y = y; width = 1; height = 1 })) (dress g.style)) b c →
+-- a grapheme of some width is written to its cell
+pub glyph_written : (clip : Rect) (x y : ℕ) (g : Glyph) (a b c : Screen) → covers clip x y ≡ true → 0 < glyph_width g →
+    Painted (stroke (at_place x y) (write g.text)) a b → Painted (stroke (covers (record { x = x; y = y; width = 1; height = 1 })) (set_style g.style)) b c →
     Painted (glyph_layers clip x y g) a c
-glyph_put clip x y g a b c inside some p q =
+glyph_written clip x y g a b c inside some p q =
     let wide : nat_lt 0 (glyph_width g) ≡ true = grind (arith, nat_tests) in
     let cell : Rect = record { x = x; y = y; width = 1; height = 1 } in
-    let shown : glyph_layers clip x y g ≡ stroke (at_place x y) (put g.text) ++ stroke (at_place x y) (dress g.style) = rw (wide, inside) refl in
+    let shown : glyph_layers clip x y g ≡ stroke (at_place x y) (write g.text) ++ stroke (at_place x y) (set_style g.style) = rw (wide, inside) refl in
     subst (λ (ls : List Layer). Painted ls a c) (sym shown)
-    (Painted-then p (Painted-region (covers cell) (at_place x y) (dress g.style ∷ []) b c q (λ u v. same u v)))
+    (Painted-then p (Painted-region (covers cell) (at_place x y) (set_style g.style ∷ []) b c q (λ u v. same u v)))
   where
     same : (u v : ℕ) → covers (record { x = x; y = y; width = 1; height = 1 }) u v ≡ at_place x y u v
     same u v = grind (arith, nat_tests)
@@ -81,7 +81,7 @@ glyph_put clip x y g a b c inside some p q =
 pub cell_outside : (clip : Rect) (x y a b : ℕ) → covers clip x y ≡ true → covers clip a b ≡ false → covers (record { x = x; y = y; width = 1; height = 1 }) a b ≡ false
 cell_outside clip x y a b inside out = grind (arith, nat_tests)
 
--- below the last row nothing is painted
+-- nothing is painted below the last row
 row_past : (clip : Rect) (x y : ℕ) (gs : List Glyph) → bottom_of clip ≤ y → run_layers clip x y gs ≡ []
 unfolding run_layers
 row_past clip x y [] far = refl
@@ -97,7 +97,7 @@ pub glyph_lines_past : (rect : Rect) (y : ℕ) (ss : List GlyphLine) → bottom_
 glyph_lines_past rect y [] far = refl
 glyph_lines_past rect y (s ∷ ss) far = rw (glyph_line_past rect y s far) (glyph_lines_past rect (y + 1) ss (omega arith))
 
--- places in a list of which the rest is known
+-- indices in a list, if the rest of the list is known
 pub drop_next : {A : Type 0} (xs : List A) (i : ℕ) (x : A) (rest : List A) → drop i xs ≡ x ∷ rest → drop (i + 1) xs ≡ rest
 drop_next xs i x rest e = sym (drop-drop 1 i xs) ∙ ap (drop 1) e
 

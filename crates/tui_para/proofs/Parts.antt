@@ -15,7 +15,7 @@ between-map f start end xs = ap (take (end - start)) (drop-map f start xs) ∙ t
 pub between-nil : {A : Type 0} (place : ℕ) (xs : List A) → between place place xs ≡ []
 between-nil place xs = let z : place - place ≡ 0 = omega arith in ap (λ n. take n (drop place xs)) z
 
--- a part from a place on
+-- a range of what is left after the first `place` elements
 pub between-drop : {A : Type 0} (place start end : ℕ) (xs : List A) → between start end (drop place xs) ≡ between (place + start) (place + end) xs
 between-drop place start end xs =
     let n : place + end - (place + start) ≡ end - start = omega arith in
@@ -30,7 +30,7 @@ lines_some rule xs [] h some = absurd (some h)
 lines_some rule xs (l ∷ ls) h some = omega arith
 
 module _ {A B : Type 0} (f : A → B) (xs : List A) (ys : List B) (place : ℕ) (seen : ys ≡ take (length (map f xs) - place) (drop place (map f xs))) where
-  -- what is seen of the graphemes from a place on
+  -- the images of the graphemes from an index on
   pub seen_from : map f (drop place xs) ≡ ys
   seen_from = sym (drop-map f place xs) ∙ (sym (take_rest (map f xs) place) ∙ sym seen)
 
@@ -42,6 +42,6 @@ module _ {A B : Type 0} (f : A → B) (xs : List A) (ys : List B) (place : ℕ) 
       e ∙ (ap (λ t. sum_by size (between start end t)) (sym seen_from) ∙ (ap (sum_by size) (between-map f start end (drop place xs))
       ∙ (sum_by-map f (λ y. true) (λ y. true) size (between start end (drop place xs)) ∙ ap (sum_by (λ x. size (f x))) (between-drop place start end xs))))
 
--- a text line has a line
+-- a text line has at least one line
 pub wraps_some : {A : Type 0} (rule : Rule A) (xs : List A) → WrapsKept rule xs [] → ⊥
 wraps_some rule xs h = ⊎_elim (λ e. no_cons _ _ e.1) (λ e. e.0 e.1) h

@@ -1,4 +1,4 @@
--- The parts that are left of a text line: where more of it is read, and where the next of them is found.
+-- The parts that are left of a text line, when more of it is read and when the next part is found.
 use Rattle.std.proofs.Common.{◌≡◌, ℕ, List, [], ◌++◌, Option, Some, None, Bool, false, drop, map, refl, sym, ap, ◌∙◌, subst, inr, ⊎_elim, arith}
 use Rattle.std.proofs.lemmas.Bool.{false≢true}
 use Rattle.std.proofs.lemmas.List.{append-nil, append_assoc, drop_all, length-map, map-append}
@@ -7,24 +7,24 @@ use Rattle.std.specs.Prelude.{◌↔◌}
 use Rattle.tui_text.specs.Grapheme.{Glyph, glyph_of, glyph_width}
 use Rattle.tui_text.specs.declared.grapheme.StyledGrapheme.{StyledGrapheme}
 use Rattle.tui_para.specs.Given.{SourceReads}
-use Rattle.tui_para.specs.Hyphenation.{behind_all, marked_from}
+use Rattle.tui_para.specs.Hyphenation.{after_all, marked_from}
 use Rattle.tui_para.specs.Hyphens.{Unsplit, glyph_rule, unsplit}
 use Rattle.tui_para.specs.Lines.{IsTakenOf}
-use Rattle.tui_para.specs.Marked.{IsPart, splits_of, glyphs_of, part_of}
+use Rattle.tui_para.specs.Marked.{IsLineRange, splits_of, glyphs_of, part_of}
 use Rattle.tui_para.specs.Wrapped.{HasLines, not_wider}
-use Rattle.tui_para.specs.Wrapping.{SplitPartsWith, FindsPart, HasRead, IsNextPlace, LinesOfRest, PartsWith, glyphs_from}
+use Rattle.tui_para.specs.Wrapping.{SplitPartsWith, FindsPart, HasRead, AreNextBounds, LinesOfRest, PartsWith, glyphs_from}
 use Rattle.tui_para.specs.declared.wrap.Wrap.{Wrap}
-use Rattle.tui_para.specs.declared.wrapping.breaking.Place.{Place}
+use Rattle.tui_para.specs.declared.wrapping.breaking.LineBounds.{LineBounds}
 use Rattle.tui_para.specs.declared.wrapping.hyphenation.Hyphenation.{Hyphenation}
 use Rattle.tui_para.specs.declared.wrapping.marked.Marked.{Marked}
-use Rattle.tui_para.specs.declared.wrapping.part.Part.{Part}
+use Rattle.tui_para.specs.declared.wrapping.part.LineRange.{LineRange}
 use Rattle.tui_para.specs.declared.wrapping.text_line.TextLine.{TextLine}
-use Rattle.tui_para.proofs.Lending.{first_along, same_lists}
+use Rattle.tui_para.proofs.Yielding.{first_along, same_lists}
 use Rattle.tui_para.proofs.Parts.{between-map, no_lines}
 use Rattle.tui_para.proofs.Sources.{not_wider-append, reads_none, reads_then}
-use Rattle.tui_para.proofs.WithSplits.{behind-append, first_unsplit, glyph_part, marked-append}
+use Rattle.tui_para.proofs.WithSplits.{after-append, first_unsplit, glyph_part, marked-append}
 
--- what holds of equal values
+-- what holds for some values holds for equal ones
 same_rest : (parts : List (List (Glyph × Bool))) (a b : Bool) (w v : ℕ) (way other : Wrap) (xs ys : List (Glyph × Bool)) → a ≡ b → w ≡ v → way ≡ other → xs ≡ ys →
     LinesOfRest a w way xs parts → LinesOfRest b v other ys parts
 same_rest parts a b w v way other xs ys new width ways whole h =
@@ -35,7 +35,7 @@ same_has parts w v way other xs ys width ways whole h =
     let has = λ (n : ℕ) (k : Wrap). HasLines (glyph_rule n k) in
     subst (λ n. has n other ys parts) width (subst (λ k. has w k ys parts) ways (subst (λ gs. has w way gs parts) whole h))
 
--- the parts where no grapheme is left
+-- the parts, if no grapheme is left
 module _ {I : Type 0} (s : TextLine I) (old : s.is_new ≡ false) (gone : drop s.place (splits_of s.line) ≡ []) (glyphs : List Glyph) (none : glyphs ≡ []) where
   empty : glyphs_from s s.place glyphs ≡ []
   empty = ap (λ k. k ++ marked_from s.line.hyphenation (not_wider glyph_width s.width glyphs)) gone ∙ ap (λ k. marked_from s.line.hyphenation (not_wider glyph_width s.width k)) none
@@ -49,12 +49,12 @@ module _ {I : Type 0} (s : TextLine I) (old : s.is_new ≡ false) (gone : drop s
     λ e. ([], inr (old, empty), e),
   )
 
--- those of a composer that was just made
+-- the parts of a composer that was just created
 pub no_parts : {I : Type 0} (s : TextLine I) → s.is_new ≡ false → splits_of s.line ≡ [] → (glyphs : List Glyph) → glyphs ≡ [] → (parts : List (List Glyph)) → PartsWith s glyphs parts ↔ (parts ≡ [])
 no_parts s old none = only_none s old (ap (drop s.place) none ∙ drop_all s.place [] (omega arith))
 
--- graphemes that are read behind others, and then more
-module _ (w v : ℕ) (b c : Hyphenation) (xs ys : List Glyph) (width : v ≡ w) (goes : c ≡ behind_all b (not_wider glyph_width w xs)) where
+-- graphemes are read after others, and then more
+module _ (w v : ℕ) (b c : Hyphenation) (xs ys : List Glyph) (width : v ≡ w) (goes : c ≡ after_all b (not_wider glyph_width w xs)) where
   more_marked : marked_from b (not_wider glyph_width w xs) ++ marked_from c (not_wider glyph_width v ys) ≡ marked_from b (not_wider glyph_width w (xs ++ ys))
   more_marked =
       let first = not_wider glyph_width w xs in
@@ -66,17 +66,17 @@ module _ (w v : ℕ) (b c : Hyphenation) (xs ys : List Glyph) (width : v ≡ w) 
   marked_then front before after e h =
       h ∙ (ap (λ k. k ++ marked_from c (not_wider glyph_width v ys)) e ∙ (append_assoc front (marked_from b (not_wider glyph_width w xs)) (marked_from c (not_wider glyph_width v ys)) ∙ ap (λ k. front ++ k) more_marked))
 
-  pub behind_then : (d : Hyphenation) → d ≡ behind_all c (not_wider glyph_width v ys) → d ≡ behind_all b (not_wider glyph_width w (xs ++ ys))
-  behind_then d h =
-      h ∙ (ap (λ n. behind_all c (not_wider glyph_width n ys)) width ∙ (ap (λ k. behind_all k (not_wider glyph_width w ys)) goes
-      ∙ (sym (behind-append b (not_wider glyph_width w xs) (not_wider glyph_width w ys)) ∙ sym (ap (behind_all b) (not_wider-append glyph_width w xs ys)))))
+  pub after_then : (d : Hyphenation) → d ≡ after_all c (not_wider glyph_width v ys) → d ≡ after_all b (not_wider glyph_width w (xs ++ ys))
+  after_then d h =
+      h ∙ (ap (λ n. after_all c (not_wider glyph_width n ys)) width ∙ (ap (λ k. after_all k (not_wider glyph_width w ys)) goes
+      ∙ (sym (after-append b (not_wider glyph_width w xs) (not_wider glyph_width w ys)) ∙ sym (ap (after_all b) (not_wider-append glyph_width w xs ys)))))
 
 module _ {I : Type 0} (gives : I → Option StyledGrapheme → I → Type 0) where
   -- nothing is read yet
   pub HasRead-none : (s : TextLine I) → HasRead gives s s
-  HasRead-none s = record { taken = []; reads = reads_none gives s.source; behind = sym (append-nil (drop s.place (splits_of s.line))); goes_on = refl; is_new = refl; width = refl; wrap = refl }
+  HasRead-none s = record { taken = []; reads = reads_none gives s.source; after = sym (append-nil (drop s.place (splits_of s.line))); goes_on = refl; is_new = refl; width = refl; wrap = refl }
 
-  -- and then more
+  -- some are read, and then more
   pub HasRead-then : (s t u : TextLine I) → HasRead gives s t → HasRead gives t u → HasRead gives s u
   HasRead-then s t u a b =
       let after = drop u.place (splits_of u.line) in
@@ -87,10 +87,10 @@ module _ {I : Type 0} (gives : I → Option StyledGrapheme → I → Type 0) whe
       record {
         taken = a.taken ++ b.taken;
         reads = reads_then gives s.source t.source u.source a.taken b.taken a.reads b.reads;
-        behind = subst (λ k. after ≡ front ++ marked_from h (not_wider glyph_width s.width k)) both
-            (marked_then s.width t.width h t.line.hyphenation (map glyph_of a.taken) (map glyph_of b.taken) a.width a.goes_on front before after a.behind b.behind);
-        goes_on = subst (λ k. u.line.hyphenation ≡ behind_all h (not_wider glyph_width s.width k)) both
-            (behind_then s.width t.width h t.line.hyphenation (map glyph_of a.taken) (map glyph_of b.taken) a.width a.goes_on u.line.hyphenation b.goes_on);
+        after = subst (λ k. after ≡ front ++ marked_from h (not_wider glyph_width s.width k)) both
+            (marked_then s.width t.width h t.line.hyphenation (map glyph_of a.taken) (map glyph_of b.taken) a.width a.goes_on front before after a.after b.after);
+        goes_on = subst (λ k. u.line.hyphenation ≡ after_all h (not_wider glyph_width s.width k)) both
+            (after_then s.width t.width h t.line.hyphenation (map glyph_of a.taken) (map glyph_of b.taken) a.width a.goes_on u.line.hyphenation b.goes_on);
         is_new = b.is_new ∙ a.is_new;
         width = b.width ∙ a.width;
         wrap = b.wrap ∙ a.wrap;
@@ -99,7 +99,7 @@ module _ {I : Type 0} (gives : I → Option StyledGrapheme → I → Type 0) whe
   module _ (s t : TextLine I) (r : HasRead gives s t) (glyphs : List Glyph) where
     read_from : glyphs_from t t.place glyphs ≡ glyphs_from s s.place (map glyph_of r.taken ++ glyphs)
     read_from = marked_then s.width t.width s.line.hyphenation t.line.hyphenation (map glyph_of r.taken) glyphs r.width r.goes_on
-        (drop s.place (splits_of s.line)) (drop t.place (splits_of t.line)) (glyphs_from t t.place glyphs) r.behind refl
+        (drop s.place (splits_of s.line)) (drop t.place (splits_of t.line)) (glyphs_from t t.place glyphs) r.after refl
 
     -- the parts stay the same
     pub read_parts : (parts : List (List Glyph)) → PartsWith t glyphs parts ↔ PartsWith s (map glyph_of r.taken ++ glyphs) parts
@@ -108,7 +108,7 @@ module _ {I : Type 0} (gives : I → Option StyledGrapheme → I → Type 0) whe
       λ (split, h, e). (split, same_rest split s.is_new t.is_new s.width t.width s.wrap t.wrap _ _ (sym r.is_new) (sym r.width) (sym r.wrap) (sym read_from) h, e),
     )
 
-  -- it is over
+  -- the text line has ended
   pub found_none : (s t : TextLine I) → HasRead gives s t → t.source ≡ None → t.is_new ≡ false → drop t.place (splits_of t.line) ≡ [] → FindsPart gives s t None
   found_none s t r ends old gone = record {
     is_part = tt;
@@ -117,12 +117,12 @@ module _ {I : Type 0} (gives : I → Option StyledGrapheme → I → Type 0) whe
     first = λ glyphs ended.
         let none = only_none t old gone glyphs (ended ends) in
         first_along None (PartsWith t glyphs) (PartsWith s (map glyph_of r.taken ++ glyphs)) (PartsWith t glyphs) (PartsWith t glyphs) (read_parts s t r glyphs) (same_lists (PartsWith t glyphs))
-        (record { lends = (none []).1 refl; takes = λ parts h. ((none parts).0 h, (none []).1 refl) });
+        (record { yields = (none []).1 refl; takes = λ parts h. ((none parts).0 h, (none []).1 refl) });
     ends = λ e. ends;
   }
 
-  -- or its next part is passed
-  module _ (s t u : TextLine I) (p : Place) (part : Part) (source : u.source ≡ t.source) (line : u.line ≡ t.line) (width : u.width ≡ t.width) (wrap : u.wrap ≡ t.wrap) (old : u.is_new ≡ false) (place : u.place ≡ p.next)
+  -- the next part of the text line is passed
+  module _ (s t u : TextLine I) (p : LineBounds) (part : LineRange) (source : u.source ≡ t.source) (line : u.line ≡ t.line) (width : u.width ≡ t.width) (wrap : u.wrap ≡ t.wrap) (old : u.is_new ≡ false) (place : u.place ≡ p.next)
       (at : part ≡ record { start = p.start; end = p.end; width = p.width }) where
     from : (glyphs : List Glyph) → glyphs_from u u.place glyphs ≡ glyphs_from t p.next glyphs
     from glyphs =
@@ -142,16 +142,16 @@ module _ {I : Type 0} (gives : I → Option StyledGrapheme → I → Type 0) whe
     shown : map glyph_part (between p.start p.end (splits_of t.line)) ≡ part_of (glyphs_of u.line) part
     shown = sym (between-map glyph_part p.start p.end (splits_of t.line)) ∙ seen
 
-    stands : IsNextPlace t p → IsPart (glyphs_of u.line) part
-    stands k =
+    is_in_line : AreNextBounds t p → IsLineRange (glyphs_of u.line) part
+    is_in_line k =
         let long = length-map (splits_of t.line) glyph_part in
         let near = k.within.0 in
-        subst (IsPart (glyphs_of u.line)) (sym at)
-        (subst (λ (m : Marked). IsPart (glyphs_of m) (record { start = p.start; end = p.end; width = p.width })) (sym line) (record { order = k.order; within = omega arith; columns = k.columns }))
+        subst (IsLineRange (glyphs_of u.line)) (sym at)
+        (subst (λ (m : Marked). IsLineRange (glyphs_of m) (record { start = p.start; end = p.end; width = p.width })) (sym line) (record { order = k.order; within = omega arith; columns = k.columns }))
 
-    pub found_part : HasRead gives s t → IsNextPlace t p → FindsPart gives s u (Some part)
+    pub found_part : HasRead gives s t → AreNextBounds t p → FindsPart gives s u (Some part)
     found_part r k = record {
-      is_part = stands k;
+      is_part = is_in_line k;
       taken = r.taken;
       reads = subst (λ o. SourceReads gives s.source r.taken o) (sym source) r.reads;
       first = λ glyphs ended.

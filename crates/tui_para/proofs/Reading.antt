@@ -1,4 +1,4 @@
--- What the numbers tell of the graphemes that were read.
+-- What a counter says about the graphemes that were read.
 use Rattle.std.proofs.Common.{◌≡◌, ℕ, ◌+◌, ◌-◌, ◌<◌, ◌≤◌, List, [], ◌∷◌, ◌++◌, length, Bool, true, false, cond, refl, sym, ap, ◌∙◌, arith, inl, inr, ⊎_elim}
 use Rattle.std.specs.Prelude.{◌≢◌, ◌⊎◌, ◌||◌, sum_by, nat_le, not}
 use Rattle.std.proofs.lemmas.List.{append_assoc}
@@ -11,21 +11,21 @@ use Rattle.tui_para.specs.Counting.{end_word, add_blank, skip_blank, add_letter}
 use Rattle.tui_para.proofs.Unique.{breaks_there, ends_in-append, piece_ends}
 use Rattle.tui_para.proofs.Filled.{append_cons}
 
--- all blanks
+-- all are whitespace
 abbrev pub AllBlank : {A : Type 0} → (A → Bool) → List A → Type 0
 AllBlank blank [] = Unit {0}
 AllBlank blank (x ∷ xs) = (blank x ≡ true) × AllBlank blank xs
 
--- the front of a piece: no blank, and what doesn't end it
+-- the beginning of a piece: no whitespace, then graphemes that don't end it
 abbrev pub IsPiece : {A : Type 0} → Rule A → List A → Type 0
 IsPiece rule [] = Unit {0}
 IsPiece rule (y ∷ ys) = (rule.blank y ≡ false) × (up_to (ends_piece rule) ys ≡ ys)
 
--- what is still to be read, without the blanks that a line's beginning leaves out
+-- what is still to be read, without the whitespace that is dropped at a line's beginning
 abbrev pub to_come : {A : Type 0} → (A → Bool) → Bool → Counter → List A → List A
 to_come blank trim c zs = cond (c.begun || c.in_word) zs (line_start blank trim zs)
 
--- after the last line that has ended stands `here`, of which `zs` is still to be read
+-- after the last line that has ended comes `here`, of which `zs` is still to be read
 pub record Reads {A : Type 0} (rule : Rule A) (c : Counter) (here zs : List A) : Type 0 where
   pub front : List A
   pub gap : List A
@@ -40,13 +40,13 @@ pub record Reads {A : Type 0} (rule : Rule A) (c : Counter) (here zs : List A) :
   pub some : ((c.some ≡ true) × (here ≢ [])) ⊎ ((c.some ≡ false) × (here ≡ zs))
   pub fits : c.used ≤ rule.width
 
--- the lines that have ended and those of what stands behind them are n
+-- the lines that have ended and the lines of what comes after them are n together
 pub record Counts {A : Type 0} (rule : Rule A) (c : Counter) (zs : List A) (n : ℕ) : Type 0 where
   pub here : List A
   pub reads : Reads rule c here zs
   pub lines : (lines : List (List A)) → HasLines rule here lines → c.lines + length lines ≡ n
 
--- where a line has just ended
+-- if a line has just ended
 abbrev pub fresh : {A : Type 0} (rule : Rule A) (n : ℕ) (zs : List A) → Reads rule (record { lines = n; some = false; begun = false; in_word = false; used = 0; word = 0 }) zs zs
 fresh rule n zs = record {
   front = [];
@@ -63,7 +63,7 @@ fresh rule n zs = record {
   fits = omega arith;
 }
 
--- what comes, where a line or a word is under way
+-- what is still to be read, if a line or a word is under way
 pub going : {A : Type 0} (blank : A → Bool) (trim : Bool) (c : Counter) (zs : List A) → (c.begun ≡ true) ⊎ (c.in_word ≡ true) → to_come blank trim c zs ≡ zs
 going blank trim c zs h = cond-true (c.begun || c.in_word) zs (line_start blank trim zs) (⊎_elim (λ b. or_left c.begun c.in_word b) (λ i. or_right c.begun c.in_word i) h)
 
@@ -108,7 +108,7 @@ word_ended rule c here x zs b i r =
       fits = r.fits;
     }
 
--- the blanks that fit the room go, and one more
+-- the whitespace that fits the room is dropped, and one more whitespace grapheme
 pub blanks_go : {A : Type 0} (rule : Rule A) (room : ℕ) (gap rest : List A) → AllBlank rule.blank gap → sum_by rule.size gap ≤ room → after_break rule room (gap ++ rest) ≡ after_break rule (room - sum_by rule.size gap) rest
 blanks_go rule room [] rest h l =
     let e : room ≡ room - 0 = omega arith in
@@ -128,7 +128,7 @@ blank_goes rule room x zs b l =
 pub letter_stays : {A : Type 0} (rule : Rule A) (room : ℕ) (x : A) (zs : List A) → rule.blank x ≡ false → after_break rule room (x ∷ zs) ≡ x ∷ zs
 letter_stays rule room x zs b = cond-false (rule.blank x) (cond (nat_le (rule.size x) room) (after_break rule (room - rule.size x) zs) zs) (x ∷ zs) b
 
--- what the next piece has, at least
+-- the next piece has at least this width
 piece_has : {A : Type 0} (rule : Rule A) (part : List A) (x : A) (zs : List A) → up_to (ends_piece rule) part ≡ part → ends_piece rule x ≡ false →
     sum_by rule.size part + rule.size x ≤ sum_by rule.size (up_to (ends_piece rule) (part ++ x ∷ zs))
 piece_has rule [] x zs h b =
@@ -153,7 +153,7 @@ blank_is_next rule x zs b =
     let c = sum_by-cons rule.size x (next_piece rule zs) in
     rw b (omega arith)
 
--- a letter that comes goes on with the piece under way, or there is none
+-- a letter continues the piece under way, or there is none
 abbrev pub LetterGoesOn : {A : Type 0} → Rule A → List A → A → Type 0
 LetterGoesOn rule part x = (part ≡ []) ⊎ (ends_piece rule x ≡ false)
 
@@ -169,7 +169,7 @@ letters_are_next rule (y ∷ part) x zs h b goes =
     let has = ⊎_elim (λ e. absurd (cc)) (λ e. piece_has rule part x zs h.1 e) goes in
     rw no (omega arith)
 
--- blanks and a part of a piece
+-- whitespace and a part of a piece
 pub one_piece_is : {A : Type 0} (rule : Rule A) (gap part : List A) → AllBlank rule.blank gap → IsPiece rule part → next_piece rule (gap ++ part) ≡ gap ++ part
 one_piece_is rule [] [] h l = refl
 one_piece_is rule [] (x ∷ part) h l = cond-false (rule.blank x) (x ∷ next_piece rule part) (x ∷ up_to (ends_piece rule) part) l.0 ∙ ap (λ t. x ∷ t) l.1
@@ -177,7 +177,7 @@ one_piece_is rule (y ∷ gap) part h l =
     let b = h.0 in
     rw b (ap (λ t. y ∷ t) (one_piece_is rule gap part h.1 l))
 
--- the line that ends where a word has ended
+-- the line that ends where a piece of a word has ended
 pub soft_line : {A : Type 0} (rule : Rule A) (c : Counter) (here : List A) (x : A) (zs : List A) (r : Reads rule c here (x ∷ zs)) → c.begun ≡ true → rule.width < c.used + rule.size x → sum_by rule.size r.part + rule.size x ≤ sum_by rule.size (next_piece rule (r.part ++ x ∷ zs)) → IsNextLine rule here r.front (after_break rule (rule.width - sum_by rule.size r.front - sum_by rule.size r.gap) (r.part ++ x ∷ zs))
 soft_line rule c here x zs r b o h =
     let u = r.used_is in
@@ -192,7 +192,7 @@ soft_line rule c here x zs r b o h =
       rest_is = sym (blanks_go rule (rule.width - sum_by rule.size r.front) r.gap (r.part ++ x ∷ zs) r.blanks (omega arith));
     }
 
--- the line that ends within its first word, or before it
+-- the line that ends inside its first word, or before it
 pub hard_line : {A : Type 0} (rule : Rule A) (c : Counter) (here : List A) (x : A) (zs : List A) (r : Reads rule c here (x ∷ zs)) → c.begun ≡ false → rule.width < c.used + rule.size x → to_come rule.blank rule.trim c (x ∷ zs) ≡ x ∷ zs → IsNextLine rule here (r.gap ++ r.part) (after_break rule (rule.width - sum_by rule.size (r.gap ++ r.part)) (x ∷ zs))
 hard_line rule c here x zs r b o t =
     let u = r.used_is in
@@ -207,7 +207,7 @@ hard_line rule c here x zs r b o t =
       rest_is = refl;
     }
 
--- something stands there where something is to be read
+-- if something is still to be read, `here` is not empty
 pub here_some : {A : Type 0} (rule : Rule A) (c : Counter) (here : List A) (x : A) (zs : List A) → Reads rule c here (x ∷ zs) → here ≢ []
 here_some rule c here x zs r = ⊎_elim (λ s. s.1) (λ s. λ e. (let f : x ∷ zs ≡ [] = sym s.1 ∙ e in cc)) r.some
 

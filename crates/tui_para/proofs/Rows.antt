@@ -1,4 +1,5 @@
--- Worked rows, by computing. A grapheme is a number: 0 a blank, 1 a letter, 2 a wide letter, 3 a blank of width 0.
+-- Worked examples, checked by computing. A grapheme is a number: 0 is a space, 1 a letter, 2 a wide letter, 3 a space
+-- of width 0.
 use Rattle.std.proofs.Common.{ℕ, zero, suc, List, [], ◌∷◌, Bool, true, false, replicate}
 use Rattle.tui_para.specs.Rule.{Rule}
 use Rattle.tui_para.specs.Places.{wrap_kept}

@@ -1,11 +1,11 @@
--- Lines below one another, cell by cell.
+-- Lines one below the other, cell by cell.
 use Rattle.std.proofs.Common.{drop, ◌≡◌, ℕ, suc, ◌+◌, ◌-◌, ◌≤◌, ◌<◌, List, [], ◌∷◌, Bool, true, false, ◌&&◌, ◌==◌, if◌then◌else◌, Option, Some, None, option_map, slice_get, refl, subst, ◌∙◌, ap, sym, arith, ⊎_elim}
 use Rattle.std.proofs.lemmas.Bool.{cases_lt}
 use Rattle.std.proofs.lemmas.Bool.Decides.{nat_tests}
 use Rattle.std.specs.Prelude.{sum_by, OnOk, Result, Ok, Err}
 use Rattle.tui_cells.specs.declared.rect.Rect.{Rect}
 use Rattle.tui_cells.specs.Rect.{covers, intersection_of}
-use Rattle.tui_cells.specs.Cell.{Look, dress, dressed}
+use Rattle.tui_cells.specs.Cell.{Look, set_style, restyled}
 use Rattle.tui_cells.specs.Buffer.{Screen, cell_at}
 use Rattle.tui_cells.specs.Layers.{Painted, layers_at, stroke}
 use Rattle.tui_cells.proofs.Painting.{layers_at-append}
@@ -74,22 +74,22 @@ map_same f g (Some c) e = ap Some (e c)
 
 -- inside the area
 content_shown : (p : ParagraphData) (rect : Rect) (x y : ℕ) (c : Look) → covers rect x y ≡ true →
-    layers_at (content_layers p rect) x y c ≡ with_line rect (slice_get (drop p.scroll_y (paragraph_lines p rect.width)) (y - rect.y)) x (dressed p.style c)
+    layers_at (content_layers p rect) x y c ≡ with_line rect (slice_get (drop p.scroll_y (paragraph_lines p rect.width)) (y - rect.y)) x (restyled p.style c)
 unfolding content_layers
 content_shown p rect x y c inside =
     let ss = drop p.scroll_y (paragraph_lines p rect.width) in
-    ap (λ (b : Bool). layers_at (glyph_lines_layers rect rect.y ss) x y (if b then dressed p.style c else c)) inside
-    ∙ (cell_shown rect ss x y (dressed p.style c) ∙ ap (λ (b : Bool). if b then with_line rect (slice_get ss (y - rect.y)) x (dressed p.style c) else dressed p.style c) inside)
+    ap (λ (b : Bool). layers_at (glyph_lines_layers rect rect.y ss) x y (if b then restyled p.style c else c)) inside
+    ∙ (cell_shown rect ss x y (restyled p.style c) ∙ ap (λ (b : Bool). if b then with_line rect (slice_get ss (y - rect.y)) x (restyled p.style c) else restyled p.style c) inside)
 
--- what stands under the text inside the block
+-- what is under the text inside the block
 under_at : (o : Option BlockData) (style : Style) (clip : Rect) (x y : ℕ) (c : Look) → (covers clip x y ≡ true → Fits clip) → covers (inner_of o clip) x y ≡ true →
-    dressed style (layers_at (under_layers o style clip) x y c) ≡ base_of o style c
+    restyled style (layers_at (under_layers o style clip) x y c) ≡ base_of o style c
 under_at None style clip x y c fits within = refl
 under_at (Some b) style clip x y c fits within =
     let on : covers clip x y ≡ true = in_clip b clip x y within in
-    let first : layers_at (stroke (covers clip) (dress style)) x y c ≡ dressed style c = rw on refl in
-    ap (dressed style) (layers_at-append (stroke (covers clip) (dress style)) (block_layers b clip) x y c
-    ∙ (inside b clip x y (layers_at (stroke (covers clip) (dress style)) x y c) (fits on).wide (fits on).high within ∙ ap (dressed b.style) first))
+    let first : layers_at (stroke (covers clip) (set_style style)) x y c ≡ restyled style c = rw on refl in
+    ap (restyled style) (layers_at-append (stroke (covers clip) (set_style style)) (block_layers b clip) x y c
+    ∙ (inside b clip x y (layers_at (stroke (covers clip) (set_style style)) x y c) (fits on).wide (fits on).high within ∙ ap (restyled b.style) first))
 
 cell_of : (p : ParagraphData) (clip : Rect) (x y : ℕ) (c : Look) → (covers clip x y ≡ true → Fits clip) → covers (inner_of p.block clip) x y ≡ true →
     layers_at (paragraph_layers p clip) x y c
@@ -116,14 +116,14 @@ paragraph_shows p clip before after fits h = record {
   );
 }
 
--- an intersection that has a position has far edges of at most 65535
+-- an intersection that holds a position has far edges of at most 65535
 wide_of : (a b : Rect) (x y : ℕ) → covers (intersection_of a b) x y ≡ true → (intersection_of a b).x + (intersection_of a b).width ≤ 65535
 wide_of a b x y on = grind (arith, nat_tests)
 
 high_of : (a b : Rect) (x y : ℕ) → covers (intersection_of a b) x y ≡ true → (intersection_of a b).y + (intersection_of a b).height ≤ 65535
 high_of a b x y on = grind (arith, nat_tests)
 
--- the same of a drawing that ended Ok
+-- the same after a drawing that returned Ok
 pub drawn_shows : {T E : Type 0} (result : Result T E) (p : ParagraphData) (clip a b : Rect) (before after : Screen) → clip ≡ intersection_of a b
     → OnOk result (Painted (paragraph_layers p clip) before after) → OnOk result (ParagraphShows p (intersection_of a b) before after)
 drawn_shows (Ok x) p clip a b before after same h =

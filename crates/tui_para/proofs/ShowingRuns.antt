@@ -3,20 +3,20 @@ use Rattle.std.proofs.Common.{◌≡◌, ℕ, ◌+◌, ◌<◌, List, [], ◌∷
 use Rattle.std.proofs.lemmas.Bool.Decides.{nat_tests}
 use Rattle.tui_cells.specs.declared.rect.Rect.{Rect}
 use Rattle.tui_cells.specs.Rect.{covers}
-use Rattle.tui_cells.specs.Cell.{Look, put, dress}
+use Rattle.tui_cells.specs.Cell.{Look, write, set_style}
 use Rattle.tui_cells.specs.Layers.{layers_at, stroke, at_place}
 use Rattle.tui_cells.proofs.Painting.{layers_at-append}
 use Rattle.tui_text.specs.Grapheme.{Glyph, glyph_width}
 use Rattle.tui_para.specs.Strokes.{glyph_layers, run_layers}
-use Rattle.tui_para.specs.Shows.{stands_in, with_grapheme}
+use Rattle.tui_para.specs.Shows.{grapheme_in_column, with_grapheme}
 
--- no grapheme of a run stands before it
-stands_before : (col : ℕ) (gs : List Glyph) (x : ℕ) → x < col → stands_in col gs x ≡ None
-stands_before col [] x l = refl
-stands_before col (g ∷ gs) x l = let h = stands_before (col + glyph_width g) gs x (omega arith) in grind (arith, nat_tests)
+-- no grapheme of a run is before its first column
+in_column_before : (col : ℕ) (gs : List Glyph) (x : ℕ) → x < col → grapheme_in_column col gs x ≡ None
+in_column_before col [] x l = refl
+in_column_before col (g ∷ gs) x l = let h = in_column_before (col + glyph_width g) gs x (omega arith) in grind (arith, nat_tests)
 
 two_strokes : (b a : Bool) (R : ℕ → ℕ → Bool) (g : Glyph) (x y : ℕ) (c : Look) → R x y ≡ a →
-    layers_at (if b then stroke R (put g.text) ++ stroke R (dress g.style) else []) x y c ≡ (if b && a then with_grapheme (Some g) c else c)
+    layers_at (if b then stroke R (write g.text) ++ stroke R (set_style g.style) else []) x y c ≡ (if b && a then with_grapheme (Some g) c else c)
 two_strokes false a R g x y c e = refl
 two_strokes true true R g x y c e = rw e refl
 two_strokes true false R g x y c e = rw e refl
@@ -46,7 +46,7 @@ same_both true c = refl
 same_both false c = refl
 
 pub run_at : (clip : Rect) (col y0 : ℕ) (gs : List Glyph) (x y : ℕ) (c : Look) →
-    layers_at (run_layers clip col y0 gs) x y c ≡ (if covers clip x y && (y == y0) then with_grapheme (stands_in col gs x) c else c)
+    layers_at (run_layers clip col y0 gs) x y c ≡ (if covers clip x y && (y == y0) then with_grapheme (grapheme_in_column col gs x) c else c)
 unfolding run_layers
 run_at clip col y0 [] x y c = same_both (covers clip x y && (y == y0)) c
 run_at clip col y0 (g ∷ gs) x y c =
@@ -55,7 +55,7 @@ run_at clip col y0 (g ∷ gs) x y c =
     layers_at-append (glyph_layers clip col y0 g) (run_layers clip (col + glyph_width g) y0 gs) x y c
     ∙ (ap (layers_at (run_layers clip (col + glyph_width g) y0 gs) x y) (grapheme_at clip col y0 g x y c)
     ∙ (run_at clip (col + glyph_width g) y0 gs x y (if b then with_grapheme (Some g) c else c)
-    ∙ first_then b (nat_lt 0 (glyph_width g) && (x == col)) q (stands_in (col + glyph_width g) gs x) g c
+    ∙ first_then b (nat_lt 0 (glyph_width g) && (x == col)) q (grapheme_in_column (col + glyph_width g) gs x) g c
     (out_of_row clip (glyph_width g) col y0 x y)
-    (λ h i. let k = in_column clip (glyph_width g) col y0 x y h i in (k.0, stands_before (col + glyph_width g) gs x k.1))
+    (λ h i. let k = in_column clip (glyph_width g) col y0 x y h i in (k.0, in_column_before (col + glyph_width g) gs x k.1))
     (out_of_column clip (glyph_width g) col y0 x y)))

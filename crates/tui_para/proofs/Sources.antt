@@ -15,7 +15,7 @@ Yields-append gives s t u (x ∷ xs) ys (j, step, g) h = (j, step, Yields-append
 pub not_wider-append : {A : Type 0} (size : A → ℕ) (w : ℕ) (xs ys : List A) → not_wider size w (xs ++ ys) ≡ not_wider size w xs ++ not_wider size w ys
 not_wider-append size w xs ys = filter-append (λ x. nat_le (size x) w) xs ys
 
--- an iterator over graphemes that gave some, and then more
+-- an iterator over graphemes gave some, and then more
 pub reads_none : {I : Type 0} (gives : I → Option StyledGrapheme → I → Type 0) (source : Option I) → SourceReads gives source [] source
 reads_none gives None = (refl, refl)
 reads_none gives (Some i) = refl

@@ -1,4 +1,4 @@
--- The lines of a text are as many as those of its lines together.
+-- A text has as many lines as its text lines have together.
 use Rattle.std.proofs.Common.{◌≡◌, ℕ, List, [], ◌∷◌, length, map, false, ap, sum_by, arith}
 use Rattle.std.specs.Prelude.{◌<◌, All, unwrap_or}
 use Rattle.std.proofs.lemmas.List.{length-append, length-map}
@@ -30,7 +30,7 @@ length-shown w way alignment base (line ∷ lines) shown h =
     let sum = sum_by-cons (wrapped_len w way base) line lines in
     omega arith
 
--- without breaks after hyphens, of a text of spaced words each line has the fewest lines
+-- without breaks after hyphens, each line of a text of spaced words has the fewest lines
 pub fewest_of_text : (w : ℕ) (way : Wrap) (text : TextData) (words : LineData → List (List Glyph)) → way.hyphens ≡ false → 0 < w → IsTextOf words w text →
     All (λ line. IsFewest glyph_width (words line) w (wrapped_len w way text.style line)) text.lines
 fewest_of_text w way text words off some h = All-weaker

@@ -16,7 +16,7 @@ use Rattle.tui_para.specs.Hyphens.{wrap}
 use Rattle.tui_para.specs.Rendering.{ParagraphLines, paragraph_lines}
 use Rattle.tui_para.specs.TextLines.{glyph_line_left, glyph_lines_left}
 use Rattle.tui_para.specs.Truncated.{truncate}
-use Rattle.tui_para.specs.Wrapped.{IsTheOne}
+use Rattle.tui_para.specs.Wrapped.{IsUnique}
 use Rattle.tui_para.specs.WrappedText.{WrappedText, TruncatedText, wrap_text, truncate_text, text_glyph_lines}
 use Rattle.tui_para.specs.declared.text_lines.TextLines.{TextLines}
 use Rattle.tui_para.specs.declared.wrap.Wrap.{Wrap}
@@ -46,7 +46,7 @@ truncates_to w offset t = (truncate glyph_width w (is_left t.alignment) offset t
 pub truncates_only_to : (w offset : ℕ) (t : GlyphLine) (parts : List (List Glyph)) → TruncatesLine w offset t parts → parts ≡ truncate glyph_width w (is_left t.alignment) offset t.glyphs ∷ []
 truncates_only_to w offset t parts (line, h, e) = e ∙ ap (λ k. k ∷ []) ((truncates_once glyph_width w (is_left t.alignment) offset t.glyphs).alone line h)
 
--- text lines of one line each, without the first ones
+-- text lines that have one line each, with the first ones dropped
 one_each : (f : GlyphLine → List Glyph) (ts : List GlyphLine) → lines_of_each (λ t. f t ∷ []) ts ≡ map (λ t. glyph_line t.alignment (f t)) ts
 one_each f [] = refl
 one_each f (t ∷ ts) = ap (λ ls. glyph_line t.alignment (f t) ∷ ls) (one_each f ts)
@@ -55,19 +55,19 @@ pub one_each-drop : (f : GlyphLine → List Glyph) (n : ℕ) (ts : List GlyphLin
 one_each-drop f n ts = one_each f (drop n ts) ∙ (sym (drop-map (λ t. glyph_line t.alignment (f t)) n ts) ∙ sym (ap (drop n) (one_each f ts)))
 
 -- exactly one list of lines
-pub text_wraps_once : (w : ℕ) (way : Wrap) (a : Alignment) (text : TextData) → IsTheOne (WrappedText w way a text) (wrap_text w way a text)
+pub text_wraps_once : (w : ℕ) (way : Wrap) (a : Alignment) (text : TextData) → IsUnique (WrappedText w way a text) (wrap_text w way a text)
 text_wraps_once w way a text = record {
   meets = each_is (WrapsLine w way) (λ t. wrap w way t.glyphs) (wraps_to w way) (text_glyph_lines text a);
   alone = λ lines h. each_once (WrapsLine w way) (λ t. wrap w way t.glyphs) (wraps_only_to w way) (text_glyph_lines text a) lines h;
 }
 
-pub text_truncates_once : (w offset : ℕ) (a : Alignment) (text : TextData) → IsTheOne (TruncatedText w offset a text) (truncate_text w offset a text)
+pub text_truncates_once : (w offset : ℕ) (a : Alignment) (text : TextData) → IsUnique (TruncatedText w offset a text) (truncate_text w offset a text)
 text_truncates_once w offset a text = record {
   meets = each_is (TruncatesLine w offset) (λ t. truncate glyph_width w (is_left t.alignment) offset t.glyphs ∷ []) (truncates_to w offset) (text_glyph_lines text a);
   alone = λ lines h. each_once (TruncatesLine w offset) (λ t. truncate glyph_width w (is_left t.alignment) offset t.glyphs ∷ []) (truncates_only_to w offset) (text_glyph_lines text a) lines h;
 }
 
--- an iterator of which the items left are known gives them
+-- an iterator is certain to give the items that are left, if these are known
 will_give : {S A B : Type 0} (view : A → B) (rest : S → List B) (R : A → B → Type 0) → ((x : A) (y : B) → view x ≡ y → R x y) → (s : S) (ys : List B) → rest s ≡ ys →
     WillGive (YieldsFirstBy view rest) R s ys
 will_give view rest R sees s [] e = λ x t g. no_cons (view x) (rest t) (sym e ∙ g)
@@ -86,7 +86,7 @@ pub glyph_lines_will : (s : TextLines) (ts : List GlyphLine) → glyph_lines_lef
 glyph_lines_will s ts e = will_give glyph_line_left glyph_lines_left (WillBe (YieldsFirstBy glyph_of glyphs_left))
     (λ x t f. (glyphs_will x.0 t.glyphs (ap (λ (k : GlyphLine). k.glyphs) f), ap (λ (k : GlyphLine). k.alignment) f)) s ts e
 
--- the lines of a paragraph are those that the function gives
+-- the lines of a paragraph are those that the function returns
 pub lines_are : (p : ParagraphData) (w : ℕ) → ParagraphLines p w (paragraph_lines p w)
 lines_are p w = by_wrap p.wrap
   where
@@ -95,7 +95,7 @@ lines_are p w = by_wrap p.wrap
     by_wrap None = (text_truncates_once w p.scroll_x p.alignment p.text).meets
     by_wrap (Some wrap) = (text_wraps_once w wrap p.alignment p.text).meets
 
--- what follows where a call is Ok
+-- a consequence for a call that returned Ok
 pub on_ok : {T E : Type 0} {P Q : Type 0} (r : Result T E) → (P → Q) → OnOk r P → OnOk r Q
 on_ok (Ok x) f h = f h
 on_ok (Err e) f h = h

@@ -1,4 +1,4 @@
--- A text line that is truncated has one line.
+-- A truncated text line has exactly one line.
 use Rattle.std.proofs.Common.{◌≡◌, ℕ, ◌-◌, ◌<◌, ◌≤◌, List, [], ◌∷◌, ◌++◌, length, Bool, true, false, refl, sym, ap, ◌∙◌, Some, subst, arith, ⊎_elim}
 use Rattle.std.specs.Prelude.{◌≢◌, ◌⊎◌, sum_by, nat_le, nat_lt, ◌&&◌}
 use Rattle.std.proofs.lemmas.List.Sums.{sum_by-cons}
@@ -9,14 +9,14 @@ use Rattle.std.proofs.lemmas.Bool.Decides.{nat_tests}
 use Rattle.tui_text.specs.Grapheme.{Glyph, glyph_width}
 use Rattle.tui_para.specs.Lines.{GlyphLine, is_left, IsTakenOf, TruncatesLine}
 use Rattle.tui_para.specs.Truncated.{IsLongestPrefix, FitsIn, IsPassedBy, Truncated, fitting_prefix, left_by, truncate}
-use Rattle.tui_para.specs.Wrapped.{not_wider, IsTheOne}
+use Rattle.tui_para.specs.Wrapped.{not_wider, IsUnique}
 use Rattle.tui_para.proofs.Filled.{no_cons}
 use Rattle.tui_para.proofs.Unique.{prefixes}
 
 no_shorter : {A : Type 0} (k m : List A) (y : A) (ys : List A) → k ≡ m ++ y ∷ ys → length k ≤ length m → ⊥
 no_shorter k m y ys e l = let a = length-append m (y ∷ ys) in let b = ap length e in omega arith
 
--- a list has at most one longest front
+-- a list has at most one longest prefix
 same_prefix : {A : Type 0} (P : List A → Type 0) (xs front after other more : List A) → IsLongestPrefix P xs front after → IsLongestPrefix P xs other more → (front ≡ other) × (after ≡ more)
 same_prefix P xs front after other more f g =
     let whole : front ++ after ≡ other ++ more = sym f.joined ∙ g.joined in
@@ -40,7 +40,7 @@ module _ {A : Type 0} (size : A → ℕ) where
       needed [] more e n = absurd (n (sym e))
       needed (y ∷ o) more e n = absurd (no_cons y (o ++ more) e)
 
-  -- the graphemes that fit are the longest front that does
+  -- the graphemes that fit are the longest prefix that fits
   fitting_is : (room : ℕ) (xs : List A) → (rest : List A) × IsLongestPrefix (FitsIn size room) xs (fitting_prefix size room xs) rest
   fitting_is room [] = ([], record { joined = refl; holds = omega arith; longest = λ other more e h. nothing other more e })
   fitting_is room (x ∷ xs) = ⊎_elim
@@ -78,7 +78,7 @@ module _ {A : Type 0} (size : A → ℕ) where
               let same = ap size first in
               absurd (omega arith)
 
-  -- the graphemes that the offset passes are the longest front that it does
+  -- the graphemes that the offset skips are the longest prefix that it can skip
   passed_is : (offset : ℕ) (xs : List A) → (passed : List A) × IsLongestPrefix (IsPassedBy size offset) xs passed (left_by size offset xs)
   passed_is offset [] = ([], record { joined = refl; holds = nothing_passed offset; longest = λ other more e h. nothing other more e })
   passed_is offset (x ∷ xs) = ⊎_elim
@@ -163,12 +163,12 @@ module _ {A : Type 0} (size : A → ℕ) where
       let shown : t.shown ≡ u.shown = t.stays refl ∙ sym (u.stays refl) in
       (same_prefix (FitsIn size w) u.shown line t.rest other u.rest (subst (λ s. IsLongestPrefix (FitsIn size w) s line t.rest) shown t.fits) u.fits).0
 
-  pub truncates_once : (w : ℕ) (left : Bool) (offset : ℕ) (xs : List A) → IsTheOne (Truncated size w left offset xs) (truncate size w left offset xs)
+  pub truncates_once : (w : ℕ) (left : Bool) (offset : ℕ) (xs : List A) → IsUnique (Truncated size w left offset xs) (truncate size w left offset xs)
   truncates_once w left offset xs =
       let is = truncate_is w left offset xs in
       record { meets = is; alone = λ other h. truncated_once w left offset xs other (truncate size w left offset xs) h is }
 
-  -- an offset of 0 passes none
+  -- an offset of 0 skips nothing
   pub left_by_none : (xs : List A) → left_by size 0 xs ≡ xs
   left_by_none [] = refl
   left_by_none (x ∷ xs) = refl
@@ -178,6 +178,6 @@ pub truncated_first : (w offset : ℕ) (t : GlyphLine) (line : List Glyph) → l
 truncated_first w offset t line is_shown =
     let is = truncates_once glyph_width w (is_left t.alignment) offset t.glyphs in
     record {
-      lends = λ parts none. (line, subst (Truncated glyph_width w (is_left t.alignment) offset t.glyphs) (sym is_shown) is.meets, ap (λ k. line ∷ k) none);
+      yields = λ parts none. (line, subst (Truncated glyph_width w (is_left t.alignment) offset t.glyphs) (sym is_shown) is.meets, ap (λ k. line ∷ k) none);
       takes = λ parts (other, h, e). ([], e ∙ ap (λ k. k ∷ []) (is.alone other h ∙ sym is_shown), refl);
     }

@@ -7,11 +7,11 @@ use Rattle.std.proofs.lemmas.Bool.{cases_Bool}
 use Rattle.tui_para.specs.Rule.{Rule, ends_piece}
 use Rattle.tui_para.specs.Wrapped.{up_to, next_piece, no_blank, ends_in, begins, Breaks, IsLine, IsNextLine, HasLines, WrapsKept, line_start}
 
--- a piece ends between the two lists; `p` stands for what the first one ends with where it is empty
+-- a piece ends between the two lists; `p` stands in for the end of the first one if it is empty
 abbrev pub EndsPiece : {A : Type 0} → Rule A → Bool → List A → List A → Type 0
 EndsPiece rule p d a = (ends_in (no_blank rule.blank) p d ≡ true) × (begins (ends_piece rule) a ≡ true)
 
--- so at a soft break and at a hyphen break
+-- this holds at a soft break and at a hyphen break
 module _ {A : Type 0} (rule : Rule A) where
   pub begins_blank : (a : List A) → begins rule.blank a ≡ true → begins (ends_piece rule) a ≡ true
   begins_blank [] h = h
@@ -21,7 +21,7 @@ module _ {A : Type 0} (rule : Rule A) where
   begins_split [] h = h
   begins_split (x ∷ a) h = grind (arith, h)
 
-  -- and where a piece ends and what follows is too wide there is one of the two
+  -- conversely, if a piece ends and what follows is too wide, there is such a break
   pub breaks_there : (room : ℕ) (line after : List A) → ends_in (no_blank rule.blank) false line ≡ true → begins (ends_piece rule) after ≡ true →
       room < sum_by rule.size (next_piece rule after) → Breaks rule room line after
   breaks_there room line [] word next wide = absurd (cc)
@@ -30,7 +30,7 @@ module _ {A : Type 0} (rule : Rule A) where
       (λ no_split. inl (record { word_before = word; next = grind (arith, next, no_split); too_wide = wide }))
       (cases_Bool (rule.split x))
 
--- a piece doesn't go on past its end
+-- a piece doesn't continue past its end
 piece_stops : {A : Type 0} (test : A → Bool) (k : List A) (y : A) (ys : List A) → test y ≡ true → up_to test (k ++ y ∷ ys) ≡ k ++ y ∷ ys → ⊥
 piece_stops test [] y ys b e = grind (arith, b, e)
 piece_stops test (x ∷ k) y ys b e = grind (arith, piece_stops test k y ys b)
@@ -39,7 +39,7 @@ one_piece_stops : {A : Type 0} (rule : Rule A) (so_far : Bool) (k : List A) (y :
 one_piece_stops rule so_far [] y ys f d e = grind arith
 one_piece_stops rule so_far (x ∷ k) y ys f d e = grind (arith, piece_stops (ends_piece rule) k y ys d.1, one_piece_stops rule (not (rule.blank x)) k y ys)
 
--- a piece ends at the latest where one ends
+-- a piece ends at the latest where what follows it begins with a grapheme that ends it
 piece_within : {A : Type 0} (test : A → Bool) (size : A → ℕ) (d a : List A) → (a ≡ []) ⊎ (begins test a ≡ true) → sum_by size (up_to test (d ++ a)) ≤ sum_by size d
 piece_within test size [] [] h = omega arith
 piece_within test size [] (x ∷ a) h = grind arith
@@ -58,17 +58,17 @@ pub ends_in-append : {A : Type 0} (test : A → Bool) (so_far : Bool) (xs ys : L
 ends_in-append test so_far [] ys = refl
 ends_in-append test so_far (x ∷ xs) ys = ends_in-append test (test x) xs ys
 
--- a piece ends in no blank
+-- a piece doesn't end in whitespace
 pub piece_ends : {A : Type 0} (rule : Rule A) (so_far : Bool) (v : List A) → (v ≢ []) ⊎ (so_far ≡ true) → up_to (ends_piece rule) v ≡ v → ends_in (no_blank rule.blank) so_far v ≡ true
 piece_ends rule so_far [] n e = grind arith
 piece_ends rule so_far (x ∷ v) n e = grind (arith, piece_ends rule (not (rule.blank x)) v)
 
--- a line that breaks has no longer line beside it
+-- if a line breaks, no longer list is a line too
 no_longer : {A : Type 0} (rule : Rule A) (k : List A) (y : A) (ys a : List A) → IsLine rule k (y ∷ ys ++ a) → IsLine rule (k ++ y ∷ ys) a → ⊥
 no_longer rule k y ys a l m =
     let e = sum_by-append rule.size k (y ∷ ys) in
     let f = sum_by-cons rule.size y ys in
-    -- a line that ends with a word, and after which a piece ends, before what is too wide
+    -- the line ends where a piece ends, before something that is too wide
     let at_piece : EndsPiece rule false k (y ∷ ys ++ a) → rule.width - sum_by rule.size k < sum_by rule.size (next_piece rule (y ∷ ys ++ a)) → ⊥ =
     λ ends wide.
     let longer_ends : ends_in (no_blank rule.blank) false (k ++ y ∷ ys) ≡ true → begins (ends_piece rule) a ≡ true → ⊥ =
@@ -90,7 +90,7 @@ no_longer rule k y ys a l m =
     (λ hard. let t = hard.too_wide in omega arith)))
     l.breaks
 
--- two prefixes of one list: the same, or one of them is longer
+-- two prefixes of one list are the same, or one of them is longer
 abbrev pub Prefixes : {A : Type 0} → List A → List A → List A → List A → Type 0
 Prefixes {A} k a m b = (k ≡ m) ⊎ (((y : A) × (ys : List A) × (m ≡ k ++ y ∷ ys) × (a ≡ y ∷ ys ++ b)) ⊎ ((y : A) × (ys : List A) × (k ≡ m ++ y ∷ ys) × (b ≡ y ∷ ys ++ a)))
 
@@ -103,7 +103,7 @@ prefixes (x ∷ k) a (y ∷ m) b e =
     let t : k ++ a ≡ m ++ b = cc in
     ⊎_elim (λ s. inl (cc)) (⊎_elim (λ s. inr (inl (s.0, s.1, cc s.2, s.3))) (λ s. inr (inr (s.0, s.1, cc s.2, s.3)))) (prefixes k a m b t)
 
--- a list has at most one line at its front
+-- a list begins with at most one line
 pub same_line : {A : Type 0} (rule : Rule A) (k a m b : List A) → k ++ a ≡ m ++ b → IsLine rule k a → IsLine rule m b → k ≡ m
 same_line rule k a m b e l n =
     ⊎_elim (λ s. s)

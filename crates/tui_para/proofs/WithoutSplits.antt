@@ -13,7 +13,7 @@ use Rattle.tui_para.proofs.Fewest.{fewest}
 use Rattle.tui_para.proofs.Greedy.{all_fit-kept, wrap_kept_is}
 use Rattle.tui_para.proofs.Mapped.{after_break-drop, dropped_len-map, goes_on_for-map, line_start-drop, seen_by, start_len-map, sum_by-map}
 
--- lines of graphemes and of what is seen of them
+-- the lines of graphemes and of their images
 module _ {A B : Type 0} (f : A → B) (rule : Rule B) where
   start_map : (xs : List A) → line_start rule.blank rule.trim (map f xs) ≡ map f (line_start (seen_by f rule).blank rule.trim xs)
   start_map xs =
@@ -61,7 +61,7 @@ pub no_splits : (before gs : List Glyph) → with_splits false before gs ≡ map
 no_splits before [] = refl
 no_splits before (g ∷ gs) = ap (λ k. plain g ∷ k) (no_splits (g ∷ before) gs)
 
--- of spaced words it has the fewest lines
+-- spaced words have the fewest lines
 pub fewest_lines : (w : ℕ) (way : Wrap) (words : List (List Glyph)) (glyphs : List Glyph) → way.hyphens ≡ false → 0 < w → SpacedWithin glyph_blank glyph_width w words glyphs →
     IsFewest glyph_width words w (length (wrap w way glyphs))
 fewest_lines w way words glyphs off some h =

@@ -2,7 +2,7 @@
 use Rattle.std.specs.Prelude.{◌≡◌, ◌≢◌, ℕ, ◌+◌, ◌<◌, ◌≤◌, Bool, true, All, List, [], ◌∷◌, ◌++◌, length, sum_by, flat_map}
 use Rattle.tui_para.specs.Wrapped.{up_to}
 
--- the width of a group of words, with a blank of width 1 between two of them
+-- the width of a group of words, with whitespace of width 1 between two of them
 abbrev pub group_width : {A : Type 0} → (A → ℕ) → List (List A) → ℕ
 group_width size [] = 0
 group_width size (v ∷ []) = sum_by size v
@@ -21,11 +21,12 @@ pub record IsFewest {A : Type 0} (size : A → ℕ) (words : List (List A)) (w n
   pub divided : HasDivision size words w n
   pub least : (m : ℕ) → HasDivision size words w m → n ≤ m
 
--- a word has a grapheme, and none that is a blank
+-- a word has a grapheme, and no whitespace
 abbrev pub IsWord : {A : Type 0} → (A → Bool) → List A → Type 0
 IsWord blank v = (v ≢ []) × (up_to blank v ≡ v)
 
--- the graphemes are these words, parted by single blanks of width 1, with no blank at either end
+-- the graphemes are these words, with single whitespace graphemes of width 1 between them and no whitespace at either
+-- end
 abbrev pub Spaced : {A : Type 0} → (A → Bool) → (A → ℕ) → List (List A) → List A → Type 0
 Spaced blank size [] xs = xs ≡ []
 Spaced blank size (v ∷ []) xs = IsWord blank v × (xs ≡ v)

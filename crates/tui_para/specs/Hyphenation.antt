@@ -1,52 +1,52 @@
--- Where words are split, told from what stands directly before.
+-- Where words are split, given what comes directly before.
 use Rattle.std.specs.Prelude.{Bool, true, false, if◌then◌else◌, ◌&&◌, List, [], ◌∷◌}
 use Rattle.tui_para.specs.Hyphens.{is_hyphen, is_letter}
 use Rattle.tui_para.specs.declared.wrapping.hyphenation.Hyphenation.{Hyphenation}
-use Rattle.tui_para.specs.declared.wrapping.hyphenation.Hyphenation.TheVariants.{Off, Apart, Letter, Hyphen}
+use Rattle.tui_para.specs.declared.wrapping.hyphenation.Hyphenation.TheVariants.{Off, Neither, Letter, Hyphen}
 use Rattle.tui_text.specs.Grapheme.{Glyph, glyph_blank}
 
 -- at the beginning of a text line
 abbrev pub at_start : Bool → Hyphenation
-at_start hyphens = if hyphens then Apart else Off
+at_start hyphens = if hyphens then Neither else Off
 
--- behind a `-`
-abbrev pub behind_hyphen : Hyphenation → Hyphenation
-behind_hyphen Off = Off
-behind_hyphen Apart = Apart
-behind_hyphen Letter = Hyphen
-behind_hyphen Hyphen = Apart
+-- the state after a `-`
+abbrev pub on_hyphen : Hyphenation → Hyphenation
+on_hyphen Off = Off
+on_hyphen Neither = Neither
+on_hyphen Letter = Hyphen
+on_hyphen Hyphen = Neither
 
--- behind another grapheme, a blank or not
-abbrev pub behind_other : Bool → Hyphenation → Hyphenation
-behind_other blank Off = Off
-behind_other blank Apart = if blank then Apart else Letter
-behind_other blank Letter = if blank then Apart else Letter
-behind_other blank Hyphen = if blank then Apart else Letter
+-- the state after another grapheme, which is whitespace or not
+abbrev pub on_other : Bool → Hyphenation → Hyphenation
+on_other blank Off = Off
+on_other blank Neither = if blank then Neither else Letter
+on_other blank Letter = if blank then Neither else Letter
+on_other blank Hyphen = if blank then Neither else Letter
 
--- what stands before the next grapheme, once one more is read
-abbrev pub behind : Hyphenation → Glyph → Hyphenation
-behind before g = if is_hyphen g then behind_hyphen before else behind_other (glyph_blank g) before
+-- the state after one more grapheme
+abbrev pub after : Hyphenation → Glyph → Hyphenation
+after before g = if is_hyphen g then on_hyphen before else on_other (glyph_blank g) before
 
--- likewise after a whole list
-abbrev pub behind_all : Hyphenation → List Glyph → Hyphenation
-behind_all before [] = before
-behind_all before (g ∷ gs) = behind_all (behind before g) gs
+-- the state after a whole list
+abbrev pub after_all : Hyphenation → List Glyph → Hyphenation
+after_all before [] = before
+after_all before (g ∷ gs) = after_all (after before g) gs
 
--- whether a `-` that may part a word stands directly before
+-- whether a `-` after which a word may be split comes directly before
 abbrev pub after_hyphen : Hyphenation → Bool
 after_hyphen Off = false
-after_hyphen Apart = false
+after_hyphen Neither = false
 after_hyphen Letter = false
 after_hyphen Hyphen = true
 
--- whether a letter stands directly before
+-- whether a letter comes directly before
 abbrev pub after_letter : Hyphenation → Bool
 after_letter Off = false
-after_letter Apart = false
+after_letter Neither = false
 after_letter Letter = true
 after_letter Hyphen = false
 
 -- graphemes, each with whether its word is split before it
 abbrev pub marked_from : Hyphenation → List Glyph → List (Glyph × Bool)
 marked_from before [] = []
-marked_from before (g ∷ gs) = (g, after_hyphen before && is_letter g) ∷ marked_from (behind before g) gs
+marked_from before (g ∷ gs) = (g, after_hyphen before && is_letter g) ∷ marked_from (after before g) gs

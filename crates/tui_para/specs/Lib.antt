@@ -15,7 +15,7 @@ pub mod Lines
 pub mod WrappedText
 pub mod Given
 pub mod Wrapping
-pub mod Lent
+pub mod Yielded
 pub mod Paragraph
 pub mod Strokes
 pub mod Shows

@@ -12,12 +12,12 @@ use Rattle.tui_text.proofs.RowStays.{text_stays}
 use Rattle.tui_para.specs.declared.size.Size.{Size}
 use Rattle.tui_para.specs.declared.size.Size.TheVariants.{Tiny, Small}
 
--- the upper one of the two lines
+-- the upper line
 abbrev pub upper_line : Size → List ℕ
 upper_line Tiny = utf8 "▛▚▗▀▖▜▘▞▚▝▛▐ ▌▌"
 upper_line Small = utf8 "█▀▀▄ ▄▀▀▄▝▜▛▘▄▀▀▄▝▜▛▘█  █ █"
 
--- the lower one
+-- the lower line
 abbrev pub lower_line : Size → List ℕ
 lower_line Tiny = utf8 "▛▚▐▀▌▐ ▛▜ ▌▝▄▘▌"
 lower_line Small = utf8 "█▀▀▄ █▀▀█ ▐▌ █▀▀█ ▐▌ ▀▄▄▀ █"
@@ -30,6 +30,6 @@ logo_text size = record empty_text { lines = raw_line (upper_line size) ∷ raw_
 abbrev pub logo_layers : Size → Rect → List Layer
 logo_layers size clip = text_layers clip (logo_text size)
 
--- a logo takes no memory
+-- a logo is drawn without allocating
 abbrev pub logo_drawing : Size → Drawing
 logo_drawing size = in_clip (logo_layers size) ⊤ (λ clip. text_stays clip (logo_text size))

@@ -1,4 +1,4 @@
--- What wrapping sees of a grapheme.
+-- What wrapping needs to know of a grapheme.
 use Rattle.std.specs.Prelude.{◌≡◌, ℕ, Bool, ◌||◌, List, length, map}
 use Rattle.std.specs.List.{zip}
 use Rattle.tui_text.specs.Grapheme.{Glyph, glyph_blank, glyph_of, glyph_width}
@@ -7,23 +7,23 @@ use Rattle.tui_para.specs.Rule.{Rule}
 use Rattle.tui_para.specs.declared.wrap.Wrap.{Wrap}
 use Rattle.tui_para.specs.declared.wrapping.mark.Mark.{Mark}
 
--- of one with whether its word is split before it
+-- the mark of a grapheme, given whether its word is split before it
 abbrev pub mark_of : Glyph × Bool → Mark
 mark_of p = record { width = glyph_width p.0; blank = glyph_blank p.0; split = p.1 }
 
--- whether the grapheme is blank
+-- whether the grapheme is whitespace
 abbrev pub is_blank : Mark → Bool
 is_blank m = m.blank
 
--- its word is split before it
+-- whether its word is split before it
 abbrev pub is_split : Mark → Bool
 is_split m = m.split
 
--- a piece of a word ends before it
+-- whether it ends a piece of a word before it
 abbrev pub ends_before : Mark → Bool
 ends_before m = m.split || m.blank
 
--- its columns
+-- its width, in columns
 abbrev pub size_of : Mark → ℕ
 size_of m = m.width
 

@@ -32,15 +32,16 @@ paragraph_data p = record {
   alignment = p.alignment;
 }
 
--- the rows that the block takes, if there is one
+-- how many rows the block takes, if there is one
 abbrev pub block_rows : ParagraphData → Option ℕ
 block_rows p = option_map rows_around p.block
 
--- the columns that the block takes, if there is one
+-- how many columns the block takes, if there is one
 abbrev pub block_columns : ParagraphData → Option ℕ
 block_columns p = option_map columns_around p.block
 
--- a text with no block, no style beside its own, neither wrapped nor scrolled, in its own alignment or else to the left
+-- a text without a block or another style than its own, neither wrapped nor scrolled, in its own alignment or else to
+-- the left
 abbrev pub paragraph_of : TextData → ParagraphData
 paragraph_of text = record {
   block = None;

@@ -3,18 +3,18 @@ use Rattle.std.specs.Prelude.{ℕ, ◌+◌, ◌-◌, ◌/◌, List, [], ◌∷�
 use Rattle.tui_cells.specs.declared.rect.Rect.{Rect}
 use Rattle.tui_cells.specs.declared.style.Style.{Style}
 use Rattle.tui_cells.specs.Rect.{covers}
-use Rattle.tui_cells.specs.Cell.{put, dress}
+use Rattle.tui_cells.specs.Cell.{write, set_style}
 use Rattle.tui_cells.specs.Layers.{Layer, stroke, at_place}
 use Rattle.tui_text.specs.Grapheme.{Glyph, glyph_width}
 use Rattle.tui_text.specs.declared.alignment.Alignment.{Alignment}
 use Rattle.tui_text.specs.declared.alignment.Alignment.TheVariants.{Left, Center, Right}
 use Rattle.tui_para.specs.Lines.{GlyphLine}
 
--- a grapheme at a position of the clip, if it has a width: its symbol is put, and its style is set
+-- a grapheme at a position of the clip, if its width is above 0: its symbol is written, and its style is set
 abbrev pub glyph_layers : Rect → ℕ → ℕ → Glyph → List Layer
 glyph_layers clip x y g =
     if nat_lt 0 (glyph_width g) && covers clip x y
-    then stroke (at_place x y) (put g.text) ++ stroke (at_place x y) (dress g.style)
+    then stroke (at_place x y) (write g.text) ++ stroke (at_place x y) (set_style g.style)
     else []
 
 -- a grapheme of one byte

@@ -24,11 +24,11 @@ text_glyph_lines text alignment = map (text_glyph_line text.style alignment) tex
 abbrev pub WrappedText : ℕ → Wrap → Alignment → TextData → List GlyphLine → Type 0
 WrappedText w wrap alignment text lines = LinesOfEach (WrapsLine w wrap) (text_glyph_lines text alignment) lines
 
--- the text is not wrapped and has these lines: one of each text line
+-- the text is not wrapped, and has these lines: one for each text line
 abbrev pub TruncatedText : ℕ → ℕ → Alignment → TextData → List GlyphLine → Type 0
 TruncatedText w offset alignment text lines = LinesOfEach (TruncatesLine w offset) (text_glyph_lines text alignment) lines
 
--- the same as functions
+-- the wrapped lines as a function
 abbrev pub wrap_text : ℕ → Wrap → Alignment → TextData → List GlyphLine
 wrap_text w way alignment text = lines_of_each (λ t. wrap w way t.glyphs) (text_glyph_lines text alignment)
 
@@ -36,6 +36,7 @@ wrap_text w way alignment text = lines_of_each (λ t. wrap w way t.glyphs) (text
 abbrev pub truncate_text : ℕ → ℕ → Alignment → TextData → List GlyphLine
 truncate_text w offset alignment text = lines_of_each (λ t. truncate glyph_width w (is_left t.alignment) offset t.glyphs ∷ []) (text_glyph_lines text alignment)
 
--- each line of the text is the words given for it, parted by single blanks of width 1, none of them wider than w
+-- each line of the text is the words given for it, with single whitespace graphemes of width 1 between them; no word is
+-- wider than w
 abbrev pub IsTextOf : (LineData → List (List Glyph)) → ℕ → TextData → Type 0
 IsTextOf words w text = All (λ line. SpacedWithin glyph_blank glyph_width w (words line) (line_graphemes text.style line)) text.lines

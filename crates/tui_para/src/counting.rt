@@ -1,4 +1,4 @@
-//! Counting the lines of texts that are wrapped.
+//! Counts the lines of wrapped texts.
 
 ghost use Rattle.std.specs.Prelude.{◌≡◌, List, length};
 ghost use Rattle.tui_para.specs.Counting.{wrapped_len, wrapped_text_len};
@@ -18,24 +18,24 @@ use crate::wrapping::hyphenation::Hyphenation;
 use tui_cells::Style;
 use tui_text::{Line, Text};
 
-/// How many lines a text line is wrapped into, saturated at the greatest number of 64 bits.
+/// Returns how many lines a text line is wrapped into. Saturates at the greatest 64-bit number.
 fn line_count(line: &Line<'_>, base: Style, width: u16, wrap: Wrap) -> usize
     ensures { result ≡ saturated (wrapped_len width wrap base (line_data line.now)) }
 {
     let mut counter = Counter::new();
     let mut hyphenation = Hyphenation::new(wrap.hyphens);
     for grapheme in line.styled_graphemes(base) {
-        let (mark, behind) = hyphenation.mark(&grapheme);
+        let (mark, after) = hyphenation.mark(&grapheme);
         if mark.width <= width {
             counter.read(mark, width, wrap);
-            hyphenation = behind;
+            hyphenation = after;
         }
     }
     counter.count().max(1)
 }
 
-/// How many lines a text is wrapped into, those of its text lines together, saturated at the greatest number of 64 bits. The width is
-/// in columns. It is what a paragraph of the text counts at a width above 0, without the paragraph.
+/// Returns how many lines a text is wrapped into at a width in columns: the sum over its text lines, saturated at the
+/// greatest 64-bit number. At a width above 0 this is what a paragraph of the text counts, but no paragraph is needed.
 pub fn wrapped_count(text: &Text<'_>, width: u16, wrap: Wrap) -> usize
     ensures sum { result ≡ saturated (wrapped_text_len width wrap (text_data text.now)) }
     ensures lines { (alignment : Alignment) (lines : List GlyphLine) → WrappedText width wrap alignment (text_data text.now) lines

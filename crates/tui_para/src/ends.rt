@@ -1,4 +1,4 @@
-//! Iterators over graphemes, read to their ends. That they end shows what they may give.
+//! Reads iterators over graphemes to their ends. That they end shows what they may give.
 
 ghost use Rattle.std.specs.Prelude.{List};
 ghost use Rattle.std.specs.Iterator.{Drains};

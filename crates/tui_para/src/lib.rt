@@ -21,9 +21,9 @@ pub use counting::counter::Counter;
 pub use counting::line_end::LineEnd;
 pub use counting::wrapped_count;
 pub use laws::{
-    text_truncates_exactly_once, text_truncator_lends_one, text_wrapper_lends_one,
-    text_wraps_exactly_once, truncates_exactly_once, truncator_lends_some,
-    truncator_lends_what_is_known, wrapper_lends_some, wrapper_lends_what_is_known,
+    text_truncates_exactly_once, text_truncator_yields_one, text_wrapper_yields_one,
+    text_wraps_exactly_once, truncates_exactly_once, truncator_yields_some,
+    truncator_yields_what_is_known, wrapper_yields_some, wrapper_yields_what_is_known,
     wrapping_goes_on, wrapping_leaves_out_blanks, wraps_exactly_once,
 };
 pub use logo::RatatuiLogo;

@@ -6,7 +6,7 @@ ghost use Rattle.tui_cells.specs.Rect.{covers};
 ghost use Rattle.tui_para.specs.Logo.{logo_drawing, logo_layers, lower_line, upper_line};
 ghost use Rattle.tui_text.specs.Line.{raw_line};
 ghost use Rattle.tui_text.specs.Painting.{row_layers};
-ghost use Rattle.tui_text.specs.Setting.{AreLight};
+ghost use Rattle.tui_text.specs.Setting.{AreAllocationFree};
 ghost use Rattle.tui_text.specs.declared.alignment.Alignment.TheVariants.{Left};
 
 use crate::size::Size;
@@ -14,14 +14,14 @@ use std::alloc::Global;
 use tui_cells::{Buffer, Mem, Rect, Style, Widget};
 use tui_text::{Alignment, Span, below, paint_spans};
 
-/// The logo in two rows from the area's corner on, in no style: cells keep their colours and modifiers.
+/// The logo, in two rows from the area's corner on. It has no style: cells keep their colours and modifiers.
 #[derive(Clone, Copy, Debug, PartialEq, Eq)]
 pub struct RatatuiLogo {
     size: Size,
 }
 
 impl RatatuiLogo {
-    /// The logo in a size.
+    /// Creates the logo in this size.
     pub fn new(size: Size) -> RatatuiLogo
         ensures { result.size ≡ size }
     {
@@ -35,14 +35,14 @@ impl RatatuiLogo {
         RatatuiLogo { size, ..self }
     }
 
-    /// The tiny logo, 15 columns wide.
+    /// Creates the tiny logo, 15 columns wide.
     pub fn tiny() -> RatatuiLogo
         ensures { result.size ≡ Size.Tiny }
     {
         RatatuiLogo::new(Size::Tiny)
     }
 
-    /// The small logo, 27 columns wide.
+    /// Creates the small logo, 27 columns wide.
     pub fn small() -> RatatuiLogo
         ensures { result.size ≡ Size.Small }
     {
@@ -52,7 +52,7 @@ impl RatatuiLogo {
     /// The first line.
     fn upper(&self) -> &'static str
         ensures is { result.now ≡ upper_line self.now.size }
-        ensures light { AreLight (raw_line result.now).spans }
+        ensures allocation_free { AreAllocationFree (raw_line result.now).spans }
     {
         match self.size {
             Size::Tiny => "▛▚▗▀▖▜▘▞▚▝▛▐ ▌▌",
@@ -63,7 +63,7 @@ impl RatatuiLogo {
     /// The second line.
     fn lower(&self) -> &'static str
         ensures is { result.now ≡ lower_line self.now.size }
-        ensures light { AreLight (raw_line result.now).spans }
+        ensures allocation_free { AreAllocationFree (raw_line result.now).spans }
     {
         match self.size {
             Size::Tiny => "▛▚▐▀▌▐ ▛▜ ▌▝▄▘▌",
@@ -74,7 +74,7 @@ impl RatatuiLogo {
     fn paint_in(&self, buf: &mut Buffer, clip: Rect) -> Mem<()>
         ensures ok { OnOk result (Painted (logo_layers self.now.size clip) buf.old buf.new) }
         ensures kept { KeptOutside (covers clip) buf.old buf.new }
-        ensures light { IsOk result }
+        ensures allocation_free { IsOk result }
     {
         buf.set_style(clip, Style::new());
         paint_raw(buf, clip, self.upper())?;
@@ -95,7 +95,7 @@ impl Default for RatatuiLogo {
 fn paint_raw(buf: &mut Buffer, area: Rect, text: &str) -> Mem<()>
     ensures ok { OnOk result (Painted (row_layers area Left (raw_line text.now)) buf.old buf.new) }
     ensures kept { KeptOutside (covers area) buf.old buf.new }
-    ensures light { AreLight (raw_line text.now).spans → IsOk result }
+    ensures allocation_free { AreAllocationFree (raw_line text.now).spans → IsOk result }
 {
     paint_spans(buf, area, &[Span::raw(text)], Style::new(), Alignment::Left)
 }

@@ -23,8 +23,8 @@ use tui_cells::{Mem, Position, Style, Styled};
 use tui_frames::{Block, beside, clone_if_some, columns_if_some, rows_if_some};
 use tui_text::{Alignment, Text};
 
-/// A text shown in rows. Without a wrap each line of the text has one row and is truncated at its right
-/// end; with one it is broken into rows of the width that there is.
+/// A text that is shown in rows. Without a wrap, each line of the text has one row and is cut off at its right end.
+/// With a wrap, it is broken into rows of the available width.
 #[derive(Debug, PartialEq, Eq, Hash)]
 pub struct Paragraph<'a> {
     block: Option<Block<'a>>,
@@ -35,7 +35,7 @@ pub struct Paragraph<'a> {
     alignment: Alignment,
 }
 
-// Written out, so that a crate above proves nothing of what it holds to let it go.
+// Written out, so that dependent crates have nothing to prove about its fields when they drop it.
 impl<'a> Drop for Paragraph<'a> {
     fn drop(self) {
         let Paragraph {
@@ -50,8 +50,8 @@ impl<'a> Drop for Paragraph<'a> {
 }
 
 impl<'a> Paragraph<'a> {
-    /// A paragraph of a text, not wrapped and not scrolled. It is aligned as the text is, and to
-    /// the left where the text has no alignment.
+    /// Creates a paragraph of a text, not wrapped and not scrolled. It is aligned as the text is, or to the left if the
+    /// text has no alignment.
     pub fn new(text: Text<'a>) -> Paragraph<'a>
         ensures { paragraph_data result ≡ paragraph_of (text_data text.entry) }
     {
@@ -66,7 +66,7 @@ impl<'a> Paragraph<'a> {
         }
     }
 
-    /// Puts a block around the text, which then has the area inside.
+    /// Surrounds the paragraph with a block. The text is drawn inside it.
     pub fn block(mut self, block: Block<'a>) -> Paragraph<'a>
         ensures { paragraph_data result ≡ record (paragraph_data self.entry) { block = Some (block_data block.entry) } }
     {
@@ -74,7 +74,7 @@ impl<'a> Paragraph<'a> {
         self
     }
 
-    /// Sets the style under the text's style.
+    /// Sets the base style, under the text's style.
     pub fn style(mut self, style: Style) -> Paragraph<'a>
         ensures { paragraph_data result ≡ record (paragraph_data self.entry) { style = style } }
     {
@@ -82,7 +82,7 @@ impl<'a> Paragraph<'a> {
         self
     }
 
-    /// Has the lines wrapped; without it each text line has one row.
+    /// Wraps the lines. Without a wrap, each text line has one row.
     pub fn wrap(mut self, wrap: Wrap) -> Paragraph<'a>
         ensures { paragraph_data result ≡ record (paragraph_data self.entry) { wrap = Some wrap } }
     {
@@ -90,8 +90,8 @@ impl<'a> Paragraph<'a> {
         self
     }
 
-    /// Sets (y, x): the line that the first row shows, and the columns that are left out at the left of each
-    /// line that is not wrapped and is aligned to the left.
+    /// Sets the scroll offset (y, x). The first row shows line y. The first x columns are left out of each line that is
+    /// not wrapped and is aligned to the left.
     pub fn scroll(mut self, scroll: (u16, u16)) -> Paragraph<'a>
         ensures { paragraph_data result ≡ record (paragraph_data self.entry) { scroll_y = scroll.0; scroll_x = scroll.1 } }
     {
@@ -129,7 +129,7 @@ impl<'a> Paragraph<'a> {
         self.alignment(Alignment::Right)
     }
 
-    /// An equal paragraph of its own. `NoMemory` where there is none for the text.
+    /// Returns an equal paragraph. Fails with `NoMemory` if there is no memory for the text or the titles of the block.
     pub fn clone(&self) -> Mem<Paragraph<'a>>
         ensures is { IfOk result (λ paragraph. paragraph_data paragraph ≡ paragraph_data self.now) }
         ensures equal { IfOk result (λ paragraph. ⟦<Paragraph<'a> as PartialEq>⟧.eq paragraph self.now ≡ true) }
@@ -144,9 +144,9 @@ impl<'a> Paragraph<'a> {
         })
     }
 
-    /// The number of lines at a width, and the rows of a block above and below them, saturated at the greatest number of 64 bits. It is 0
-    /// at width 0. Without a wrap it is the number of the text's lines. The width is that of the lines, without the block's
-    /// columns. It takes no memory.
+    /// Returns the number of lines at this width, plus the rows of a block above and below them. Saturates at the
+    /// greatest 64-bit number. The width is that of the lines, without the block's columns. At width 0 the result is 0.
+    /// Without a wrap the lines are those of the text. Does not allocate.
     pub fn line_count(&self, _alloc: Global, width: u16) -> Mem<usize>
         ensures ok { IsOk result }
         ensures nothing { width ≡ 0 → result ≡ Ok 0 }
@@ -156,8 +156,8 @@ impl<'a> Paragraph<'a> {
             → WrappedText width wrap (paragraph_data self.now).alignment (paragraph_data self.now).text lines
             → result ≡ Ok (beside (saturated (length lines)) (block_rows (paragraph_data self.now)))) }
 
-        // Without breaks after hyphens, where each line of the text is words with single blanks between them, no division of
-        // the words has fewer lines.
+        // Without breaks after hyphens, no division of the words has fewer lines. This holds if each line of the text
+        // is words with single whitespace graphemes between them.
         ensures fewest { 0 < width → IsSome (paragraph_data self.now).wrap → IfSome (paragraph_data self.now).wrap (λ wrap. wrap.hyphens ≡ false)
             → (words : LineData → List (List Glyph))
             → IsTextOf words width (paragraph_data self.now).text → (counts : LineData → ℕ)
@@ -170,7 +170,7 @@ impl<'a> Paragraph<'a> {
         Ok(beside(self.lines_at(width), rows_if_some(&self.block)))
     }
 
-    /// The number of lines at a width above 0, without the block's rows.
+    /// Returns the number of lines at a width above 0, without the block's rows.
     fn lines_at(&self, width: u16) -> usize
         requires { 0 < width }
         ensures unwrapped { (paragraph_data self.now).wrap ≡ None → result ≡ length (paragraph_data self.now).text.lines }
@@ -188,7 +188,8 @@ impl<'a> Paragraph<'a> {
         }
     }
 
-    /// The columns of the widest line of the text, and those of a block beside it, saturated at the greatest number of 64 bits.
+    /// Returns the width of the widest line of the text, plus that of a block beside it, in columns. Saturates at the
+    /// greatest 64-bit number.
     pub fn line_width(&self) -> usize
         ensures { result ≡ beside (saturated (text_width (paragraph_data self.now).text)) (block_columns (paragraph_data self.now)) }
     {

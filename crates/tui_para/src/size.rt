@@ -46,7 +46,7 @@ impl FromStr for Size {
 
     ghost from_str_gives = { IsParsed name_of };
 
-    /// Answers `VariantNotFound` exactly where the text is no variant's name.
+    /// Fails with `VariantNotFound` exactly if the text is no variant's name.
     fn from_str(text: &str) -> Result<Size, ParseError> {
         match text {
             "Tiny" => Ok(Size::Tiny),

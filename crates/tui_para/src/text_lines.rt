@@ -9,8 +9,8 @@ ghost use Rattle.tui_para.specs.WrappedText.{text_glyph_lines};
 use tui_cells::Style;
 use tui_text::{Alignment, Graphemes, Line, Text};
 
-/// The lines of a text, as a paragraph hands them to a composer: the graphemes of each over the text's style, with its
-/// own alignment or else the given one.
+/// The lines of a text, as a paragraph passes them to a composer. Each line gives its graphemes over the text's style,
+/// and its own alignment or else the given one.
 #[derive(Drop)]
 pub struct TextLines<'s, 'a> {
     lines: &'s [Line<'a>],
@@ -22,7 +22,8 @@ pub struct TextLines<'s, 'a> {
 impl<'s, 'a> TextLines<'s, 'a> {
     ghost use Rattle.tui_para.specs.TextLines.{gives_graphemes, gives_lines, glyph_lines_left};
 
-    /// All lines of the text. A composer over them lends the lines of the text in that alignment.
+    /// Creates an iterator over all lines of the text. A composer over it yields the lines of the text in that
+    /// alignment.
     pub fn new(text: &'s Text<'a>, alignment: Alignment) -> TextLines<'s, 'a>
         ensures left { glyph_lines_left result ≡ text_glyph_lines (text_data text.now) alignment }
         ensures gives { WillGive gives_lines (WillBe gives_graphemes) result (text_glyph_lines (text_data text.now) alignment) }
@@ -30,7 +31,7 @@ impl<'s, 'a> TextLines<'s, 'a> {
         TextLines::after(text, alignment, 0)
     }
 
-    /// The lines of the text after the first `passed` ones.
+    /// Creates an iterator over the lines of the text after the first `passed` ones.
     pub(crate) fn after(text: &'s Text<'a>, alignment: Alignment, passed: u16) -> TextLines<'s, 'a>
         ensures left { glyph_lines_left result ≡ drop passed (text_glyph_lines (text_data text.now) alignment) }
         ensures gives { WillGive gives_lines (WillBe gives_graphemes) result (drop passed (text_glyph_lines (text_data text.now) alignment)) }

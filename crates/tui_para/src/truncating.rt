@@ -1,4 +1,4 @@
-//! What the truncating of a text line is made of.
+//! Truncation of a text line.
 
 pub(crate) mod refilling;
 pub(crate) mod truncation;

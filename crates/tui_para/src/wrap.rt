@@ -5,9 +5,9 @@ ghost use Rattle.std.specs.Prelude.{◌≡◌, false};
 /// How a paragraph is wrapped.
 #[derive(Clone, Copy, Debug, PartialEq, Eq, Hash)]
 pub struct Wrap {
-    /// Each line begins without its blanks.
+    /// Whether whitespace at the beginning of each line is dropped.
     pub trim: bool,
-    /// A line may also end after a `-` that stands in a word directly between two graphemes that aren't `-`.
+    /// Whether a line may also end after a `-` that is inside a word, directly between two graphemes that aren't `-`.
     pub hyphens: bool,
 }
 

@@ -1,22 +1,23 @@
-//! Wrapping of text lines.
+//! Wraps text lines.
 
 ghost use Rattle.std.specs.Prelude.{◌≡◌, ◌↔◌, List, false, true, IfOk, MatchResult};
 ghost use Rattle.tui_text.specs.Grapheme.{Glyph};
 ghost use Rattle.tui_para.specs.Given.{AllReady, IsGlyph, MayGive, MayBe, SourceGives, WillGive, WillBe};
 ghost use Rattle.tui_para.specs.Hyphens.{at_blanks};
 ghost use Rattle.tui_para.specs.Lines.{GlyphLine, LinesOf, GivenUnlessDone, WrapsLine};
-ghost use Rattle.tui_para.specs.Wrapping.{FindsLine, WrapperCanLend, WrapperMayLend, WrapperWillLend};
+ghost use Rattle.tui_para.specs.Wrapping.{FindsLine, WrapperCanYield, WrapperMayYield, WrapperWillYield};
 
 use crate::composer::{LineComposer, WrappedLine};
 use crate::ends::read_lines;
 use crate::wrap::Wrap;
-use crate::wrapping::part::Part;
+use crate::wrapping::part::LineRange;
 use crate::wrapping::text_line::TextLine;
 use std::alloc::Global;
 use tui_cells::{Mem, NoMemory};
 use tui_text::{Alignment, StyledGrapheme};
 
-/// Wraps text lines at blanks and, where asked for, after hyphens: each text line's own lines in order, with its alignment.
+/// Wraps text lines at whitespace and, if requested, after hyphens. Yields the lines of each text line in order, with
+/// its alignment.
 #[derive(Drop)]
 pub struct WordWrapper<'a, O, I> {
     lines: O,
@@ -31,14 +32,15 @@ where
     O: Iterator<Item = (I, Alignment)>,
     I: Iterator<Item = StyledGrapheme<'a>>,
 {
-    /// A wrapper over text lines, into lines of at most `max_line_width` columns. With `trim` each line begins without
-    /// its blanks. Lines break at blanks alone; `with_wrap` breaks them after hyphens too.
+    /// Creates a wrapper over text lines, into lines of at most `max_line_width` columns. With `trim`, whitespace at
+    /// the beginning of each line is dropped. Lines break at whitespace only; `with_wrap` can break them after hyphens
+    /// too.
     pub fn new(alloc: Global, lines: O, max_line_width: u16, trim: bool) -> WordWrapper<'a, O, I>
         ensures failed { result.failed ≡ false }
-        ensures ready { AllReady O.Iterator I.Iterator lines → WrapperCanLend O.Iterator I.Iterator result }
-        ensures may { (glyph_lines : List GlyphLine) → WrapperMayLend O.next_gives I.next_gives result glyph_lines
+        ensures ready { AllReady O.Iterator I.Iterator lines → WrapperCanYield O.Iterator I.Iterator result }
+        ensures may { (glyph_lines : List GlyphLine) → WrapperMayYield O.next_gives I.next_gives result glyph_lines
             ↔ LinesOf (MayGive O.next_gives (MayBe I.next_gives) lines) (WrapsLine max_line_width (at_blanks trim)) max_line_width glyph_lines }
-        ensures will { (glyph_lines : List GlyphLine) → WrapperWillLend O.next_gives I.next_gives result glyph_lines
+        ensures will { (glyph_lines : List GlyphLine) → WrapperWillYield O.next_gives I.next_gives result glyph_lines
             ↔ LinesOf (WillGive O.next_gives (WillBe I.next_gives) lines) (WrapsLine max_line_width (at_blanks trim)) max_line_width glyph_lines }
     {
         let wrap = Wrap {
@@ -48,9 +50,9 @@ where
         WordWrapper::with_wrap(alloc, lines, max_line_width, wrap)
     }
 
-    /// A wrapper over text lines, into lines of at most `max_line_width` columns. With `trim` each line begins without
-    /// its blanks. With `hyphens` a line may also end after a `-` that stands in a word directly between two graphemes that
-    /// aren't `-`.
+    /// Creates a wrapper over text lines, into lines of at most `max_line_width` columns. With `trim`, whitespace at
+    /// the beginning of each line is dropped. With `hyphens`, a line may also end after a `-` that is inside a word,
+    /// directly between two graphemes that aren't `-`.
     pub fn with_wrap(
         alloc: Global,
         lines: O,
@@ -58,10 +60,10 @@ where
         wrap: Wrap,
     ) -> WordWrapper<'a, O, I>
         ensures failed { result.failed ≡ false }
-        ensures ready { AllReady O.Iterator I.Iterator lines → WrapperCanLend O.Iterator I.Iterator result }
-        ensures may { (glyph_lines : List GlyphLine) → WrapperMayLend O.next_gives I.next_gives result glyph_lines
+        ensures ready { AllReady O.Iterator I.Iterator lines → WrapperCanYield O.Iterator I.Iterator result }
+        ensures may { (glyph_lines : List GlyphLine) → WrapperMayYield O.next_gives I.next_gives result glyph_lines
             ↔ LinesOf (MayGive O.next_gives (MayBe I.next_gives) lines) (WrapsLine max_line_width wrap) max_line_width glyph_lines }
-        ensures will { (glyph_lines : List GlyphLine) → WrapperWillLend O.next_gives I.next_gives result glyph_lines
+        ensures will { (glyph_lines : List GlyphLine) → WrapperWillYield O.next_gives I.next_gives result glyph_lines
             ↔ LinesOf (WillGive O.next_gives (WillBe I.next_gives) lines) (WrapsLine max_line_width wrap) max_line_width glyph_lines }
     {
         WordWrapper {
@@ -73,10 +75,10 @@ where
         }
     }
 
-    /// Goes on to the next line, and says where it stands in the text line.
-    fn advance(&mut self) -> Mem<Option<Part>>
-        requires { WrapperCanLend O.Iterator I.Iterator self.old }
-        ensures ready { WrapperCanLend O.Iterator I.Iterator self.new }
+    /// Advances to the next line, and returns its range in the text line.
+    fn advance(&mut self) -> Mem<Option<LineRange>>
+        requires { WrapperCanYield O.Iterator I.Iterator self.old }
+        ensures ready { WrapperCanYield O.Iterator I.Iterator self.new }
         ensures failed { MatchResult result (λ _. (self.old.failed ≡ false) × (self.new.failed ≡ false)) (λ _. self.new.failed ≡ true) }
         ensures found { IfOk result (FindsLine O.next_gives I.next_gives self.old self.new) }
     {
@@ -88,10 +90,10 @@ where
         found
     }
 
-    /// Goes on to the next line of a wrapper that has not failed.
-    fn find_line(&mut self) -> Mem<Option<Part>>
-        requires { WrapperCanLend O.Iterator I.Iterator self.old }
-        ensures ready { WrapperCanLend O.Iterator I.Iterator self.new }
+    /// Advances to the next line of a wrapper that has not failed.
+    fn find_line(&mut self) -> Mem<Option<LineRange>>
+        requires { WrapperCanYield O.Iterator I.Iterator self.old }
+        ensures ready { WrapperCanYield O.Iterator I.Iterator self.new }
         ensures found { IfOk result (FindsLine O.next_gives I.next_gives self.old self.new) }
     {
         if self.current.width() == 0 {
@@ -116,9 +118,9 @@ where
         }
     }
 
-    /// Reads its iterators to their ends, and lets all go.
+    /// Reads its iterators to their ends, and drops everything.
     pub(crate) fn read_to_end(self)
-        requires { WrapperCanLend O.Iterator I.Iterator self }
+        requires { WrapperCanYield O.Iterator I.Iterator self }
         ensures source { (glyphs : List Glyph) × SourceGives (MayGive I.next_gives IsGlyph) self.entry.current.source glyphs }
         ensures lines { (glyph_lines : List GlyphLine)
             × GivenUnlessDone self.entry.done (MayGive O.next_gives (MayBe I.next_gives) self.entry.lines) glyph_lines }
@@ -141,11 +143,11 @@ where
     O: Iterator<Item = (I, Alignment)>,
     I: Iterator<Item = StyledGrapheme<'a>>,
 {
-    ghost can_lend = { WrapperCanLend O.Iterator I.Iterator };
+    ghost can_yield = { WrapperCanYield O.Iterator I.Iterator };
 
-    ghost to_come = { WrapperMayLend O.next_gives I.next_gives };
+    ghost to_come = { WrapperMayYield O.next_gives I.next_gives };
 
-    ghost awaits = { WrapperWillLend O.next_gives I.next_gives };
+    ghost must_yield = { WrapperWillYield O.next_gives I.next_gives };
 
     ghost has_failed = { λ s. s.failed };
 

@@ -1,4 +1,4 @@
-//! What the wrapping of a text line is made of.
+//! Wrapping of a text line.
 
 mod breaking;
 pub(crate) mod hyphenation;

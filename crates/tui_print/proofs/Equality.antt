@@ -1,4 +1,4 @@
--- The derived `==` of colours finds two of them equal exactly where they are one colour.
+-- The derived `==` of colours is exact: it returns true for two of them exactly if they are the same.
 use Rattle.std.proofs.Common.{◌≡◌, ℕ, Bool, true, false, ◌&&◌, ◌==◌, List, [], ◌∷◌, refl, sym, ap, subst, ◌∙◌, ◌≢◌, ◌⊎◌, arith}
 use Rattle.std.proofs.lemmas.Bool.{cases_Bool, cases_eq}
 use Rattle.std.proofs.lemmas.Bool.Decides.{nat_tests}
@@ -12,7 +12,7 @@ use Rattle.tui_cells.specs.declared.attributes.Attributes.{Attributes}
 use Rattle.tui_cells.specs.declared.color.Color.{Color}
 use Rattle.tui_cells.specs.contracts.color.Color.{enum}
 
--- a test that answers true exactly for equal values
+-- a test that returns true exactly for equal values
 pub record Exact {K : Type 0} (test : K → K → Bool) : Type 0 where
   pub one : (x y : K) → test x y ≡ true → x ≡ y
   pub self : (x : K) → test x x ≡ true
@@ -89,7 +89,7 @@ color_cases a b = elim (cases_Bool (color_eq a b)) [
   | inr fails ↦ inr (λ e. true≢false (sym (subst (λ (c : Color). color_eq a c ≡ true) e (color_eq-self a)) ∙ fails))
 ]
 
--- two attributes are the same or not
+-- two attributes are the same, or they are not
 pub attributes_cases : (a b : Attributes) → (a ≡ b) ⊎ (a ≢ b)
 attributes_cases a b = elim (color_cases a.fg b.fg) [
   | inl fg ↦ elim (color_cases a.bg b.bg) [

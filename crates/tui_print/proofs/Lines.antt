@@ -1,4 +1,4 @@
--- Numbers of few digits.
+-- Numbers with few digits.
 use Rattle.std.proofs.Common.{◌≡◌, ℕ, ◌+◌, ◌<◌, ◌≤◌, ◌/◌, ◌%◌, [], ◌∷◌, ◌++◌, decimal, ap, append_assoc, List, ◌∙◌, arith}
 use Rattle.std.proofs.lemmas.Fmt.{decimal_digit, decimal_step}
 
@@ -13,7 +13,7 @@ pub three_digits : (n : ℕ) → 100 ≤ n → n < 1000 → decimal n ≡ (48 + 
 three_digits n low high =
     decimal_step n (omega arith) (omega arith) ∙ ap (λ (l : List ℕ). l ++ (48 + n % 10) ∷ []) (two_digits (n / 10) (omega arith) (omega arith))
 
--- words with the same byte between them, one behind the other
+-- fields that are appended one after another, with the same byte between them
 pub words_of_line : (none first one two three four five all s t n a b f g m e : List ℕ) → none ≡ [] → first ≡ none ++ s → one ≡ first ++ (n ++ t) → two ≡ one ++ (a ++ t) →
     three ≡ two ++ (b ++ t) → four ≡ three ++ (f ++ t) → five ≡ four ++ (g ++ t) → all ≡ five ++ (m ++ e) →
     all ≡ s ++ (n ++ (t ++ (a ++ (t ++ (b ++ (t ++ (f ++ (t ++ (g ++ (t ++ (m ++ e)))))))))))

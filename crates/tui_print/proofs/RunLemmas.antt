@@ -37,21 +37,21 @@ use Rattle.std.proofs.lemmas.List.Elements.{All-nil, All-push, All-weaker, Conta
 use Rattle.std.proofs.lemmas.List.Quantifiers.{all_pairs_push}
 use Rattle.std.proofs.lemmas.Option.{slice_get-get_or, slice_get_past}
 use Rattle.tui_cells.specs.declared.attributes.Attributes.{Attributes}
-use Rattle.tui_cells.specs.Cell.{IsAtRest, Look, blank, space}
+use Rattle.tui_cells.specs.Cell.{IsUnstyled, Look, blank, space}
 use Rattle.tui_print.specs.Laws.{IsInRun}
 use Rattle.tui_print.specs.Print.{AreRunLines, run_line}
-use Rattle.tui_print.specs.Runs.{StyleRun, IsStyleRun, AreStyleRuns, attributes_at, attributes_of, resting_attributes}
+use Rattle.tui_print.specs.Runs.{StyleRun, IsStyleRun, AreStyleRuns, attributes_at, attributes_of, unstyled_attributes}
 
--- The runs that begin before a column, which no run crosses.
+-- the runs that begin before a column which no run crosses
 pub record RunsBefore (row : List Look) (column : ℕ) (runs : List StyleRun) : Type 0 where
   pub each : All (IsStyleRun row) runs
   pub before : All (λ run. run.start < column) runs
   pub every : (run : StyleRun) → IsStyleRun row run → run.start < column → Contains runs run
   pub in_order : AllPairs (λ one later. one.start < later.start) runs
   pub edge : (x : ℕ) → x + 1 ≡ column → attributes_at row x ≢ attributes_at row column
-  pub cover : (x : ℕ) (a : Attributes) → x < column → attributes_at row x ≡ Some a → a ≢ resting_attributes → (run : StyleRun) × IsStyleRun row run × IsInRun run x
+  pub cover : (x : ℕ) (a : Attributes) → x < column → attributes_at row x ≡ Some a → a ≢ unstyled_attributes → (run : StyleRun) × IsStyleRun row run × IsInRun run x
 
--- Cells with one cell's attributes, up to a cell with others or the end of the row.
+-- a stretch: cells with the same attributes, up to a cell with others or the end of the row
 pub record IsStretch (row : List Look) (start end : ℕ) (a : Attributes) : Type 0 where
   pub some : start < end
   pub alike : (x : ℕ) → start ≤ x → x < end → attributes_at row x ≡ Some a
@@ -120,8 +120,8 @@ only_run row s e a t run is from to =
     let len : run.len ≡ e - s = omega arith in
     λ i. record { start = first i; len = len i; attributes = same i }
 
--- a stretch that isn't at rest is a run
-new_run : (row : List Look) (s e : ℕ) (a : Attributes) → IsStretch row s e a → a ≢ resting_attributes → ((x : ℕ) → x + 1 ≡ s → attributes_at row x ≢ attributes_at row s) → IsStyleRun row (run_of s e a)
+-- a stretch of styled cells is a run
+new_run : (row : List Look) (s e : ℕ) (a : Attributes) → IsStretch row s e a → a ≢ unstyled_attributes → ((x : ℕ) → x + 1 ≡ s → attributes_at row x ≢ attributes_at row s) → IsStyleRun row (run_of s e a)
 new_run row s e a t styled edge =
     let some = t.some in
     let ends : s + (e - s) ≡ e = omega arith in
@@ -133,9 +133,9 @@ new_run row s e a t styled edge =
       last = rw ends t.other;
     }
 
--- cells at rest after the runs
-pub more_rest : (row : List Look) (s e : ℕ) (a : Attributes) (runs : List StyleRun) → RunsBefore row s runs → IsStretch row s e a → a ≡ resting_attributes → RunsBefore row e runs
-more_rest row s e a runs inv t rest =
+-- unstyled cells after the runs
+pub more_unstyled : (row : List Look) (s e : ℕ) (a : Attributes) (runs : List StyleRun) → RunsBefore row s runs → IsStretch row s e a → a ≡ unstyled_attributes → RunsBefore row e runs
+more_unstyled row s e a runs inv t rest =
     let some = t.some in
     record {
       each = inv.each;
@@ -152,37 +152,37 @@ more_rest row s e a runs inv t rest =
       ];
     }
 
-rest_attributes : (c : Look) → IsAtRest c → attributes_of c ≡ resting_attributes
-rest_attributes c is = ap attributes_of is
+unstyled_cell_attributes : (c : Look) → IsUnstyled c → attributes_of c ≡ unstyled_attributes
+unstyled_cell_attributes c is = ap attributes_of is
 
-attributes_rest : (c : Look) → attributes_of c ≡ resting_attributes → IsAtRest c
-attributes_rest c is = ap (λ (a : Attributes). record { symbol = space; fg = a.fg; bg = a.bg; modifier = a.modifier.bits }) is
+unstyled_if_attributes : (c : Look) → attributes_of c ≡ unstyled_attributes → IsUnstyled c
+unstyled_if_attributes c is = ap (λ (a : Attributes). record { symbol = space; fg = a.fg; bg = a.bg; modifier = a.modifier.bits }) is
 
 there : (row : List Look) (x : ℕ) → x < length row → attributes_at row x ≡ Some (attributes_of (slice_index_or row x blank))
 there row x lt = ap (option_map attributes_of) (slice_get-get_or row x blank lt)
 
-pub at_rest_at : (row : List Look) (x : ℕ) → x < length row → IsAtRest (slice_index_or row x blank) → attributes_at row x ≡ Some resting_attributes
-at_rest_at row x lt is = there row x lt ∙ ap Some (rest_attributes (slice_index_or row x blank) is)
+pub unstyled_at : (row : List Look) (x : ℕ) → x < length row → IsUnstyled (slice_index_or row x blank) → attributes_at row x ≡ Some unstyled_attributes
+unstyled_at row x lt is = there row x lt ∙ ap Some (unstyled_cell_attributes (slice_index_or row x blank) is)
 
-styled_at : (row : List Look) (x : ℕ) → (x < length row → IsAtRest (slice_index_or row x blank) → ⊥) → attributes_at row x ≢ Some resting_attributes
+styled_at : (row : List Look) (x : ℕ) → (x < length row → IsUnstyled (slice_index_or row x blank) → ⊥) → attributes_at row x ≢ Some unstyled_attributes
 styled_at row x styled e = elim (cases_lt x (length row)) [
-  | inl lt ↦ styled lt (attributes_rest (slice_index_or row x blank) (some_one _ _ (sym (there row x lt) ∙ e)))
-  | inr le ↦ past_end row x resting_attributes le e
+  | inl lt ↦ styled lt (unstyled_if_attributes (slice_index_or row x blank) (some_one _ _ (sym (there row x lt) ∙ e)))
+  | inr le ↦ past_end row x unstyled_attributes le e
 ]
 
--- no run begins before the first cell with a style
-pub rest_first : (row : List Look) (first : ℕ) → first ≤ length row → ((x : ℕ) → x < first → IsAtRest (slice_index_or row x blank)) →
-    (first < length row → IsAtRest (slice_index_or row first blank) → ⊥) → RunsBefore row first []
-rest_first row first le rest styled = elim (cases_lt 0 first) [
-  | inl lt ↦ more_rest row 0 first resting_attributes [] (no_runs row)
-      (record { some = lt; alike = λ x from to. at_rest_at row x (omega (arith, to, le)) (rest x to); other = styled_at row first styled }) refl
+-- no run begins before the first styled cell
+pub unstyled_first : (row : List Look) (first : ℕ) → first ≤ length row → ((x : ℕ) → x < first → IsUnstyled (slice_index_or row x blank)) →
+    (first < length row → IsUnstyled (slice_index_or row first blank) → ⊥) → RunsBefore row first []
+unstyled_first row first le rest styled = elim (cases_lt 0 first) [
+  | inl lt ↦ more_unstyled row 0 first unstyled_attributes [] (no_runs row)
+      (record { some = lt; alike = λ x from to. unstyled_at row x (omega (arith, to, le)) (rest x to); other = styled_at row first styled }) refl
   | inr none ↦
       let zero : first ≡ 0 = omega (arith, none) in
       rw zero (no_runs row)
 ]
 
 -- one more run after the runs
-pub more_run : (row : List Look) (s e : ℕ) (a : Attributes) (runs : List StyleRun) → RunsBefore row s runs → IsStretch row s e a → a ≢ resting_attributes → RunsBefore row e (runs ++ run_of s e a ∷ [])
+pub more_run : (row : List Look) (s e : ℕ) (a : Attributes) (runs : List StyleRun) → RunsBefore row s runs → IsStretch row s e a → a ≢ unstyled_attributes → RunsBefore row e (runs ++ run_of s e a ∷ [])
 more_run row s e a runs inv t styled =
     let some = t.some in
     let new = run_of s e a in
@@ -201,7 +201,7 @@ more_run row s e a runs inv t styled =
       ];
     }
 
--- two runs with a common column are one run
+-- two runs with a column in common are the same
 earlier_start : (row : List Look) (run other : StyleRun) (x : ℕ) → IsStyleRun row run → IsStyleRun row other → IsInRun run x → IsInRun other x →
     run.attributes ≡ other.attributes → other.start < run.start → ⊥
 earlier_start row run other x is are in_run in_other same lt =
@@ -240,7 +240,7 @@ all_runs row column runs inv le = record {
   in_order = inv.in_order;
 }
 
--- a stretch begins at each cell
+-- cells with the same attributes, up to one with others, are a stretch
 pub stretch_of : (row : List Look) (s e : ℕ) (a : Attributes) → attributes_at row s ≡ Some a → s ≤ e →
     ((x : ℕ) → s ≤ x → x < e → attributes_at row x ≡ Some a) → attributes_at row e ≢ Some a → IsStretch row s e a
 stretch_of row s e a first le alike other = record {

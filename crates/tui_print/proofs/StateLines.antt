@@ -15,7 +15,7 @@ states_more f xs ps n x d all lt at =
     let whole : drop n ps ≡ f x ∷ drop (n + 1) ps = rw (add-one, drop-cons ps n (f x) within, here) refl in
     rw whole refl
 
--- past the last one there is none
+-- after the last widget there is no line
 pub states_end : {A : Type 0} (f : A → PlacedData) (xs : List A) (ps : List PlacedData) (n : ℕ) → map f xs ≡ ps → length xs ≤ n → state_lines n (drop n ps) ≡ []
 unfolding state_lines
 states_end f xs ps n all le = rw (drop_all n ps (rw (← all, length-map xs f) le)) refl

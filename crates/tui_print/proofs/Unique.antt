@@ -1,4 +1,4 @@
--- The runs of a row are one list, and a screen has one print.
+-- A row has exactly one list of runs, and a screen has exactly one print.
 use Rattle.std.proofs.Common.{◌≡◌, ◌≢◌, ℕ, zero, suc, ◌+◌, ◌-◌, ◌<◌, ◌≤◌, ◌⊎◌, List, [], ◌∷◌, ◌++◌, length, get_or, flat_map, Some, refl, sym, ap, ◌∙◌, inl, inr, arith}
 use Rattle.std.specs.List.{AllPairs, Contains, slice_index_or}
 use Rattle.std.proofs.lemmas.Bool.{cases_lt}
@@ -11,11 +11,11 @@ use Rattle.tui_scene.specs.Item.{PlacedData}
 use Rattle.tui_print.specs.Laws.{IsInRun}
 use Rattle.tui_rows.specs.RowLine.{row_line}
 use Rattle.tui_print.specs.Print.{AreRunLines, IsPrint, run_line, state_lines}
-use Rattle.tui_print.specs.Runs.{StyleRun, IsStyleRun, AreStyleRuns, attributes_of, attributes_at, resting_attributes}
+use Rattle.tui_print.specs.Runs.{StyleRun, IsStyleRun, AreStyleRuns, attributes_of, attributes_at, unstyled_attributes}
 use Rattle.tui_print.proofs.Equality.{attributes_cases}
-use Rattle.tui_print.proofs.RunLemmas.{RunsBefore, IsStretch, run_of, past_end, some_one, stretch_of, no_runs, more_rest, more_run, all_runs, one_run}
+use Rattle.tui_print.proofs.RunLemmas.{RunsBefore, IsStretch, run_of, past_end, some_one, stretch_of, no_runs, more_unstyled, more_run, all_runs, one_run}
 
--- runs in order of their beginnings
+-- runs ordered by their first columns
 abbrev InOrder : List StyleRun → Type 0
 InOrder runs = AllPairs (λ one later. one.start < later.start) runs
 
@@ -57,7 +57,7 @@ same_first x y xs ys o p c d = elim (contains_cases y ys x c) [
   ]
 ]
 
--- the later runs of one list are later ones of the other
+-- the later runs of one list are among the later ones of the other
 tail_within : (x y : StyleRun) (xs ys : List StyleRun) → x ≡ y → InOrder (x ∷ xs) → ((z : StyleRun) → Contains (x ∷ xs) z → Contains (y ∷ ys) z) → (z : StyleRun) → Contains xs z → Contains ys z
 tail_within x y xs ys e o all z c = elim (contains_cases y ys z (all z (contains_later x xs z c))) [
   | inl first ↦
@@ -81,7 +81,7 @@ one_list row runs others a b = same_members others runs b.in_order a.in_order
     (λ z c. a.every z (All-contains (IsStyleRun row) others z b.each c))
     (λ z c. b.every z (All-contains (IsStyleRun row) runs z a.each c))
 
--- the end of the stretch at a cell, found from a column of it on
+-- the end of the stretch at a cell, found from one of its columns on
 stretch_end : (row : List Look) (s : ℕ) (a : Attributes) → attributes_at row s ≡ Some a → (left x : ℕ) → length row ≤ x + left → s ≤ x →
     ((y : ℕ) → s ≤ y → y < x → attributes_at row y ≡ Some a) → (e : ℕ) × IsStretch row s e a
 stretch_end row s a first zero x le from alike = (x, stretch_of row s x a first from alike (past_end row x a (omega arith)))
@@ -111,8 +111,8 @@ find_runs row (suc left) column runs le inv = elim (cases_lt column (length row)
       let stretch = stretch_end row column a first (length row - column) column (omega arith) (omega arith) (λ y low high. absurd (omega arith)) in
       let end = stretch.0 in
       let past = stretch.1.some in
-      elim (attributes_cases a resting_attributes) [
-        | inl rest ↦ find_runs row left end runs (omega arith) (more_rest row column end a runs inv stretch.1 rest)
+      elim (attributes_cases a unstyled_attributes) [
+        | inl rest ↦ find_runs row left end runs (omega arith) (more_unstyled row column end a runs inv stretch.1 rest)
         | inr styled ↦ find_runs row left end (runs ++ run_of column end a ∷ []) (omega arith) (more_run row column end a runs inv stretch.1 styled)
       ]
   | inr past ↦ (runs, all_runs row column runs inv past, (column, inv, past))
@@ -123,7 +123,7 @@ runs_exist row =
     let found = find_runs row (length row) 0 [] (omega arith) (no_runs row) in
     (found.0, found.1)
 
-pub cell_run : (row : List Look) (column : ℕ) (a : Attributes) → attributes_at row column ≡ Some a → a ≢ resting_attributes →
+pub cell_run : (row : List Look) (column : ℕ) (a : Attributes) → attributes_at row column ≡ Some a → a ≢ unstyled_attributes →
     (run : StyleRun) × IsStyleRun row run × IsInRun run column × (run.attributes ≡ a) × ((other : StyleRun) → IsStyleRun row other → IsInRun other column → other ≡ run)
 cell_run row column a is styled =
     let all = (find_runs row (length row) 0 [] (omega arith) (no_runs row)).2 in

@@ -2,8 +2,8 @@
 
 ghost use Rattle.tui_print.specs.Laws.{CellsHaveRuns, PrintIsUnique, RunsAreUnique};
 
-/// A row has one list of runs, each cell that isn't at rest lies in one of them, and a buffer with its widgets has one
-/// print.
+/// A row has exactly one list of runs, and each styled cell is in exactly one of them. A buffer with its widgets has
+/// exactly one print.
 pub fn print_laws()
     ensures runs { RunsAreUnique }
     ensures cells { CellsHaveRuns }

@@ -8,6 +8,6 @@ mod screen;
 mod states;
 
 pub use laws::print_laws;
-pub use runs::put_runs;
-pub use screen::{put_screen, write_screen};
-pub use states::put_states;
+pub use runs::emit_runs;
+pub use screen::{emit_screen, write_screen};
+pub use states::emit_states;

@@ -1,4 +1,4 @@
-//! A line of the print, gathered on the stack.
+//! A line of the print, assembled on the stack.
 
 ghost use Rattle.std.specs.Prelude.{◌≡◌, ◌+◌, ◌<◌, ◌≤◌, [], ◌∷◌, ◌++◌, decimal, length};
 ghost use Rattle.tui_cells.specs.ColorText.{color_text, hex_digit};
@@ -7,20 +7,20 @@ use itoa::Buffer as Digits;
 use std::marker::Model;
 use tui_cells::Color;
 
-/// The most bytes of a line: two, and six words of at most `WORD` bytes.
+/// The most bytes of a line: two, and six fields of at most `FIELD` bytes.
 const LINE: usize = 128;
 
-/// The most bytes of a number or a colour, and one behind it.
-pub(crate) const WORD: usize = 21;
+/// The most bytes of a number or a colour, with one byte after it.
+pub(crate) const FIELD: usize = 21;
 
-/// A line of the print, gathered on the stack.
+/// A line of the print, assembled on the stack.
 #[derive(Drop)]
-pub(crate) struct Line {
+pub(crate) struct PrintLine {
     bytes: [u8; LINE],
     len: usize,
 }
 
-impl Model for Line {
+impl Model for PrintLine {
     ghost use Rattle.std.specs.Prelude.{ℕ, List, ◌≤◌, take};
 
     ghost Value = { List ℕ };
@@ -30,12 +30,12 @@ impl Model for Line {
     ghost invariant = { λ l. l.len ≤ 128 };
 }
 
-impl Line {
+impl PrintLine {
     #[inline]
-    pub(crate) fn new() -> Line
+    pub(crate) fn new() -> PrintLine
         ensures { result ≡ [] }
     {
-        Line {
+        PrintLine {
             bytes: [0; LINE],
             len: 0,
         }
@@ -60,24 +60,24 @@ impl Line {
         self.len = end;
     }
 
-    /// Adds a number in decimal, and a byte behind it.
+    /// Adds a number in decimal, and a byte after it.
     #[inline]
     pub(crate) fn number(&mut self, n: usize, after: u8)
-        requires { length self.old + WORD ≤ LINE }
+        requires { length self.old + FIELD ≤ LINE }
         ensures text { self.new ≡ self.old ++ (decimal n ++ after ∷ []) }
-        ensures len { length self.new ≤ length self.old + WORD }
+        ensures len { length self.new ≤ length self.old + FIELD }
     {
         self.digits(n);
         self.extend(&[after]);
     }
 
-    // Numbers of screens have few digits, which need no call.
+    // Numbers on screens have few digits; these are written without a call.
     #[inline]
     #[tactic(auto, using(crate::proofs::Lines::one_digit, crate::proofs::Lines::two_digits, crate::proofs::Lines::three_digits))]
     fn digits(&mut self, n: usize)
-        requires { length self.old + WORD ≤ LINE }
+        requires { length self.old + FIELD ≤ LINE }
         ensures text { self.new ≡ self.old ++ decimal n }
-        ensures len { length self.new + 1 ≤ length self.old + WORD }
+        ensures len { length self.new + 1 ≤ length self.old + FIELD }
     {
         let tens = n / 10;
         if n < 10 {
@@ -97,20 +97,20 @@ impl Line {
 
     #[inline(never)]
     fn long_number(&mut self, n: usize)
-        requires { length self.old + WORD ≤ LINE }
+        requires { length self.old + FIELD ≤ LINE }
         ensures text { self.new ≡ self.old ++ decimal n }
-        ensures len { length self.new + 1 ≤ length self.old + WORD }
+        ensures len { length self.new + 1 ≤ length self.old + FIELD }
     {
         let mut digits = Digits::new();
         self.extend(digits.format(n).as_bytes());
     }
 
-    /// Adds a colour: its name, `#` and six hexadecimal digits, or its index; and a blank behind it.
+    /// Adds a colour (its name, `#` and six hexadecimal digits, or its index), and a space after it.
     #[inline]
     pub(crate) fn color(&mut self, color: Color)
-        requires { length self.old + WORD ≤ LINE }
+        requires { length self.old + FIELD ≤ LINE }
         ensures text { self.new ≡ self.old ++ (color_text color ++ 32 ∷ []) }
-        ensures len { length self.new ≤ length self.old + WORD }
+        ensures len { length self.new ≤ length self.old + FIELD }
     {
         self.color_name(color);
         self.extend(b" ");
@@ -118,9 +118,9 @@ impl Line {
 
     #[tactic(auto, unfolding(tui_cells::specs::ColorText::color_text))]
     fn color_name(&mut self, color: Color)
-        requires { length self.old + WORD ≤ LINE }
+        requires { length self.old + FIELD ≤ LINE }
         ensures text { self.new ≡ self.old ++ color_text color }
-        ensures len { length self.new + 1 ≤ length self.old + WORD }
+        ensures len { length self.new + 1 ≤ length self.old + FIELD }
     {
         match color {
             Color::Reset => self.extend(b"reset"),

@@ -1,40 +1,47 @@
 //! The runs of the print.
 
 ghost use Rattle.std.specs.Prelude.{◌≡◌, ◌≢◌, ◌<◌, ◌≤◌, ◌↔◌, ◌⊎◌, ℕ, List, [], length, Some, IsTrue, flat_map, slice_index_or};
-ghost use Rattle.tui_cells.specs.Cell.{IsAtRest, blank};
-ghost use Rattle.tui_outside.specs.Gathers.{Gathers};
+ghost use Rattle.tui_cells.specs.Cell.{IsUnstyled, blank};
+ghost use Rattle.tui_io.specs.Prints.{Prints};
 ghost use Rattle.tui_print.specs.Print.{AreRunLines, run_line};
-ghost use Rattle.tui_print.specs.Runs.{AreStyleRuns, StyleRun, resting_attributes, attributes_at};
+ghost use Rattle.tui_print.specs.Runs.{AreStyleRuns, StyleRun, unstyled_attributes, attributes_at};
 
-use crate::line::Line;
+use crate::line::PrintLine;
 use tui_cells::{Attributes, Buffer, Cell, Color};
-use tui_outside::{Print, Sink};
+use tui_io::{Print, Sink};
 
-/// Adds the runs of a buffer to a print, row by row: a line `s row column cells foreground background modifiers` for each longest
-/// run of neighbouring cells that have equal colours and modifiers and are not at rest.
-pub fn put_runs<K: Sink>(print: &mut Print, buf: &Buffer, sink: &mut K)
+/// Adds the runs of a buffer to a print, row by row. Each maximal run of neighbouring cells with equal colours and
+/// modifiers has a line `s row column cells foreground background modifiers`. Unstyled cells, with both colours `Reset`
+/// and no modifier, have none.
+pub fn emit_runs<K: Sink>(print: &mut Print, buf: &Buffer, sink: &mut K)
     ensures { (text : List ℕ) × AreRunLines 0 buf.now.rows text
-        × Gathers (K.told sink.old) (K.told sink.new) print.old print.new text }
+        × Prints (K.observed sink.old) (K.observed sink.new) print.old print.new text }
 {
     'rows: for number in 0..buf.height() {
-        let first = buf.rest_end(number);
-        put_row_runs(print, number, buf.row_at(number), first, sink);
+        let first = buf.first_styled(number);
+        emit_row_runs(print, number, buf.row_at(number), first, sink);
     }
 }
 
-// The cells before the first column are at rest.
-fn put_row_runs<K: Sink>(print: &mut Print, number: usize, row: &[Cell], first: usize, sink: &mut K)
+// The cells before the column `first` are unstyled.
+fn emit_row_runs<K: Sink>(
+    print: &mut Print,
+    number: usize,
+    row: &[Cell],
+    first: usize,
+    sink: &mut K,
+)
     requires within { first ≤ length row.now }
-    requires rest { (x : ℕ) → x < first → IsAtRest (slice_index_or row.now x blank) }
-    requires styled { first < length row.now → IsAtRest (slice_index_or row.now first blank) → ⊥ }
+    requires rest { (x : ℕ) → x < first → IsUnstyled (slice_index_or row.now x blank) }
+    requires styled { first < length row.now → IsUnstyled (slice_index_or row.now first blank) → ⊥ }
     ensures { (runs : List StyleRun) × AreStyleRuns row.now runs
-        × Gathers (K.told sink.old) (K.told sink.new) print.old print.new (flat_map (run_line number) runs) }
+        × Prints (K.observed sink.old) (K.observed sink.new) print.old print.new (flat_map (run_line number) runs) }
 {
     let mut start = first;
     while start < row.len() {
         let attributes = attributes_in(row, start);
         let end = run_end(row, start, attributes);
-        put_run(print, number, start, end - start, attributes, sink);
+        emit_run(print, number, start, end - start, attributes, sink);
         start = end;
     }
 }
@@ -47,7 +54,7 @@ fn attributes_in(row: &[Cell], column: usize) -> Attributes
     row[column].attributes()
 }
 
-// The first column from `start` on whose cell has other attributes, or the end of the row.
+// Returns the first column from `start` on whose cell has other attributes, or the length of the row.
 fn run_end(row: &[Cell], start: usize, attributes: Attributes) -> usize
     requires within { start < length row.now }
     requires first { attributes_at row.now start ≡ Some attributes }
@@ -55,15 +62,15 @@ fn run_end(row: &[Cell], start: usize, attributes: Attributes) -> usize
     ensures alike { (x : ℕ) → start ≤ x → x < result → attributes_at row.now x ≡ Some attributes }
     ensures other { attributes_at row.now result ≢ Some attributes }
 {
-    // Most cells are at rest, and those compare with constants.
-    if is_same(attributes, Attributes::at_rest()) {
-        return same_end(row, start, Attributes::at_rest());
+    // Most cells are unstyled. Comparing them with constants is fast.
+    if is_same(attributes, Attributes::unstyled()) {
+        return matching_end(row, start, Attributes::unstyled());
     }
-    same_end(row, start, attributes)
+    matching_end(row, start, attributes)
 }
 
 #[inline]
-fn same_end(row: &[Cell], start: usize, attributes: Attributes) -> usize
+fn matching_end(row: &[Cell], start: usize, attributes: Attributes) -> usize
     requires within { start < length row.now }
     requires first { attributes_at row.now start ≡ Some attributes }
     ensures within { (start ≤ result) × (result ≤ length row.now) }
@@ -92,8 +99,8 @@ fn is_same_color(a: Color, b: Color) -> bool
     a == b
 }
 
-// Cells at rest have no line.
-fn put_run<K: Sink>(
+// Unstyled cells have no line.
+fn emit_run<K: Sink>(
     print: &mut Print,
     number: usize,
     start: usize,
@@ -101,18 +108,18 @@ fn put_run<K: Sink>(
     attributes: Attributes,
     sink: &mut K,
 )
-    ensures { ((attributes ≡ resting_attributes)
-        × Gathers (K.told sink.old) (K.told sink.new) print.old print.new [])
-        ⊎ ((attributes ≢ resting_attributes)
-        × Gathers (K.told sink.old) (K.told sink.new) print.old print.new
+    ensures { ((attributes ≡ unstyled_attributes)
+        × Prints (K.observed sink.old) (K.observed sink.new) print.old print.new [])
+        ⊎ ((attributes ≢ unstyled_attributes)
+        × Prints (K.observed sink.old) (K.observed sink.new) print.old print.new
         (run_line number (record { start = start; len = len; attributes = attributes }))) }
 {
-    if !is_same(attributes, Attributes::at_rest()) {
-        put_run_line(print, number, start, len, attributes, sink);
+    if !is_same(attributes, Attributes::unstyled()) {
+        emit_run_line(print, number, start, len, attributes, sink);
     }
 }
 
-fn put_run_line<K: Sink>(
+fn emit_run_line<K: Sink>(
     print: &mut Print,
     number: usize,
     start: usize,
@@ -120,10 +127,10 @@ fn put_run_line<K: Sink>(
     attributes: Attributes,
     sink: &mut K,
 )
-    ensures { Gathers (K.told sink.old) (K.told sink.new) print.old print.new
+    ensures { Prints (K.observed sink.old) (K.observed sink.new) print.old print.new
         (run_line number (record { start = start; len = len; attributes = attributes })) }
 {
-    let mut line = Line::new();
+    let mut line = PrintLine::new();
     line.extend(b"s ");
     line.number(number, b' ');
     line.number(start, b' ');

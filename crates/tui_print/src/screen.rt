@@ -1,40 +1,44 @@
 //! The whole print of a screen.
 
 ghost use Rattle.std.specs.Prelude.{List, ℕ};
-ghost use Rattle.tui_outside.specs.Causes.{Writes};
-ghost use Rattle.tui_outside.specs.Gathers.{Gathers};
+ghost use Rattle.tui_io.specs.Causes.{Writes};
+ghost use Rattle.tui_io.specs.Prints.{Prints};
 ghost use Rattle.tui_print.specs.Print.{IsPrint};
 
-use crate::runs::put_runs;
-use crate::states::put_states;
+use crate::runs::emit_runs;
+use crate::states::emit_states;
 use tui_cells::Buffer;
-use tui_outside::{Print, Sink, WriteFault};
-use tui_rows::put_rows;
+use tui_io::{Print, Sink, WriteFault};
+use tui_rows::emit_rows;
 use tui_scene::Scene;
 
-/// Writes the print of a buffer and of the scene that was drawn into it: a line `r` and the symbols for each row, a line
-/// `s row column cells foreground background modifiers` for each longest run of neighbouring cells that have equal colours
-/// and modifiers and are not at rest, and a line `t item widget offset selected column` for each widget with a state.
-/// `WriteFault`: the sink has taken the first bytes, but not all of them. Takes no memory.
+/// Writes the print of a buffer and of the scene that was drawn into it:
+///
+/// - for each row a line `r` with its symbols;
+/// - for each maximal run of neighbouring styled cells with equal colours and modifiers a line
+///   `s row column cells foreground background modifiers`;
+/// - for each widget with a state a line `t item widget offset selected column`.
+///
+/// On `WriteFault` the sink has taken the first bytes, but not all of them. Does not allocate.
 pub fn write_screen<K: Sink>(
     buf: &Buffer,
     scene: &Scene<'_>,
     sink: &mut K,
 ) -> Result<(), WriteFault>
-    ensures { (text : List ℕ) × IsPrint buf.now scene.now text × Writes (K.told sink.old) (K.told sink.new) result text }
+    ensures { (text : List ℕ) × IsPrint buf.now scene.now text × Writes (K.observed sink.old) (K.observed sink.new) result text }
 {
     let mut print = Print::new();
-    put_screen(&mut print, buf, scene, sink);
+    emit_screen(&mut print, buf, scene, sink);
     print.end(sink)
 }
 
 /// Adds a screen to a print: the rows and the runs of a buffer, and the states of the scene that was drawn into it.
 #[inline]
-pub fn put_screen<K: Sink>(print: &mut Print, buf: &Buffer, scene: &Scene<'_>, sink: &mut K)
+pub fn emit_screen<K: Sink>(print: &mut Print, buf: &Buffer, scene: &Scene<'_>, sink: &mut K)
     ensures { (text : List ℕ) × IsPrint buf.now scene.now text
-        × Gathers (K.told sink.old) (K.told sink.new) print.old print.new text }
+        × Prints (K.observed sink.old) (K.observed sink.new) print.old print.new text }
 {
-    put_rows(print, buf, sink);
-    put_runs(print, buf, sink);
-    put_states(print, scene, sink);
+    emit_rows(print, buf, sink);
+    emit_runs(print, buf, sink);
+    emit_states(print, scene, sink);
 }

@@ -1,19 +1,19 @@
--- A run without faults.
+-- Runs without I/O errors.
 use Rattle.std.proofs.Common.{◌≡◌, ◌≢◌, ℕ, ◌≤◌, List, length, Option, Some, None, String, Global, refl, sym, ap, subst, ◌∙◌, arith, inl}
 use Rattle.std.specs.Prelude.{IsUtf8}
 use Rattle.std.proofs.lemmas.List.{append-nil, length-append}
 use Rattle.std.specs.Io.KnownBytes.{Consumes, IsAtEnd}
 use Rattle.serde_json.specs.Data.{Data}
-use Rattle.tui_outside.specs.Causes.{HasFailed}
-use Rattle.tui_outside.specs.Limits.{limit}
+use Rattle.tui_io.specs.Causes.{HasFailed}
+use Rattle.tui_io.specs.Limits.{limit}
 use Rattle.tui_program.specs.Transcript.{ReadJson, ReadWhole, Transcript}
-use Rattle.tui_program.specs.Complete.{AreJson, CallFor, IsCompleteBy, IsCompleteReading, IsCompleteTelling}
-use Rattle.tui_program.specs.Endings.{EndsBy, EndsReading, EndsTelling}
-use Rattle.tui_program.specs.Rules.{JobRules, Rules, Task, reads, tells}
+use Rattle.tui_program.specs.Complete.{AreJson, CallFor, IsCompleteBy, IsCompleteReading, IsCompleteWithoutReading}
+use Rattle.tui_program.specs.Outcomes.{EndsBy, EndsReading, EndsWithoutReading}
+use Rattle.tui_program.specs.Rules.{JobRules, Rules, Task, reads, only_writes}
 use Rattle.tui_program.specs.Runs.{IsRun}
 use Rattle.tui_program.specs.declared.broken.Broken.TheVariants as broken
-use Rattle.tui_program.specs.declared.ending.Ending.{Ending}
-use Rattle.tui_program.specs.declared.ending.Ending.TheVariants as ending
+use Rattle.tui_program.specs.declared.outcome.Outcome.{Outcome}
+use Rattle.tui_program.specs.declared.outcome.Outcome.TheVariants as outcome
 use Rattle.tui_program.specs.declared.written.Written.TheVariants as written
 
 is_all : (bytes xs : List ℕ) (left : Option (List ℕ)) → Consumes (Some bytes) left xs → IsAtEnd left → xs ≡ bytes
@@ -32,55 +32,55 @@ json_of t bytes xs d e json =
     let same = whole_is t bytes xs e json.whole in
     record { within = subst (λ (b : List ℕ). length b ≤ limit) same json.whole.within; utf8 = subst IsUtf8 same json.utf8; json = rw same at json.json }
 
--- a run without faults that had its memory ends as the bytes call for
-called : {R : Type 0} (r : JobRules R) (t : Transcript) (e : Ending R) → EndsReading r t e →
-    (HasFailed t.source t.source_then → ⊥) → (HasFailed t.sink t.sink_then → ⊥) → e ≢ ending.Broken broken.NoMemory
+-- a run without I/O errors that had enough memory has the outcome that the bytes lead to
+called : {R : Type 0} (r : JobRules R) (t : Transcript) (e : Outcome R) → EndsReading r t e →
+    (HasFailed t.source t.source_then → ⊥) → (HasFailed t.sink t.sink_then → ⊥) → e ≢ outcome.Broken broken.NoMemory
     → (bytes : List ℕ) → t.source.bytes ≡ Some bytes → CallFor r bytes e
-called r t (ending.Written written.Output) h quiet writes some bytes left =
+called r t (outcome.Written written.Output) h quiet writes some bytes left =
     let w = h.1 in
     (w.1, json_of t bytes w.0 w.1 left w.2, (w.3.0, w.3.1))
-called r t (ending.Written (written.Refused x)) h quiet writes some bytes left =
+called r t (outcome.Written (written.Refused x)) h quiet writes some bytes left =
     let w = h.1 in
     (w.1, json_of t bytes w.0 w.1 left w.2, w.3.0)
-called r t (ending.Written written.TooLong) h quiet writes some bytes left =
+called r t (outcome.Written written.TooLong) h quiet writes some bytes left =
     let gave = h.1.0.gave in
     omega (arith, no_longer bytes gave.bytes t.source_then.bytes (rw left at gave.taken), gave.enough)
-called r t (ending.Written written.NotJson) h quiet writes some bytes left =
+called r t (outcome.Written written.NotJson) h quiet writes some bytes left =
     let w = h.1.0 in
     let same = whole_is t bytes w.0 left w.1 in
     (subst (λ (b : List ℕ). length b ≤ limit) same w.1.within, λ utf8. rw same at (w.2 (subst IsUtf8 (sym same) utf8)))
-called r t (ending.Written written.Usage) h quiet writes some bytes left = absurd h.1.3
-called r t (ending.Broken broken.NoMemory) h quiet writes some bytes left = absurd (some refl)
-called r t (ending.Broken broken.ReadFault) h quiet writes some bytes left = absurd (quiet h.2)
-called r t (ending.Broken broken.WriteFault) h quiet writes some bytes left = absurd (writes h.3.cause)
+called r t (outcome.Written written.Usage) h quiet writes some bytes left = absurd h.1.3
+called r t (outcome.Broken broken.NoMemory) h quiet writes some bytes left = absurd (some refl)
+called r t (outcome.Broken broken.ReadFault) h quiet writes some bytes left = absurd (quiet h.2)
+called r t (outcome.Broken broken.WriteFault) h quiet writes some bytes left = absurd (writes h.3.cause)
 
--- bytes call for one ending
-one_call : {R : Type 0} (r : JobRules R) (bytes : List ℕ) (e due : Ending R) → CallFor r bytes e → CallFor r bytes due → e ≡ due
-one_call r bytes e due a b = grind arith
+-- bytes lead to one outcome only
+one_call : {R : Type 0} (r : JobRules R) (bytes : List ℕ) (e expected : Outcome R) → CallFor r bytes e → CallFor r bytes expected → e ≡ expected
+one_call r bytes e expected a b = grind arith
 
-complete_reading : {R : Type 0} (r : JobRules R) (t : Transcript) (e : Ending R) → EndsReading r t e → IsCompleteReading r t e
-complete_reading r t e h quiet writes some bytes left due =
+complete_reading : {R : Type 0} (r : JobRules R) (t : Transcript) (e : Outcome R) → EndsReading r t e → IsCompleteReading r t e
+complete_reading r t e h quiet writes some bytes left expected =
     let call_for = called r t e h quiet writes some bytes left in
-    (λ same. subst (CallFor r bytes) same call_for, λ other. one_call r bytes e due call_for other)
+    (λ same. subst (CallFor r bytes) same call_for, λ other. one_call r bytes e expected call_for other)
 
-complete_telling : {R : Type 0} (due : List ℕ → Type 0) (t : Transcript) (e : Ending R) → EndsTelling due t e → IsCompleteTelling t e
-complete_telling due t (ending.Written written.Output) h writes some = refl
-complete_telling due t (ending.Written (written.Refused x)) h writes some = absurd h.1.1
-complete_telling due t (ending.Written written.TooLong) h writes some = absurd h.1.1
-complete_telling due t (ending.Written written.NotJson) h writes some = absurd h.1.1
-complete_telling due t (ending.Written written.Usage) h writes some = absurd h.1.1
-complete_telling due t (ending.Broken broken.NoMemory) h writes some = absurd (some refl)
-complete_telling due t (ending.Broken broken.ReadFault) h writes some = absurd h.1
-complete_telling due t (ending.Broken broken.WriteFault) h writes some = absurd (writes h.1.3.cause)
+complete_without_reading : {R : Type 0} (expected : List ℕ → Type 0) (t : Transcript) (e : Outcome R) → EndsWithoutReading expected t e → IsCompleteWithoutReading t e
+complete_without_reading expected t (outcome.Written written.Output) h writes some = refl
+complete_without_reading expected t (outcome.Written (written.Refused x)) h writes some = absurd h.1.1
+complete_without_reading expected t (outcome.Written written.TooLong) h writes some = absurd h.1.1
+complete_without_reading expected t (outcome.Written written.NotJson) h writes some = absurd h.1.1
+complete_without_reading expected t (outcome.Written written.Usage) h writes some = absurd h.1.1
+complete_without_reading expected t (outcome.Broken broken.NoMemory) h writes some = absurd (some refl)
+complete_without_reading expected t (outcome.Broken broken.ReadFault) h writes some = absurd h.1
+complete_without_reading expected t (outcome.Broken broken.WriteFault) h writes some = absurd (writes h.1.3.cause)
 
-complete_by : {R : Type 0} (task : Task R) (t : Transcript) (e : Ending R) → EndsBy task t e → IsCompleteBy task t e
+complete_by : {R : Type 0} (task : Task R) (t : Transcript) (e : Outcome R) → EndsBy task t e → IsCompleteBy task t e
 complete_by (reads r) t e h = complete_reading r t e h
-complete_by (tells due) t e h = complete_telling due t e h
+complete_by (only_writes expected) t e h = complete_without_reading expected t e h
 
--- the run of the command that the words name
-pub named_run : {C R : Type 0} (rules : Rules C R) (words : List (String Global)) (t : Transcript) (e : Ending R) (command : C) →
-    rules.named command words × ((other : C) → rules.named other words → other ≡ command) → EndsBy (rules.task command) t e → IsRun rules words t e
-named_run rules words t e command one h = record {
+-- the run of the command that the arguments name
+pub named_run : {C R : Type 0} (rules : Rules C R) (arguments : List (String Global)) (t : Transcript) (e : Outcome R) (command : C) →
+    rules.named command arguments × ((other : C) → rules.named other arguments → other ≡ command) → EndsBy (rules.task command) t e → IsRun rules arguments t e
+named_run rules arguments t e command one h = record {
   ends = inl (command, one.0, h);
   complete = λ other are. complete_by (rules.task other) t e (subst (λ c. EndsBy (rules.task c) t e) (sym (one.1 other are)) h);
   usage = λ wrong. absurd (wrong command one.0);

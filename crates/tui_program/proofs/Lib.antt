@@ -1,4 +1,4 @@
 pub mod Completeness
-pub mod Endings
-pub mod FirstWords
-pub mod Word
+pub mod Outcomes
+pub mod FirstArguments
+pub mod ArgumentLists

@@ -1,9 +1,9 @@
 pub mod Complete
-pub mod Endings
+pub mod Outcomes
 pub mod FieldLine
 pub mod Rules
 pub mod Runs
 pub mod Status
 pub mod Transcript
-pub mod Words
+pub mod Arguments
 pub mod Files

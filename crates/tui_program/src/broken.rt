@@ -1,12 +1,12 @@
-//! Why a run broke off.
+//! Why a run was aborted.
 
-/// Why a run broke off before it had written something whole.
+/// Why a run was aborted before it had written something completely.
 #[derive(Clone, Copy, Debug, PartialEq, Eq)]
 pub enum Broken {
-    /// A read failed; nothing is written.
+    /// A read failed. Nothing was written.
     ReadFault,
-    /// A put failed; the sink holds the first bytes of what was due.
+    /// A write failed. The sink has the first bytes of the expected output.
     WriteFault,
-    /// The memory was not there; nothing is written, or a part of the output that the program's rules let stand alone.
+    /// Out of memory. Nothing was written, or a part of the output that the program's rules allow to remain.
     NoMemory,
 }

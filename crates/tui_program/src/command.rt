@@ -1,41 +1,41 @@
-//! What the words of a program name.
+//! Commands that are named by arguments.
 
 ghost use Rattle.std.specs.Prelude.{◌≤◌, List, String, length};
 ghost use Rattle.std.specs.declared.alloc.Global.{Global};
 ghost use Rattle.tui_program.specs.Transcript.{transcript_of};
-ghost use Rattle.tui_program.specs.Endings.{EndsBy};
+ghost use Rattle.tui_program.specs.Outcomes.{EndsBy};
 ghost use Rattle.tui_program.specs.Rules.{Rules};
-ghost use Rattle.tui_program.specs.Words.{IsOnly, most_words};
+ghost use Rattle.tui_program.specs.Arguments.{IsOnly, most_arguments};
 
-use crate::ending::Ending;
-use crate::leftovers::Leftovers;
+use crate::cleanup::Cleanup;
+use crate::outcome::Outcome;
 use std::alloc::Global;
-use tui_outside::{Sink, Source};
+use tui_io::{Sink, Source};
 
-/// A command of a program, that words name.
-pub trait Command: Sized {
-    /// What is refused of a value that is read.
+/// A command of a program, named by its arguments.
+pub trait ProgramCommand: Sized {
+    /// What the command rejects its input with.
     type Refusal: Copy;
 
-    // The words that name each command, and what it has to do.
+    // The arguments that name each command, and what it has to do.
     ghost rules: { Rules Self Self.Refusal };
 
-    // No command has more words than these, so that some first words tell which command they name.
-    ghost few: { (command : Self) (words : List (String Global)) → rules.named command words → length words ≤ most_words };
+    // No command has more arguments than these; so a few first arguments decide which command all of them name.
+    ghost few: { (command : Self) (arguments : List (String Global)) → rules.named command arguments → length arguments ≤ most_arguments };
 
-    /// The one command that the words name, if they name any.
-    fn of_words(words: &[String]) -> Option<Self>
-        ensures { IsOnly (λ command. rules.named command words.now) result };
+    /// Returns the one command that the arguments name, if they name any.
+    fn from_arguments(arguments: &[String]) -> Option<Self>
+        ensures { IsOnly (λ command. rules.named command arguments.now) result };
 
-    /// Runs the command: reads what it reads, and writes what is due.
+    /// Runs the command: reads its input, and writes the expected output.
     fn run<S: Source, K: Sink>(
         &self,
         alloc: Global,
         source: &mut S,
         sink: &mut K,
-        leftovers: Leftovers,
-    ) -> Ending<Self::Refusal>
-        requires { (words : List (String Global)) × rules.named self.now words }
+        cleanup: Cleanup,
+    ) -> Outcome<Self::Refusal>
+        requires { (arguments : List (String Global)) × rules.named self.now arguments }
         ensures { EndsBy (rules.task self.now)
-            (transcript_of (S.told source.old) (S.told source.new) (K.told sink.old) (K.told sink.new)) result };
+            (transcript_of (S.observed source.old) (S.observed source.new) (K.observed sink.old) (K.observed sink.new)) result };
 }

@@ -1,14 +1,14 @@
-//! Words that write numbers.
+//! Arguments that are numbers.
 
 ghost use Rattle.std.specs.Prelude.{◌≡◌, ◌==◌, ℕ, IfSome, IsNone, slice_index};
-ghost use Rattle.tui_program.specs.Words.{HaveNumber, HaveNumbers, IsOnly, Write};
+ghost use Rattle.tui_program.specs.Arguments.{HaveNumber, HaveNumbers, IsOnly, IsNumeralOf};
 
-use crate::words::begin;
+use crate::arguments::start_with;
 
-/// Which numbers a word may write: in decimal digits of ASCII alone, at most `digits` of them, and within two bounds.
+/// Which numbers an argument may be: ASCII decimal digits, at most `digits` of them, and within two bounds.
 #[derive(Clone, Copy, Debug, PartialEq, Eq)]
 pub struct Numerals {
-    /// The most digits that the word may have, zeros before the number included.
+    /// The greatest number of digits, leading zeros included.
     pub digits: usize,
     /// The least number.
     pub least: u32,
@@ -17,12 +17,12 @@ pub struct Numerals {
 }
 
 impl Numerals {
-    /// The number that a word writes; None exactly where it writes none of these.
+    /// Returns the number that an argument denotes. Returns None exactly if it denotes no allowed number.
     pub fn number_in(self, word: &str) -> Option<u32>
-        ensures some { IfSome result (Write self word.now) }
-        ensures none { IsNone result → (n : ℕ) → Write self word.now n → ⊥ }
+        ensures some { IfSome result (IsNumeralOf self word.now) }
+        ensures none { IsNone result → (n : ℕ) → IsNumeralOf self word.now n → ⊥ }
     {
-        // `parse` takes a plus before the digits.
+        // `parse` accepts a plus before the digits.
         if word.len() > self.digits || begins_with_plus(word) {
             return None;
         }
@@ -42,24 +42,26 @@ fn begins_with_plus(text: &str) -> bool
     }
 }
 
-/// The number behind this word; None exactly where the words are not this one and one such number.
-pub fn number_after(words: &[String], word: &str, allowed: Numerals) -> Option<u32>
-    ensures { IsOnly (λ n. HaveNumber word.now allowed n words.now) result }
+/// Returns the number after the argument `word`. Returns None exactly if the arguments are not `word` and one allowed
+/// number.
+pub fn number_after(arguments: &[String], word: &str, allowed: Numerals) -> Option<u32>
+    ensures { IsOnly (λ n. HaveNumber word.now allowed n arguments.now) result }
 {
-    if begin(words, 2, word) {
-        allowed.number_in(words[1].as_str())
+    if start_with(arguments, 2, word) {
+        allowed.number_in(arguments[1].as_str())
     } else {
         None
     }
 }
 
-/// The two numbers behind this word; None exactly where the words are not this one and two such numbers.
-pub fn numbers_after(words: &[String], word: &str, allowed: Numerals) -> Option<(u32, u32)>
-    ensures { IsOnly (λ p. HaveNumbers word.now allowed p.0 p.1 words.now) result }
+/// Returns the two numbers after the argument `word`. Returns None exactly if the arguments are not `word` and two
+/// allowed numbers.
+pub fn numbers_after(arguments: &[String], word: &str, allowed: Numerals) -> Option<(u32, u32)>
+    ensures { IsOnly (λ p. HaveNumbers word.now allowed p.0 p.1 arguments.now) result }
 {
-    if begin(words, 3, word) {
-        let first = allowed.number_in(words[1].as_str());
-        first.zip(allowed.number_in(words[2].as_str()))
+    if start_with(arguments, 3, word) {
+        let first = allowed.number_in(arguments[1].as_str());
+        first.zip(allowed.number_in(arguments[2].as_str()))
     } else {
         None
     }

@@ -1,39 +1,39 @@
-//! Commands of a program that all read a JSON value.
+//! Commands of a program in which all commands read a JSON value.
 
 ghost use Rattle.std.specs.Prelude.{◌≤◌, List, String, length};
 ghost use Rattle.std.specs.declared.alloc.Global.{Global};
 ghost use Rattle.tui_program.specs.Rules.{reading_rules};
-ghost use Rattle.tui_program.specs.Words.{IsOnly, most_words};
+ghost use Rattle.tui_program.specs.Arguments.{IsOnly, most_arguments};
 
-use crate::command::Command;
-use crate::ending::Ending;
+use crate::cleanup::Cleanup;
+use crate::command::ProgramCommand;
 use crate::job::{Job, run_json};
-use crate::leftovers::Leftovers;
+use crate::outcome::Outcome;
 use std::alloc::Global;
-use tui_outside::{Sink, Source};
+use tui_io::{Sink, Source};
 
-/// A command of a program whose commands all read a JSON value. It is a `Command`, whose run is `run_json`.
-pub trait Reader: Job + Sized {
-    // The words that name each command.
+/// A command of a program in which all commands read a JSON value. It is a `ProgramCommand` that runs by `run_json`.
+pub trait JsonCommand: Job + Sized {
+    // The arguments that name each command.
     ghost named: { Self → List (String Global) → Type 0 };
 
-    // No command has more words than these.
-    ghost few: { (command : Self) (words : List (String Global)) → named command words → length words ≤ most_words };
+    // No command has more arguments than these.
+    ghost few: { (command : Self) (arguments : List (String Global)) → named command arguments → length arguments ≤ most_arguments };
 
-    /// The one command that the words name, if they name any.
-    fn reader_of(words: &[String]) -> Option<Self>
-        ensures { IsOnly (λ command. named command words.now) result };
+    /// Returns the one command that the arguments name, if they name any.
+    fn json_command_of(arguments: &[String]) -> Option<Self>
+        ensures { IsOnly (λ command. named command arguments.now) result };
 }
 
-impl<C: Reader> Command for C {
+impl<C: JsonCommand> ProgramCommand for C {
     type Refusal = C::Refusal;
 
     ghost rules = { reading_rules C.named C.job_rules };
 
-    ghost few = { C.Reader.few };
+    ghost few = { C.JsonCommand.few };
 
-    fn of_words(words: &[String]) -> Option<C> {
-        C::reader_of(words)
+    fn from_arguments(arguments: &[String]) -> Option<C> {
+        C::json_command_of(arguments)
     }
 
     fn run<S: Source, K: Sink>(
@@ -41,8 +41,8 @@ impl<C: Reader> Command for C {
         alloc: Global,
         source: &mut S,
         sink: &mut K,
-        leftovers: Leftovers,
-    ) -> Ending<C::Refusal> {
-        run_json(self, alloc, source, sink, leftovers)
+        cleanup: Cleanup,
+    ) -> Outcome<C::Refusal> {
+        run_json(self, alloc, source, sink, cleanup)
     }
 }

@@ -1,24 +1,24 @@
-//! Why a command did not write its output whole.
+//! Why a command did not write its output completely.
 
 ghost use Rattle.std.specs.Prelude.{◌≡◌};
-ghost use Rattle.tui_program.specs.Endings.{ending_after};
+ghost use Rattle.tui_program.specs.Outcomes.{outcome_after};
 
 use crate::broken::Broken;
-use crate::ending::Ending;
+use crate::outcome::Outcome;
 use crate::written::Written;
 use std::alloc::{AllocError, AllocFailed};
 use tui_cells::NoMemory;
+use tui_io::WriteFault;
 use tui_json::InputError;
-use tui_outside::WriteFault;
 
-/// Why a command did not write its output whole, once its input was read.
+/// Why a command that had read its input did not write its output completely.
 #[derive(Clone, Copy, Debug, PartialEq, Eq)]
 pub enum Stop<R> {
-    /// The value is refused; nothing is written yet.
+    /// The value is rejected. Nothing has been written yet.
     Refused(R),
-    /// A put failed; the sink holds the first bytes of the output.
+    /// A write failed. The sink has the first bytes of the output.
     WriteFault,
-    /// The memory was not there; nothing is written, or a part of the output that the program's rules let stand alone.
+    /// Out of memory. Nothing was written, or a part of the output that the program's rules allow to remain.
     NoMemory,
 }
 
@@ -81,14 +81,14 @@ impl<R, T: Drop> From<AllocFailed<T>> for Stop<R> {
     }
 }
 
-/// How a run ends after this answer of a command that read nothing.
-pub fn ending_after<R: Copy>(answer: Result<(), Stop<R>>) -> Ending<R>
-    ensures { result ≡ ending_after answer }
+/// Returns the outcome of a run, given the result of a command that reads nothing.
+pub fn outcome_after<R: Copy>(answer: Result<(), Stop<R>>) -> Outcome<R>
+    ensures { result ≡ outcome_after answer }
 {
     match answer {
-        Ok(()) => Ending::Written(Written::Output),
-        Err(Stop::Refused(refusal)) => Ending::Written(Written::Refused(refusal)),
-        Err(Stop::WriteFault) => Ending::Broken(Broken::WriteFault),
-        Err(Stop::NoMemory) => Ending::Broken(Broken::NoMemory),
+        Ok(()) => Outcome::Written(Written::Output),
+        Err(Stop::Refused(refusal)) => Outcome::Written(Written::Refused(refusal)),
+        Err(Stop::WriteFault) => Outcome::Broken(Broken::WriteFault),
+        Err(Stop::NoMemory) => Outcome::Broken(Broken::NoMemory),
     }
 }

@@ -1,4 +1,4 @@
--- Rows of the print.
+-- The rows of a buffer in the output.
 use Rattle.std.proofs.Common.{◌≡◌, ℕ, ◌+◌, ◌-◌, ◌<◌, ◌≤◌, List, [], ◌∷◌, ◌++◌, length, get_or, take, slice_index_or, flat_map, refl, ap, sym, ◌∙◌, add-one, min, append_assoc, slice_set, arith, rules, false, true}
 use Rattle.std.proofs.lemmas.List.{append-nil, length-set, take_more_set}
 use Rattle.std.proofs.lemmas.Grind.{flat_map-append}
@@ -7,13 +7,13 @@ use Rattle.std.proofs.Math.Seq.{take-suc}
 use Rattle.tui_cells.specs.Cell.{Look}
 use Rattle.tui_clusters.specs.Plain.{IsLetter}
 use Rattle.tui_clusters.specs.Width.{width_of}
-use Rattle.tui_rows.specs.RowLine.{symbols_from, joined_symbols}
-use Rattle.tui_text.specs.Visible.{step_of}
+use Rattle.tui_rows.specs.RowLine.{symbols_from}
+use Rattle.tui_text.specs.Visible.{joined_symbols, step_of}
 use Rattle.tui_clusters.proofs.OneByte.{printable_width}
 use Rattle.tui_clusters.proofs.Widths.{letter_width}
 use Rattle.tui_text.proofs.ShownCells.{none_visible, visible_next}
 
--- a cell that shows, and what comes behind its columns
+-- a visible cell, and what comes after its columns
 pub row_step : (row : List Look) (i step : ℕ) (c : Look) → i < length row → c ≡ get_or row i c → step ≡ min (step_of c.symbol) (length row - i) →
     symbols_from row i ≡ c.symbol ++ symbols_from row (i + step)
 row_step row i step c lt e is =
@@ -26,7 +26,7 @@ pub row_plain : (row : List Look) (i b : ℕ) (c : Look) → i < length row → 
 row_plain row i b c lt e is one =
     row_step row i 1 c lt e (omega (arith, one, lt)) ∙ ap (λ (l : List ℕ). l ++ symbols_from row (i + 1)) is
 
--- and one more of them is copied
+-- one more of them is copied
 pub plain_more : (row piece text : List ℕ) (n b : ℕ) (rest : List ℕ) → n < length piece → text ≡ take n piece ++ row → row ≡ b ∷ rest →
     text ≡ take (n + 1) (slice_set piece n b) ++ rest
 plain_more row piece text n b rest lt before is =
@@ -39,7 +39,7 @@ row_narrow row i bytes c lt e is one =
     let step : step_of c.symbol ≡ 1 = rw is one in
     row_step row i 1 c lt e (omega (arith, step, lt)) ∙ ap (λ (l : List ℕ). l ++ symbols_from row (i + 1)) is
 
--- and three of its bytes are copied
+-- its three bytes are copied once more
 pub three_more : (row piece text symbol rest : List ℕ) (at next : ℕ) → length symbol ≡ 3 → at + 3 ≤ length piece → next ≡ at + 3 →
     text ≡ take at piece ++ row → row ≡ symbol ++ rest →
     text ≡ take next (slice_set (slice_set (slice_set piece at (slice_index_or symbol 0 0)) (at + 1) (slice_index_or symbol 1 0)) (at + 2) (slice_index_or symbol 2 0)) ++ rest
@@ -69,7 +69,7 @@ pub letter_step : (s : List ℕ) → IsLetter s → step_of s ≡ 1
 unfolding step_of
 letter_step s letter = rw (letter_width s letter) refl
 
--- the lines of some rows, and of one row more
+-- the lines of some rows, and of one more row
 pub rows_more : {A : Type 0} (line : List A → List ℕ) (rows : List (List A)) (i : ℕ) (d : List A) → i < length rows →
     flat_map line (take (i + 1) rows) ≡ flat_map line (take i rows) ++ line (get_or rows i d)
 rows_more line rows i d lt =

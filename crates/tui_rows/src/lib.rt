@@ -1,10 +1,10 @@
-//! The rows of a buffer on their way to a sink: the symbols of the cells that show, in long pieces.
+//! Writes the rows of a buffer to a sink: the symbols of the visible cells, in long pieces.
 #![tactic(auto)]
 
 mod letters;
 mod rows;
-mod steps;
+mod width_cache;
 mod write;
 
-pub use rows::{put_rows, put_symbols};
+pub use rows::{emit_rows, emit_symbols};
 pub use write::write_rows;

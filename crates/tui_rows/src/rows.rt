@@ -1,91 +1,92 @@
 //! The symbols of a row, and the lines of rows.
 
 ghost use Rattle.std.specs.Prelude.{◌≡◌, ◌+◌, ◌++◌, ◌*◌, ◌<◌, ◌≤◌, ℕ, List, flat_map, length, take};
-ghost use Rattle.tui_outside.specs.Gathers.{Gathers};
-ghost use Rattle.tui_rows.specs.RowLine.{row_line, symbols_from, symbols_in};
-ghost use Rattle.tui_text.specs.Visible.{step_of};
+ghost use Rattle.tui_io.specs.Prints.{Prints};
+ghost use Rattle.tui_rows.specs.RowLine.{row_line, symbols_from};
+ghost use Rattle.tui_text.specs.Visible.{step_of, symbols_in};
 
 use crate::letters::is_letter;
-use crate::steps::{Steps, is_text};
+use crate::width_cache::{WidthCache, is_text};
 use tui_cells::{Buffer, Cell};
-use tui_outside::{Print, Sink};
+use tui_io::{Print, Sink};
 use tui_text::printable_byte;
 
-/// Adds the rows of a buffer to a print: a line `r` and the symbols for each.
-pub fn put_rows<K: Sink>(print: &mut Print, buf: &Buffer, sink: &mut K)
-    ensures { Gathers (K.told sink.old) (K.told sink.new) print.old print.new (flat_map row_line buf.now.rows) }
+/// Adds the rows of a buffer to a `Print`: for each row a line with `r` and the symbols.
+pub fn emit_rows<K: Sink>(print: &mut Print, buf: &Buffer, sink: &mut K)
+    ensures { Prints (K.observed sink.old) (K.observed sink.new) print.old print.new (flat_map row_line buf.now.rows) }
 {
     'rows: for number in 0..buf.height() {
-        put_row(print, buf.row_at(number), sink);
+        emit_row(print, buf.row_at(number), sink);
     }
 }
 
-fn put_row<K: Sink>(print: &mut Print, row: &[Cell], sink: &mut K)
-    ensures { Gathers (K.told sink.old) (K.told sink.new) print.old print.new (row_line row.now) }
+fn emit_row<K: Sink>(print: &mut Print, row: &[Cell], sink: &mut K)
+    ensures { Prints (K.observed sink.old) (K.observed sink.new) print.old print.new (row_line row.now) }
 {
     print.extend(sink, b"r ");
-    put_symbols(print, row, sink);
+    emit_symbols(print, row, sink);
     print.push(sink, b'\n');
 }
 
-/// How many bytes are copied at once.
+/// How many bytes are copied at a time.
 const PIECE: usize = 192;
 
-/// Adds the symbols of the cells of a row that show. Printable bytes that follow one another are copied before they are added.
+/// Adds the symbols of the visible cells of a row. Runs of printable bytes are first copied into one piece.
 #[inline]
-pub fn put_symbols<K: Sink>(print: &mut Print, row: &[Cell], sink: &mut K)
-    ensures { Gathers (K.told sink.old) (K.told sink.new) print.old print.new (symbols_in row.now) }
+pub fn emit_symbols<K: Sink>(print: &mut Print, row: &[Cell], sink: &mut K)
+    ensures { Prints (K.observed sink.old) (K.observed sink.new) print.old print.new (symbols_in row.now) }
 {
     let mut piece = [0u8; PIECE];
-    let mut steps = Steps::new();
+    let mut width_cache = WidthCache::new();
     let mut column = 0;
     while column < row.len() {
-        column = put_next(print, row, column, &mut piece, &mut steps, sink);
+        column = emit_next(print, row, column, &mut piece, &mut width_cache, sink);
     }
 }
 
-// Adds the printable bytes from a column on, else its symbol as often as it goes on, and answers the next column that shows.
+// Adds the run of printable bytes at a column if there is one, else the symbol there and its repetitions if
+// it has three bytes. Returns the next visible column.
 #[inline]
-fn put_next<'r, K: Sink>(
+fn emit_next<'r, K: Sink>(
     print: &mut Print,
     row: &'r [Cell],
     column: usize,
     piece: &mut [u8; PIECE],
-    steps: &mut Steps<'r>,
+    width_cache: &mut WidthCache<'r>,
     sink: &mut K,
 ) -> usize
     requires { column < length row.now }
     ensures within { (column < result) × (result ≤ length row.now) }
-    ensures put { (text : List ℕ) × (symbols_from row.now column ≡ text ++ symbols_from row.now result)
-        × Gathers (K.told sink.old) (K.told sink.new) print.old print.new text }
+    ensures emitted { (text : List ℕ) × (symbols_from row.now column ≡ text ++ symbols_from row.now result)
+        × Prints (K.observed sink.old) (K.observed sink.new) print.old print.new text }
 {
     let symbol = row[column].symbol();
     if symbol.len() == 1 {
         let plain = copy_plain(row, column, piece);
         if plain > 0 {
-            put_plain(print, &piece[..plain], sink);
+            emit_plain(print, &piece[..plain], sink);
             return column + plain;
         }
     }
     if is_letter(symbol) {
-        put_symbol(print, symbol, sink);
+        emit_symbol(print, symbol, sink);
         return column + 1;
     }
-    let step = steps.step(symbol);
+    let step = width_cache.step(symbol);
     let next = column + step.min(row.len() - column);
     match symbol.as_bytes().as_array::<3>() {
-        Some(three) => put_three(print, row, next, *three, step, piece, sink),
+        Some(three) => emit_three(print, row, next, *three, step, piece, sink),
         None => {
-            put_symbol(print, symbol, sink);
+            emit_symbol(print, symbol, sink);
             next
         }
     }
 }
 
-// A single byte needs no call.
+// A single byte is added without a call.
 #[inline]
-fn put_plain<K: Sink>(print: &mut Print, bytes: &[u8], sink: &mut K)
-    ensures { Gathers (K.told sink.old) (K.told sink.new) print.old print.new bytes.now }
+fn emit_plain<K: Sink>(print: &mut Print, bytes: &[u8], sink: &mut K)
+    ensures { Prints (K.observed sink.old) (K.observed sink.new) print.old print.new bytes.now }
 {
     match bytes {
         [byte] => print.push(sink, *byte),
@@ -93,10 +94,10 @@ fn put_plain<K: Sink>(print: &mut Print, bytes: &[u8], sink: &mut K)
     }
 }
 
-// Two bytes are a letter of many scripts, and a copy of a known length needs no call.
+// Letters of many scripts have two bytes, and a copy of known length needs no call.
 #[inline]
-fn put_symbol<K: Sink>(print: &mut Print, symbol: &str, sink: &mut K)
-    ensures { Gathers (K.told sink.old) (K.told sink.new) print.old print.new symbol.now }
+fn emit_symbol<K: Sink>(print: &mut Print, symbol: &str, sink: &mut K)
+    ensures { Prints (K.observed sink.old) (K.observed sink.new) print.old print.new symbol.now }
 {
     let bytes = symbol.as_bytes();
     match bytes.as_array::<2>() {
@@ -105,9 +106,10 @@ fn put_symbol<K: Sink>(print: &mut Print, symbol: &str, sink: &mut K)
     }
 }
 
-// Adds a symbol, and where it takes one column also those of the next cells that have it too; answers the column behind them.
+// Adds a symbol of three bytes. If it takes one column, also adds its repetitions in the next cells. Returns
+// the column after them.
 #[inline]
-fn put_three<K: Sink>(
+fn emit_three<K: Sink>(
     print: &mut Print,
     row: &[Cell],
     next: usize,
@@ -119,8 +121,8 @@ fn put_three<K: Sink>(
     requires within { next ≤ length row.now }
     requires step { step ≡ step_of symbol }
     ensures within { (next ≤ result) × (result ≤ length row.now) }
-    ensures put { (text : List ℕ) × (symbols_from row.now next ≡ text ++ symbols_from row.now result)
-        × Gathers (K.told sink.old) (K.told sink.new) print.old print.new (symbol ++ text) }
+    ensures emitted { (text : List ℕ) × (symbols_from row.now next ≡ text ++ symbols_from row.now result)
+        × Prints (K.observed sink.old) (K.observed sink.new) print.old print.new (symbol ++ text) }
 {
     print.extend(sink, &symbol);
     if step != 1 || next == row.len() || !is_text(row[next].symbol(), symbol) {
@@ -131,7 +133,8 @@ fn put_three<K: Sink>(
     next + count
 }
 
-// Copies a symbol of one column as long as the cells from a column on have it, and answers how many there are.
+// Copies a symbol of one column once for each of the following cells that have it. Returns the
+// number of copies.
 fn copy_same(row: &[Cell], from: usize, symbol: [u8; 3], piece: &mut [u8; PIECE]) -> usize
     requires within { from ≤ length row.now }
     requires narrow { step_of symbol ≡ 1 }
@@ -153,7 +156,7 @@ fn copy_same(row: &[Cell], from: usize, symbol: [u8; 3], piece: &mut [u8; PIECE]
     count
 }
 
-// Copies the symbols from a column on as long as each is one printable byte, and answers how many there are.
+// Copies the symbols from a column on as long as each is one printable byte. Returns their number.
 fn copy_plain(row: &[Cell], from: usize, piece: &mut [u8; PIECE]) -> usize
     requires { from ≤ length row.now }
     ensures within { (result ≤ PIECE) × (from + result ≤ length row.now) }

@@ -1,4 +1,4 @@
--- A drawn screen is one.
+-- A drawing on a blank buffer gives exactly one screen.
 use Rattle.std.proofs.Common.{◌≡◌, ℕ, ◌+◌, ◌-◌, ◌<◌, ◌≤◌, Bool, true, false, if◌then◌else◌, List, [], length, get_or, map, Some, None, option_map}
 use Rattle.std.proofs.Common.{refl, sym, ap, subst, ◌∙◌, arith}
 use Rattle.std.proofs.lemmas.Bool.Decides.{nat_tests}
@@ -44,19 +44,19 @@ same_rows : (r : Rect) (xs ys : List (List Look)) → IsScreen (record { area = 
 same_rows r xs ys p q same = same_lists xs ys (p.high ∙ sym q.high) (λ k d lt.
     get_or_default xs k d [] lt ∙ (same_row r xs ys p q same k lt ∙ get_or_default ys k [] d (omega (arith, p.high, q.high))))
 
--- rows that over an area have the shape of a screen, and its cells
+-- rows that have the shape of a screen with this area, and its cells
 record Alike (a : Screen) (rows : List (List Look)) (r : Rect) : Type 0 where
   shape : IsScreen (record { area = r; rows = rows })
   cells : (x y : ℕ) → cell_at (record { area = r; rows = rows }) x y ≡ cell_at a x y
 
--- screens of one area with the same cells are one
+-- two screens with the same area and the same cells are equal
 pub one_screen : (a b : Screen) → b.area ≡ a.area → IsScreen a → IsScreen b → ((x y : ℕ) → cell_at b x y ≡ cell_at a x y) → b ≡ a
 one_screen a b area p q same =
     let there = subst (Alike a b.rows) area (record { shape = q; cells = same }) in
     let rows = same_rows a.area b.rows a.rows there.shape p there.cells in
     λ i. record { area = area i; rows = rows i }
 
--- the cells of a blank buffer of an area
+-- the cells of a blank buffer with this area
 pub filled_cell : (r : Rect) (b : Screen) → IsFilled r blank b → (x y : ℕ) → cell_at b x y ≡ (if covers r x y then Some blank else None)
 filled_cell r b f x y = by_test (covers r x y) refl
   where
@@ -64,7 +64,7 @@ filled_cell r b f x y = by_test (covers r x y) refl
     by_test true e = f.cells x y e ∙ rw e refl
     by_test false e = rw (f.area_is, e) refl
 
--- a drawn screen, cell by cell, and the states
+-- a drawn screen cell by cell, and the states
 drawn_cells : (width height : ℕ) (old new : List PlacedData) (last : Screen) → IsDrawn width height old new last →
     let area = area_of 0 0 width height in
     (last.area ≡ area) × (new ≡ map (placed_after area) old)

@@ -1,4 +1,4 @@
--- Widgets that stand apart, without shadows.
+-- Widgets without shadows whose areas share no position.
 use Rattle.std.proofs.Common.{◌≡◌, ℕ, zero, suc, ◌<◌, Bool, true, false, ◌&&◌, List, [], ◌∷◌, ◌++◌, length}
 use Rattle.std.proofs.Common.{get_or, set, map, refl, sym, ap, ◌∙◌, subst, arith, inl, inr, Option, None, Some, option_map}
 use Rattle.std.specs.Prelude.{IfSome, if◌then◌else◌}
@@ -15,36 +15,36 @@ use Rattle.tui_cells.proofs.Painting.{Painted-same}
 use Rattle.tui_cells.proofs.Regions.{covers_both}
 use Rattle.tui_frames.specs.Block.{BlockData}
 use Rattle.tui_frames.specs.Footprint.{footprint_if, footprint_of}
-use Rattle.tui_lists.proofs.ListShown.{strokes_stay}
-use Rattle.tui_table.proofs.Moving.{drawing_settles}
+use Rattle.tui_lists.proofs.ListShown.{redraw_keeps_strokes}
+use Rattle.tui_table.proofs.StatefulDrawing.{redraw_is_idempotent}
 use Rattle.tui_scene.specs.Item.{ItemData, PlacedData, item_drawing, placed_after, placed_layers, clear, fill, block, paragraph, tabs}
-use Rattle.tui_scene.specs.Item.{gauge, line_gauge, bar_chart, sparkline, monthly, logo, still, list, table, scrollbar}
+use Rattle.tui_scene.specs.Item.{gauge, line_gauge, bar_chart, sparkline, monthly, logo, stateless, list, table, scrollbar}
 use Rattle.tui_scene.specs.Laws.{LayersRepeat}
 use Rattle.tui_scene.specs.Redraw.{AreReplaced, DrawnIsFresh, IsFresh, IsOrder, IsReplaced}
-use Rattle.tui_scene.specs.Redraw.{OrderIsFree, ReplacedIsFresh, StandApart, StaysFresh, replaced}
+use Rattle.tui_scene.specs.Redraw.{OrderIsIrrelevant, ReplacedIsFresh, AreDisjointItems, StaysFresh, replaced}
 use Rattle.tui_scene.specs.Scene.{no_widget, placed_at, scene_layers}
 use Rattle.tui_scene.specs.Shadow.{ClipIsFootprint, HasNoShadow}
 use Rattle.tui_scene.proofs.Drawn.{filled_cell}
-use Rattle.tui_scene.proofs.Standing.{KeepApart, Stroked, all_layers, any_order, either, in_order, other_at}
+use Rattle.tui_scene.proofs.DisjointItems.{KeepApart, Stroked, all_layers, any_order, either, in_order, other_at}
 
--- a widget without a shadow changes its clip alone
+-- a widget without a shadow changes only its clip
 
 plain_if : (o : Option BlockData) (clip : Rect) (x y : ℕ) → IfSome o (λ (b : BlockData). b.shadow ≡ None) → footprint_if o clip x y ≡ covers clip x y
 plain_if None clip x y e = refl
 plain_if (Some b) clip x y e = ap (λ s. footprint_of s clip x y) e
 
 plain : (item : ItemData) (clip : Rect) (x y : ℕ) → HasNoShadow item → (item_drawing item).footprint clip x y ≡ covers clip x y
-plain (still clear) clip x y e = refl
-plain (still (fill f)) clip x y e = refl
-plain (still (block b)) clip x y e = ap (λ s. footprint_of s clip x y) e
-plain (still (paragraph p)) clip x y e = plain_if p.block clip x y e
-plain (still (tabs t)) clip x y e = plain_if t.block clip x y e
-plain (still (gauge g)) clip x y e = plain_if g.block clip x y e
-plain (still (line_gauge g)) clip x y e = plain_if g.block clip x y e
-plain (still (bar_chart c)) clip x y e = plain_if c.block clip x y e
-plain (still (sparkline s)) clip x y e = plain_if s.block clip x y e
-plain (still (monthly dates m)) clip x y e = plain_if m.block clip x y e
-plain (still (logo size)) clip x y e = refl
+plain (stateless clear) clip x y e = refl
+plain (stateless (fill f)) clip x y e = refl
+plain (stateless (block b)) clip x y e = ap (λ s. footprint_of s clip x y) e
+plain (stateless (paragraph p)) clip x y e = plain_if p.block clip x y e
+plain (stateless (tabs t)) clip x y e = plain_if t.block clip x y e
+plain (stateless (gauge g)) clip x y e = plain_if g.block clip x y e
+plain (stateless (line_gauge g)) clip x y e = plain_if g.block clip x y e
+plain (stateless (bar_chart c)) clip x y e = plain_if c.block clip x y e
+plain (stateless (sparkline s)) clip x y e = plain_if s.block clip x y e
+plain (stateless (monthly dates m)) clip x y e = plain_if m.block clip x y e
+plain (stateless (logo size)) clip x y e = refl
 plain (list l s) clip x y e = plain_if l.block clip x y e
 plain (table t s) clip x y e = plain_if t.block clip x y e
 plain (scrollbar b s) clip x y e = refl
@@ -53,15 +53,15 @@ pub clip_is_footprint : ClipIsFootprint
 clip_is_footprint area p none x y = plain p.item (intersection_of p.area area) x y none
 
 item_repeats : (item : ItemData) (clip : Rect) → (item_drawing ((item_drawing item).after clip)).layers clip ≡ (item_drawing item).layers clip
-item_repeats (still w) clip = refl
-item_repeats (list l s) clip = strokes_stay l s clip
-item_repeats (table t s) clip = (drawing_settles t clip s).1
+item_repeats (stateless w) clip = refl
+item_repeats (list l s) clip = redraw_keeps_strokes l s clip
+item_repeats (table t s) clip = (redraw_is_idempotent t clip s).1
 item_repeats (scrollbar b s) clip = refl
 
 pub items_repeat : LayersRepeat
 items_repeat area p = item_repeats p.item (intersection_of p.area area)
 
--- widgets as strokes that keep to their clips
+-- widgets as strokes that stay in their clips
 
 abbrev stroked : Rect → PlacedData → Stroked
 stroked area p = record { region = covers (intersection_of p.area area); layers = placed_layers area p }
@@ -84,8 +84,8 @@ apart_clips area a b x y h =
     ∙ ap (λ t. (covers a x y && covers area x y) && t) (covers_both b area x y)
     ∙ both_false (covers a x y) (covers b x y) (covers area x y) h
 
-stand_apart : (area : Rect) (ps : List PlacedData) (d : PlacedData) → StandApart ps → KeepApart (map (stroked area) ps)
-stand_apart area ps d lie = record {
+are_disjoint_items : (area : Rect) (ps : List PlacedData) (d : PlacedData) → AreDisjointItems ps → KeepApart (map (stroked area) ps)
+are_disjoint_items area ps d lie = record {
   stay = All-map (λ (s : Stroked). StayIn s.region s.layers) (stroked area) ps
       (All-weaker (λ (p : PlacedData). HasNoShadow p.item) (λ (p : PlacedData). StayIn (covers (intersection_of p.area area)) (placed_layers area p))
       (λ p e. stays_in area p e) ps lie.no_shadow);
@@ -118,16 +118,16 @@ ordered_is area ps (i ∷ order) =
     (get_or_mapped (stroked area) ps i no_widget)
     ∙ ap (λ ls. placed_layers area (placed_at ps i) ++ ls) (ordered_is area ps order)
 
-pub order_is_free : OrderIsFree
-order_is_free ps order a b lie is painted =
+pub order_is_irrelevant : OrderIsIrrelevant
+order_is_irrelevant ps order a b lie is painted =
     let order_is : IsOrder (length (map (stroked a.area) ps)) order = subst (λ n. IsOrder n order) (sym (length-map ps (stroked a.area))) is in
     Painted-same
     (λ x y c. ap (λ ls. layers_at ls x y c) (sym (ordered_is a.area ps order))
-    ∙ any_order (map (stroked a.area) ps) (stroked a.area no_widget) order (stand_apart a.area ps no_widget lie) order_is x y c
+    ∙ any_order (map (stroked a.area) ps) (stroked a.area no_widget) order (are_disjoint_items a.area ps no_widget lie) order_is x y c
     ∙ ap (λ ls. layers_at ls x y c) (all_is a.area ps))
     painted
 
--- drawn again the widgets draw the same strokes
+-- widgets that are drawn again have the same strokes
 pub scene_repeats : (area : Rect) (ps : List PlacedData) → scene_layers area (map (placed_after area) ps) ≡ scene_layers area ps
 scene_repeats area [] = refl
 scene_repeats area (p ∷ ps) =
@@ -137,7 +137,7 @@ scene_repeats area (p ∷ ps) =
 abbrev blank_at : Rect → ℕ → ℕ → Option Look
 blank_at area x y = if covers area x y then Some blank else None
 
--- the same as being fresh, cell by cell
+-- a fresh buffer, cell by cell
 record FreshCells (ps : List PlacedData) (s : Screen) : Type 0 where
   cells : (x y : ℕ) → cell_at s x y ≡ option_map (layers_at (scene_layers s.area ps) x y) (blank_at s.area x y)
 
@@ -168,8 +168,8 @@ drawn_is_fresh old new a b filled drawn =
       strokes = subst (λ ls. Painted ls a b) (sym moved) drawn.cells;
     }
 
--- a place of the buffer, where one widget is another one
-replaced_cell : (area : Rect) (ps : List PlacedData) (i : ℕ) (q d : PlacedData) (x y : ℕ) → i < length ps → StandApart ps → HasNoShadow q.item →
+-- one position of the buffer, if one widget is replaced
+replaced_cell : (area : Rect) (ps : List PlacedData) (i : ℕ) (q d : PlacedData) (x y : ℕ) → i < length ps → AreDisjointItems ps → HasNoShadow q.item →
     q.area ≡ (get_or ps i d).area
     → covers area x y ≡ true
     → layers_at (placed_layers area q) x y (layers_at (stroke (covers q.area) wipe) x y (layers_at (scene_layers area ps) x y blank))
@@ -182,7 +182,7 @@ replaced_cell area ps i q d x y lt lie plain_q same inside =
     ≡ covers (intersection_of (get_or ps i d).area area) = ap (λ (t : Stroked). t.region) (get_or_mapped (stroked area) ps i d) in
     let regions : (x y : ℕ) → s.region x y ≡ (get_or xs i (stroked area d)).region x y =
     λ x y. ap (λ (r : Rect). covers (intersection_of r area) x y) same ∙ sym (ap (λ (f : ℕ → ℕ → Bool). f x y) old_area) in
-    let law = other_at xs i s (stroked area d) n (stand_apart area ps d lie) (stays_in area q plain_q) regions x y blank in
+    let law = other_at xs i s (stroked area d) n (are_disjoint_items area ps d lie) (stays_in area q plain_q) regions x y blank in
     let again : stroked area (placed_after area q)
     ≡ s = ap (λ ls. let t : Stroked = record { region = covers (intersection_of q.area area); layers = ls } in t) (items_repeat area q) in
     let scene : scene_layers area (set ps i (placed_after area q)) ≡ all_layers (set xs i s) =
@@ -200,7 +200,7 @@ replaced_cell area ps i q d x y lt lie plain_q same inside =
           ∙ sym (goal_is ∙ cond-false _ _ _ (clip ∙ free) ∙ ap (λ ls. layers_at ls x y blank) (all_is area ps))
     ]
 
-cell_is : (area : Rect) (ps : List PlacedData) (i : ℕ) (q d : PlacedData) (x y : ℕ) → i < length ps → StandApart ps → HasNoShadow q.item →
+cell_is : (area : Rect) (ps : List PlacedData) (i : ℕ) (q d : PlacedData) (x y : ℕ) → i < length ps → AreDisjointItems ps → HasNoShadow q.item →
     q.area ≡ (get_or ps i d).area
     → option_map (layers_at (placed_layers area q) x y)
     (option_map (layers_at (stroke (covers q.area) wipe) x y) (option_map (layers_at (scene_layers area ps) x y) (blank_at area x y)))
@@ -213,7 +213,7 @@ cell_is area ps i q d x y lt lie plain_q same =
       | inr outside ↦ (let b : blank_at area x y ≡ None = cond-false _ _ _ outside in rw b refl)
     ]
 
-replaced_cells : (ps : List PlacedData) (i : ℕ) (q : PlacedData) (a c : Screen) → StandApart ps → FreshCells ps a → IsReplaced ps i q a c →
+replaced_cells : (ps : List PlacedData) (i : ℕ) (q : PlacedData) (a c : Screen) → AreDisjointItems ps → FreshCells ps a → IsReplaced ps i q a c →
     FreshCells (replaced ps i q a) c
 replaced_cells ps i q a c lie fresh r = record {
   cells = λ x y.
@@ -231,10 +231,10 @@ replaced_is_fresh ps i q a c lie fresh r =
     ∙ r.is_reset.area)) fresh.blank_first)
     (replaced_cells ps i q a c lie (to_cells ps a fresh) r)
 
--- over any replacements
+-- after any number of replacements
 
 after_plain : (item : ItemData) (clip : Rect) → HasNoShadow item → HasNoShadow ((item_drawing item).after clip)
-after_plain (still w) clip e = e
+after_plain (stateless w) clip e = e
 after_plain (list l s) clip e = e
 after_plain (table t s) clip e = e
 after_plain (scrollbar b s) clip e = e
@@ -252,8 +252,8 @@ area_set ps i j q d lt same =
       | inr other ↦ ap (λ (p : PlacedData). p.area) (get_or-set_other ps i j q d other)
     ]
 
-lie_set : (ps : List PlacedData) (i : ℕ) (q : PlacedData) → StandApart ps → i < length ps → ((d : PlacedData) → q.area ≡ (get_or ps i d).area) →
-    HasNoShadow q.item → StandApart (set ps i q)
+lie_set : (ps : List PlacedData) (i : ℕ) (q : PlacedData) → AreDisjointItems ps → i < length ps → ((d : PlacedData) → q.area ≡ (get_or ps i d).area) →
+    HasNoShadow q.item → AreDisjointItems (set ps i q)
 lie_set ps i q lie lt same plain_q = record {
   no_shadow = All-set (λ (p : PlacedData). HasNoShadow p.item) ps i q plain_q lie.no_shadow;
   apart = λ j k d less h x y.
@@ -261,7 +261,7 @@ lie_set ps i q lie lt same plain_q = record {
       (lie.apart j k d less (omega (arith, length-set ps i q)) x y);
 }
 
-lie_after : (area : Rect) (ps : List PlacedData) → StandApart ps → StandApart (map (placed_after area) ps)
+lie_after : (area : Rect) (ps : List PlacedData) → AreDisjointItems ps → AreDisjointItems (map (placed_after area) ps)
 lie_after area ps lie = record {
   no_shadow = All-map (λ (p : PlacedData). HasNoShadow p.item) (placed_after area) ps
       (All-weaker (λ (p : PlacedData). HasNoShadow p.item) (λ (p : PlacedData). HasNoShadow (placed_after area p).item)
@@ -273,13 +273,13 @@ lie_after area ps lie = record {
       (ap (λ (p : PlacedData). p.area) (get_or-map (placed_after area) ps k d d m)) (lie.apart j k d less m x y);
 }
 
-still_apart : (ps : List PlacedData) (i : ℕ) (q : PlacedData) (a c : Screen) → StandApart ps → IsReplaced ps i q a c → StandApart (replaced ps i q a)
+still_apart : (ps : List PlacedData) (i : ℕ) (q : PlacedData) (a c : Screen) → AreDisjointItems ps → IsReplaced ps i q a c → AreDisjointItems (replaced ps i q a)
 still_apart ps i q a c lie r =
     lie_set ps i (placed_after a.area q) lie r.within
     (λ (d : PlacedData). r.same_area ∙ ap (λ (p : PlacedData). p.area) (get_or_default ps i no_widget d r.within))
     (after_plain q.item (intersection_of q.area a.area) r.no_shadow)
 
-replaced_all : (ps last : List PlacedData) (rs : List (ℕ × PlacedData)) (a c : Screen) → StandApart ps → IsFresh ps a →
+replaced_all : (ps last : List PlacedData) (rs : List (ℕ × PlacedData)) (a c : Screen) → AreDisjointItems ps → IsFresh ps a →
     AreReplaced ps a rs last c → IsFresh last c
 replaced_all ps last [] a c lie fresh done =
     subst (λ (s : Screen). IsFresh last s) (sym done.1) (subst (λ qs. IsFresh qs a) (sym done.0) fresh)
@@ -289,4 +289,4 @@ replaced_all ps last (r ∷ rs) a c lie fresh done =
 
 pub stays_fresh : StaysFresh
 stays_fresh old new last rs a b c lie filled drawn done =
-    replaced_all new last rs b c (subst StandApart (sym drawn.states) (lie_after a.area old lie)) (drawn_is_fresh old new a b filled drawn) done
+    replaced_all new last rs b c (subst AreDisjointItems (sym drawn.states) (lie_after a.area old lie)) (drawn_is_fresh old new a b filled drawn) done

@@ -48,17 +48,17 @@ use Rattle.tui_cells.specs.Buffer.{Screen, cell_at}
 use Rattle.tui_cells.specs.Cell.{Look}
 use Rattle.tui_cells.specs.Layers.{KeptOutside, Layer, Painted, StayIn, layers_at}
 use Rattle.tui_cells.proofs.Painting.{Painted-append}
-use Rattle.tui_scene.specs.Item.{IsLightPlaced, PlacedData, item_drawing, placed_after, placed_footprint, placed_layers}
-use Rattle.tui_scene.specs.Scene.{Run, Step, in_footprints, scene_layers}
+use Rattle.tui_scene.specs.Item.{IsAllocationFreePlaced, PlacedData, item_drawing, placed_after, placed_footprint, placed_layers}
+use Rattle.tui_scene.specs.Scene.{DrawRun, DrawStep, in_footprints, scene_layers}
 use Rattle.tui_scene.specs.Draw.{Stopped}
 use Rattle.tui_scene.proofs.Strokes.{outside_more, scene_stays}
 
--- the first widgets are drawn and have their states moved
+-- the first i widgets are drawn and their states are updated
 pub record Drawn (old new : List PlacedData) (before now : Screen) (i : ℕ) : Type 0 where
   pub painted : Painted (scene_layers before.area (take i old)) before now
   pub states : new ≡ map (placed_after before.area) (take i old) ++ drop i old
 
--- a widget that is not drawn yet is as it was
+-- a widget that is not drawn yet is unchanged
 get_or-drawn : (f : PlacedData → PlacedData) (ps : List PlacedData) (i : ℕ) (d : PlacedData) → i < length ps →
     get_or (map f (take i ps) ++ drop i ps) i d ≡ get_or ps i d
 get_or-drawn f ps i d lt = grind (arith, common_steps)
@@ -71,7 +71,7 @@ scene_layers-more : (area : Rect) (ps : List PlacedData) (i : ℕ) (d : PlacedDa
     scene_layers area (take (i + 1) ps) ≡ scene_layers area (take i ps) ++ placed_layers area (get_or ps i d)
 scene_layers-more area ps i d lt = grind (arith, common_steps, take_more, flat_map-append)
 
--- the widget in a place, among those that are as they were
+-- the widget at an index, among those that are unchanged
 record IsNext {A : Type 0} (f : A → PlacedData) (xs : List A) (old : List PlacedData) (i : ℕ) (x : A) : Type 0 where
   pub now : get_or (map f xs) i (f x) ≡ f x
   pub was : f x ≡ get_or old i (f x)
@@ -84,7 +84,7 @@ next_is f xs old before mid i x d lt drawn at =
     let here : get_or (map f xs) i (f x) ≡ f x = get_or-map f xs i d (f x) within ∙ sym (ap f at) in
     record { now = here; was = sym here ∙ rw drawn.states (get_or-drawn (placed_after before.area) old i (f x) lt) }
 
--- the first widgets and one more are drawn
+-- one more widget is drawn after the first ones
 pub drawn_more : {A : Type 0} (f : A → PlacedData) (xs : List A) (old : List PlacedData) (before mid after : Screen) (i : ℕ) (x d q : A) → i < length old →
     Drawn old (map f xs) before mid i → x ≡ get_or xs i d → Painted (placed_layers mid.area (f x)) mid after → f q ≡ placed_after mid.area (f x) →
     Drawn old (map f (set xs i q)) before after (i + 1)
@@ -99,35 +99,35 @@ drawn_more f xs old before mid after i x d q lt drawn at p e =
       states = map-set f xs i q ∙ (ap (set (map f xs) i) moved ∙ more);
     }
 
--- a run goes on by one step
+-- a run continues by one step
 pub run_more : {A : Type 0} (f : A → PlacedData) (xs : List A) (old : List PlacedData) (before mid after last : Screen) (i : ℕ) (x d q : A) → i < length old →
-    Drawn old (map f xs) before mid i → x ≡ get_or xs i d → Step (f x) (f q) mid after → f q ≡ placed_after mid.area (f x) →
-    Run (drop (i + 1) old) (map (placed_after before.area) (drop (i + 1) old)) after last → Run (drop i old) (map (placed_after before.area) (drop i old)) mid last
+    Drawn old (map f xs) before mid i → x ≡ get_or xs i d → DrawStep (f x) (f q) mid after → f q ≡ placed_after mid.area (f x) →
+    DrawRun (drop (i + 1) old) (map (placed_after before.area) (drop (i + 1) old)) after last → DrawRun (drop i old) (map (placed_after before.area) (drop i old)) mid last
 run_more f xs old before mid after last i x d q lt drawn at step e rest =
     let next = next_is f xs old before mid i x d lt drawn at in
     let moved : f q ≡ placed_after before.area (f x) = e ∙ ap (λ (r : Rect). placed_after r (f x)) drawn.painted.area in
     let whole : drop i old ≡ f x ∷ drop (i + 1) old = rw (add-one, drop-cons old i (f x) lt, ← next.was) refl in
-    let one : Step (f x) (placed_after before.area (f x)) mid after = subst (λ (r : PlacedData). Step (f x) r mid after) moved step in
-    subst (λ (qs : List PlacedData). Run qs (map (placed_after before.area) qs) mid last) (sym whole) (after, (one, rest))
+    let one : DrawStep (f x) (placed_after before.area (f x)) mid after = subst (λ (r : PlacedData). DrawStep (f x) r mid after) moved step in
+    subst (λ (qs : List PlacedData). DrawRun qs (map (placed_after before.area) qs) mid last) (sym whole) (after, (one, rest))
 
 -- all widgets are drawn
 pub all_moved : (g : PlacedData → PlacedData) (ps : List PlacedData) (i : ℕ) → length ps ≤ i → map g (take i ps) ++ drop i ps ≡ map g ps
 all_moved g ps i le = grind (arith, common_steps)
 
 pub run_done : (old new : List PlacedData) (before last : Screen) (i : ℕ) → length old ≤ i → Drawn old new before last i →
-    ((end : Screen) → Run (drop i old) (map (placed_after before.area) (drop i old)) last end → Run old (map (placed_after before.area) old) before end) →
-    Run old new before last
+    ((end : Screen) → DrawRun (drop i old) (map (placed_after before.area) (drop i old)) last end → DrawRun old (map (placed_after before.area) old) before end) →
+    DrawRun old new before last
 run_done old new before last i le drawn run =
     let none : drop i old ≡ [] = drop_all i old le in
-    let whole : Run old (map (placed_after before.area) old) before last =
-    run last (subst (λ (qs : List PlacedData). Run qs (map (placed_after before.area) qs) last last) (sym none) refl) in
-    subst (λ (qs : List PlacedData). Run old qs before last) (sym (drawn.states ∙ all_moved (placed_after before.area) old i le)) whole
+    let whole : DrawRun old (map (placed_after before.area) old) before last =
+    run last (subst (λ (qs : List PlacedData). DrawRun qs (map (placed_after before.area) qs) last last) (sym none) refl) in
+    subst (λ (qs : List PlacedData). DrawRun old qs before last) (sym (drawn.states ∙ all_moved (placed_after before.area) old i le)) whole
 
-still : (ls : List Layer) (x y : ℕ) (o : Option Look) → ((c : Look) → layers_at ls x y c ≡ c) → option_map (layers_at ls x y) o ≡ o
-still ls x y None e = refl
-still ls x y (Some c) e = ap Some (e c)
+stateless : (ls : List Layer) (x y : ℕ) (o : Option Look) → ((c : Look) → layers_at ls x y c ≡ c) → option_map (layers_at ls x y) o ≡ o
+stateless ls x y None e = refl
+stateless ls x y (Some c) e = ap Some (e c)
 
--- a widget wanted memory
+-- a widget is out of memory
 stopped_at : (old new : List PlacedData) (before mid after : Screen) (i : ℕ) (d : PlacedData) → i < length old →
     Drawn old new before mid i → KeptOutside (placed_footprint mid.area (get_or old i d)) mid after →
     Stopped old new before after i
@@ -143,7 +143,7 @@ stopped_at old new before mid after i d lt drawn kept =
             let apart : (in_footprints before.area (take i old) x y ≡ false) × (placed_footprint before.area (get_or old i d) x y ≡ false) =
             outside_more before.area (take i old) (get_or old i d) x y (rw (← take_more old i d lt) out) in
             here.cells x y apart.1 ∙ (drawn.painted.cells x y
-            ∙ still (scene_layers before.area (take i old)) x y (cell_at before x y) (scene_stays before.area (take i old) x y apart.0));
+            ∙ stateless (scene_layers before.area (take i old)) x y (cell_at before x y) (scene_stays before.area (take i old) x y apart.0));
       };
       drawn = λ x y p h out. here.cells x y (rw (get_or_from_slice_get old i p d h) out) ∙ drawn.painted.cells x y;
     }
@@ -158,26 +158,26 @@ stopped f xs old before mid after i x d q lt drawn at kept e =
     let now : Drawn old (map f (set xs i q)) before mid i = record { painted = drawn.painted; states = same ∙ drawn.states } in
     stopped_at old (map f (set xs i q)) before mid after i (f x) lt now (subst (λ (p : PlacedData). KeptOutside (placed_footprint mid.area p) mid after) next.was kept)
 
--- a widget of a scene whose widgets take no memory, where the area is the one that is reached
-pub light_at : {A : Type 0} (f : A → PlacedData) (xs : List A) (old : List PlacedData) (before mid : Screen) (i : ℕ) (x d : A) → i < length old →
-    Drawn old (map f xs) before mid i → x ≡ get_or xs i d → All (IsLightPlaced before.area) old → IsLightPlaced mid.area (f x)
-light_at f xs old before mid i x d lt drawn at all =
+-- a widget of a scene whose widgets do not allocate, if the buffer still has its area
+pub allocation_free_at : {A : Type 0} (f : A → PlacedData) (xs : List A) (old : List PlacedData) (before mid : Screen) (i : ℕ) (x d : A) → i < length old →
+    Drawn old (map f xs) before mid i → x ≡ get_or xs i d → All (IsAllocationFreePlaced before.area) old → IsAllocationFreePlaced mid.area (f x)
+allocation_free_at f xs old before mid i x d lt drawn at all =
     let next = next_is f xs old before mid i x d lt drawn at in
-    subst (λ (r : Rect). IsLightPlaced r (f x)) (sym drawn.painted.area)
-    (subst (IsLightPlaced before.area) (sym next.was) (All-get_or (IsLightPlaced before.area) old i (f x) lt all))
+    subst (λ (r : Rect). IsAllocationFreePlaced r (f x)) (sym drawn.painted.area)
+    (subst (IsAllocationFreePlaced before.area) (sym next.was) (All-get_or (IsAllocationFreePlaced before.area) old i (f x) lt all))
 
--- a drawing that stays in a region leaves all outside it
+-- a drawing that stays in a region changes nothing outside it
 pub kept_of : (region : ℕ → ℕ → Bool) (ls : List Layer) (before after : Screen) → Painted ls before after → StayIn region ls → KeptOutside region before after
 kept_of region ls before after painted stays = record {
   area = painted.area;
-  cells = λ x y out. painted.cells x y ∙ still ls x y (cell_at before x y) (stays.cell x y out);
+  cells = λ x y out. painted.cells x y ∙ stateless ls x y (cell_at before x y) (stays.cell x y out);
 }
 
--- a widget that was drawn made a step
+-- a widget that was drawn has made one step
 pub step_of : {T E : Type 0} (result : Result T E) (p q : PlacedData) (before after : Screen) → q.area ≡ p.area →
     OnOk result (Painted (placed_layers before.area p) before after) →
     OnOk result ((item_drawing p.item).shows q.item (intersection_of p.area before.area) before after) →
-    OnOk result (Step p q before after)
+    OnOk result (DrawStep p q before after)
 step_of (Ok x) p q before after same painted shows = record {
   kept = kept_of (placed_footprint before.area p) (placed_layers before.area p) before after painted ((item_drawing p.item).stays (intersection_of p.area before.area));
   placed = same;
@@ -185,7 +185,7 @@ step_of (Ok x) p q before after same painted shows = record {
 }
 step_of (Err e) p q before after same painted shows = tt
 
--- what follows from an empty clip, and from what is asked where it is not
+-- a result that follows if the clip is empty, and from a property if it is not
 pub either : (b : Bool) (P R : Type 0) → (b ≡ true → R) → (P → R) → (b ≡ false → P) → R
 either true P R e f h = e refl
 either false P R e f h = f (h refl)

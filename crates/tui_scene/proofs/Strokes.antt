@@ -1,4 +1,4 @@
--- Strokes of widgets, what they leave alone, and the states that they leave.
+-- Strokes of widgets, what they do not change, and the states that they leave.
 use Rattle.std.proofs.Common.{◌≡◌, ℕ, Bool, ◌&&◌, ◌||◌, true, false, List, ◌++◌, [], ◌∷◌, refl, ◌∙◌, ap, sym, Some, None, option_map, if◌then◌else◌, map}
 use Rattle.std.proofs.lemmas.List.Concat.{flat_map-append}
 use Rattle.std.proofs.lemmas.List.{map-append}
@@ -8,11 +8,11 @@ use Rattle.tui_cells.specs.Buffer.{Screen, look_at}
 use Rattle.tui_cells.specs.Cell.{Look}
 use Rattle.tui_cells.specs.Layers.{Layer, layers_at}
 use Rattle.tui_cells.proofs.Painting.{Painted-nowhere, layers_at-append}
-use Rattle.tui_scene.specs.Item.{ItemData, PlacedData, item_drawing, item_lasts, placed_after, placed_footprint, placed_layers}
+use Rattle.tui_scene.specs.Item.{ItemData, PlacedData, item_drawing, item_is_stable, placed_after, placed_footprint, placed_layers}
 use Rattle.tui_scene.specs.Scene.{in_footprints, scene_layers}
-use Rattle.tui_scene.specs.Laws.{DisjointItemsCommute, StatesSettle, UnmetRests}
+use Rattle.tui_scene.specs.Laws.{DisjointItemsCommute, StatesAreStable, OutsideIsUnchanged}
 
--- strokes that change nothing outside a footprint, of which there are two with no position in common
+-- two lists of strokes, each of which changes nothing outside its footprint; the footprints share no position
 swapped : (P Q : List Layer) (f g : Bool) (x y : ℕ) → (f && g) ≡ false →
     (f ≡ false → (c : Look) → layers_at P x y c ≡ c) → (g ≡ false → (c : Look) → layers_at Q x y c ≡ c) →
     (c : Look) → layers_at Q x y (layers_at P x y c) ≡ layers_at P x y (layers_at Q x y c)
@@ -20,13 +20,13 @@ swapped P Q true true x y apart p q c = cc
 swapped P Q true false x y apart p q c = q refl (layers_at P x y c) ∙ ap (layers_at P x y) (sym (q refl c))
 swapped P Q false g x y apart p q c = ap (layers_at Q x y) (p refl c) ∙ sym (p refl (layers_at Q x y c))
 
--- the strokes of one scene and then those of another
+-- the strokes of one scene and then of another
 through : (area : Rect) (ps qs : List PlacedData) (x y : ℕ) (c : Look) →
     layers_at (scene_layers area (ps ++ qs)) x y c ≡ layers_at (scene_layers area qs) x y (layers_at (scene_layers area ps) x y c)
 through area ps qs x y c =
     ap (λ ls. layers_at ls x y c) (flat_map-append (placed_layers area) ps qs) ∙ layers_at-append (scene_layers area ps) (scene_layers area qs) x y c
 
--- the strokes of two widgets, and of those behind them
+-- the strokes of two widgets and of those after them
 two : (area : Rect) (p q : PlacedData) (qs : List PlacedData) (x y : ℕ) (c : Look) →
     layers_at (scene_layers area (p ∷ q ∷ qs)) x y c
     ≡ layers_at (scene_layers area qs) x y (layers_at (placed_layers area q) x y (layers_at (placed_layers area p) x y c))
@@ -47,7 +47,7 @@ swapped_look area ps p q qs x y apart c =
     through area ps (p ∷ q ∷ qs) x y c ∙ (two area p q qs x y k
     ∙ (ap (layers_at (scene_layers area qs) x y) turned ∙ sym (through area ps (q ∷ p ∷ qs) x y c ∙ two area q p qs x y k)))
 
--- outside a buffer there is no cell
+-- there is no cell outside a buffer
 swapped_cell : (a : Screen) (ps : List PlacedData) (p q : PlacedData) (qs : List PlacedData) (x y : ℕ) (here : Bool) → covers a.area x y ≡ here →
     (covers a.area x y ≡ true → (placed_footprint a.area p x y && placed_footprint a.area q x y) ≡ false) →
     option_map (layers_at (scene_layers a.area (ps ++ p ∷ q ∷ qs)) x y) (if here then Some (look_at a x y) else None)
@@ -62,7 +62,7 @@ order ps p q qs firsts seconds a b c apart first second = (
     before = map (placed_after a.area) ps;
     one = placed_after a.area p;
     other = placed_after a.area q;
-    behind = map (placed_after a.area) qs;
+    following = map (placed_after a.area) qs;
     first_is = first.states ∙ map-append (placed_after a.area) ps (p ∷ q ∷ qs);
     second_is = second.states ∙ map-append (placed_after a.area) ps (q ∷ p ∷ qs);
   },
@@ -70,7 +70,7 @@ order ps p q qs firsts seconds a b c apart first second = (
 
 placed_settles : (area : Rect) (p : PlacedData) → placed_after area (placed_after area p) ≡ placed_after area p
 placed_settles area p =
-    let clip = intersection_of p.area area in ap (λ (i : ItemData). record { area = p.area; item = i }) ((item_lasts p.item clip).settles)
+    let clip = intersection_of p.area area in ap (λ (i : ItemData). record { area = p.area; item = i }) ((item_is_stable p.item clip).is_idempotent)
 
 all_settle : (area : Rect) (ps : List PlacedData) → map (placed_after area) (map (placed_after area) ps) ≡ map (placed_after area) ps
 all_settle area [] = refl
@@ -78,14 +78,14 @@ all_settle area (p ∷ ps) =
     ap (λ (q : PlacedData). q ∷ map (placed_after area) (map (placed_after area) ps)) (placed_settles area p)
     ∙ ap (λ (qs : List PlacedData). placed_after area p ∷ qs) (all_settle area ps)
 
-pub settled : StatesSettle
-settled old new again a b c d same first second =
+pub states_stable : StatesAreStable
+states_stable old new again a b c d same first second =
     second.states ∙ (ap (λ (r : Rect). map (placed_after r) new) same
     ∙ (ap (map (placed_after a.area)) first.states ∙ (all_settle a.area old ∙ sym first.states)))
 
-pub unmet : UnmetRests
-unmet p a b e = (
-  ap (λ (i : ItemData). record { area = p.area; item = i }) ((item_lasts p.item (intersection_of p.area a.area)).rests e),
+pub outside : OutsideIsUnchanged
+outside p a b e = (
+  ap (λ (i : ItemData). record { area = p.area; item = i }) ((item_is_stable p.item (intersection_of p.area a.area)).rests e),
   λ painted. (Painted-nowhere ((item_drawing p.item).stays (intersection_of p.area a.area))
       ((item_drawing p.item).nowhere (intersection_of p.area a.area) e) painted).cells,
 )
@@ -94,7 +94,7 @@ neither : (a b : Bool) → (a || b) ≡ false → (a ≡ false) × (b ≡ false)
 neither true b e = cc
 neither false b e = (refl, e)
 
--- outside the footprints of all widgets their strokes change nothing
+-- strokes change nothing outside the footprints of all widgets
 pub scene_stays : (area : Rect) (ps : List PlacedData) (x y : ℕ) → in_footprints area ps x y ≡ false →
     (c : Look) → layers_at (scene_layers area ps) x y c ≡ c
 scene_stays area [] x y out c = refl
@@ -104,7 +104,7 @@ scene_stays area (p ∷ ps) x y out c =
     ∙ (scene_stays area ps x y each.1 (layers_at (placed_layers area p) x y c)
     ∙ ((item_drawing p.item).stays (intersection_of p.area area)).cell x y each.0 c)
 
--- the footprints of widgets one after another
+-- the footprints of one more widget
 pub outside_more : (area : Rect) (ps : List PlacedData) (p : PlacedData) (x y : ℕ) → in_footprints area (ps ++ p ∷ []) x y ≡ false →
     (in_footprints area ps x y ≡ false) × (placed_footprint area p x y ≡ false)
 outside_more area [] p x y out = (refl, (neither _ _ out).0)

@@ -13,7 +13,7 @@ use tui_lists::{List, ListState, Scrollbar, ScrollbarState, Tabs};
 use tui_para::{Paragraph, RatatuiLogo};
 use tui_table::{Table, TableState};
 
-/// A widget of any kind, with its state where it has one.
+/// A widget of any kind, with its state if it has one.
 pub enum Item<'a> {
     Clear(Clear),
     Fill(Fill<'a>),
@@ -31,7 +31,7 @@ pub enum Item<'a> {
     Logo(RatatuiLogo),
 }
 
-// Written out, so that a crate above proves nothing of what it holds to let it go.
+// Written by hand, so that dependent crates need no proofs about dropping the fields.
 impl<'a> Drop for Item<'a> {
     fn drop(self) {
         match self {
@@ -56,7 +56,7 @@ impl<'a> Drop for Item<'a> {
 impl<'a> Item<'a> {
     ghost use Rattle.tui_scene.specs.Item.{item_data, item_drawing, with_list_state, with_scrollbar_state, with_table_state};
 
-    /// Draws the widget in its area, and leaves its state moved. At NoMemory the item is as before.
+    /// Draws the widget in its area and updates its state. On `NoMemory` the item is unchanged.
     pub(crate) fn render(&mut self, alloc: Global, area: Rect, buf: &mut Buffer) -> Mem<()>
         ensures ok { OnOk result (Painted ((item_drawing (item_data self.old)).layers (intersection_of area buf.old.area)) buf.old buf.new) }
         ensures state { OnOk result (item_data self.new ≡ (item_drawing (item_data self.old)).after (intersection_of area buf.old.area)) }
@@ -66,7 +66,7 @@ impl<'a> Item<'a> {
             (KeptOutside ((item_drawing (item_data self.old)).footprint (intersection_of area buf.old.area)) buf.old buf.new) }
         ensures err_state { OnErr result (item_data self.new ≡ item_data self.old) }
         ensures empty { IsTrue (is_empty (intersection_of area buf.old.area)) → IsOk result }
-        ensures light { (item_drawing (item_data self.old)).light → IsOk result }
+        ensures allocation_free { (item_drawing (item_data self.old)).allocation_free → IsOk result }
     {
         match &*self {
             Item::Clear(clear) => clear.render(alloc, area, buf),
@@ -101,7 +101,7 @@ impl<'a> Item<'a> {
         }
     }
 
-    /// Puts another state in place of a list's.
+    /// Replaces the state of a list.
     fn set_list_state(&mut self, after: ListState)
         ensures { item_data self.new ≡ with_list_state after (item_data self.old) }
     {
@@ -110,7 +110,7 @@ impl<'a> Item<'a> {
         }
     }
 
-    /// Puts another state in place of a table's.
+    /// Replaces the state of a table.
     fn set_table_state(&mut self, after: TableState)
         ensures { item_data self.new ≡ with_table_state after (item_data self.old) }
     {
@@ -119,7 +119,7 @@ impl<'a> Item<'a> {
         }
     }
 
-    /// Puts another state in place of a scrollbar's.
+    /// Replaces the state of a scrollbar.
     fn set_scrollbar_state(&mut self, after: ScrollbarState)
         ensures { item_data self.new ≡ with_scrollbar_state after (item_data self.old) }
     {

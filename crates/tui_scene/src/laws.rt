@@ -1,27 +1,29 @@
-//! What holds of all drawings.
+//! Laws of all drawings.
 
-ghost use Rattle.tui_scene.specs.Laws.{AgreementIsKept, DisjointItemsCommute, DrawingIsUnique, LayersRepeat, StatesSettle, UnmetRests};
-ghost use Rattle.tui_scene.specs.Redraw.{DrawnIsFresh, OrderIsFree, ReplacedIsFresh, StaysFresh};
+ghost use Rattle.tui_scene.specs.Laws.{AgreementIsKept, DisjointItemsCommute, DrawingIsUnique, LayersRepeat, StatesAreStable, OutsideIsUnchanged};
+ghost use Rattle.tui_scene.specs.Redraw.{DrawnIsFresh, OrderIsIrrelevant, ReplacedIsFresh, StaysFresh};
 ghost use Rattle.tui_scene.specs.Shadow.{ClipIsFootprint};
 
-/// Two buffers that agree at a position agree there after the same drawing; two neighbours whose footprints have no position of
-/// the buffer in common may be drawn in either order, states included; widgets drawn again keep their states and have the same
-/// layers; what does not meet the buffer changes nothing; and widgets on a blank buffer leave one screen and one list of states.
+/// Two buffers that agree at a position agree there after the same drawing. Two neighbouring widgets whose footprints
+/// share no position of the buffer may be drawn in either order: cells and states are the same. Widgets that are drawn
+/// again keep their states and have the same layers. A widget outside the buffer changes nothing. Drawing widgets on a
+/// blank buffer has exactly one result: one screen and one list of states.
 pub fn drawing_laws()
     ensures agreement { AgreementIsKept }
     ensures order { DisjointItemsCommute }
-    ensures again { StatesSettle }
+    ensures again { StatesAreStable }
     ensures layers { LayersRepeat }
-    ensures unmet { UnmetRests }
+    ensures outside { OutsideIsUnchanged }
     ensures one { DrawingIsUnique }
 {}
 
-/// Without a shadow a widget changes its clip alone. Widgets without shadows whose areas have no position in common may be drawn
-/// in any order, and one of them may be replaced: where its area is reset and another widget drawn there, the buffer is the one
-/// that all widgets, with the states that they have, draw on a blank buffer. So it is after any number of replacements.
+/// A widget without a shadow changes only its clip. Widgets without shadows whose areas share no position may be drawn
+/// in any order. One of them may be replaced: reset its area and draw another widget there. The buffer is then the one
+/// that all widgets, with their current states, draw on a blank buffer. The same holds after any number of
+/// replacements.
 pub fn redraw_laws()
     ensures clip { ClipIsFootprint }
-    ensures order { OrderIsFree }
+    ensures order { OrderIsIrrelevant }
     ensures first { DrawnIsFresh }
     ensures replaced { ReplacedIsFresh }
     ensures stays { StaysFresh }

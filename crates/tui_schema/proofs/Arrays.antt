@@ -1,4 +1,4 @@
--- Reading the values of an array that are joined to one, and those of an array of four.
+-- Reading the values of an array that are joined into one, and those of an array of four.
 use Rattle.std.proofs.Common.{◌≡◌, ℕ, ◌+◌, ◌<◌, ◌≤◌, List, [], ◌∷◌, length, get_or, drop, Option, Some, None, refl, option_and_then}
 use Rattle.std.proofs.lemmas.List.{drop_all}
 use Rattle.serde_json.specs.Data.{Data}

@@ -47,7 +47,7 @@ calendar y m d =
 false_true : false ≡ true → ⊥
 false_true e = cc
 
--- what the calendar answers for three numbers
+-- what the calendar returns for three numbers
 pub civil : (y m d : ℤ) (r : Result Date Error) → (IsOk r ↔ IsDate y m d) → IfOk r (IsYmd y m d) → option_map date_data (result_ok r) ≡ civil_of y m d
 unfolding civil_of
 civil y m d (Ok x) ok value =

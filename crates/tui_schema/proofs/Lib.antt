@@ -1,6 +1,6 @@
 pub mod Arrays
 pub mod Dates
-pub mod Dressing
+pub mod Styling
 pub mod Stored
 pub mod TableWidths
 pub mod Same

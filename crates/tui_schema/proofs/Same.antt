@@ -1,4 +1,4 @@
--- Fields, refused fields and errors that `==` calls equal are the same.
+-- Fields, rejected fields and errors that `==` calls equal are the same.
 use Rattle.std.proofs.Common.{◌≡◌, rules, true}
 use Rattle.std.proofs.lemmas.Bool.{and_parts}
 use denote.Enum.Bare.{same_true}
@@ -16,7 +16,7 @@ use Rattle.tui_schema.specs.declared.field.Field.{Field}
 pub same_field : (a b : Field) → field.TheImpl.ghosts.eq a b ≡ true → a ≡ b
 same_field a b e = same_true (declared enum) tt a b e
 
--- so are refused fields
+-- so are rejected fields
 pub same_bad_field : (a b : BadField) → bad_field.TheImpl.ghosts.eq a b ≡ true → a ≡ b
 same_bad_field a b e =
     let both = and_parts _ (field.TheImpl.ghosts.eq a.field b.field) e in

@@ -1,4 +1,4 @@
--- Items: their fields in order, the first whose test fails being the refusal.
+-- Items: their fields in order. The first test that fails rejects the item.
 pub mod Block
 pub mod ChartFields
 pub mod Fill
@@ -29,7 +29,7 @@ use Rattle.tui_scene.specs.Item.{
   paragraph,
   scrollbar,
   sparkline,
-  still,
+  stateless,
   table,
   tabs,
 }
@@ -55,16 +55,16 @@ use Rattle.tui_schema.specs.declared.bad_field.BadField.{BadField}
 
 -- the fields of a widget
 abbrev pub shown_of : Widget → Option ℕ → Data → Result ItemData BadField
-shown_of widgets.Clear i d = Ok (still clear)
+shown_of widgets.Clear i d = Ok (stateless clear)
 shown_of widgets.Fill i d = do
   x ← fill_of i d
-  Ok (still (fill x))
+  Ok (stateless (fill x))
 shown_of widgets.Block i d = do
   x ← block_in i d
-  Ok (still (block x))
+  Ok (stateless (block x))
 shown_of widgets.Paragraph i d = do
   x ← paragraph_of i d
-  Ok (still (paragraph x))
+  Ok (stateless (paragraph x))
 shown_of widgets.List i d = do
   x ← shown_list i d
   Ok (list x.0 x.1)
@@ -73,30 +73,30 @@ shown_of widgets.Table i d = do
   Ok (table x.0 x.1)
 shown_of widgets.Tabs i d = do
   x ← shown_tabs i d
-  Ok (still (tabs x))
+  Ok (stateless (tabs x))
 shown_of widgets.Scrollbar i d = do
   x ← shown_scrollbar i d
   Ok (scrollbar x.0 x.1)
 shown_of widgets.Gauge i d = do
   x ← shown_gauge i d
-  Ok (still (gauge x))
+  Ok (stateless (gauge x))
 shown_of widgets.LineGauge i d = do
   x ← shown_line_gauge i d
-  Ok (still (line_gauge x))
+  Ok (stateless (line_gauge x))
 shown_of widgets.BarChart i d = do
   x ← shown_chart i d
-  Ok (still (bar_chart x))
+  Ok (stateless (bar_chart x))
 shown_of widgets.Sparkline i d = do
   x ← shown_sparkline i d
-  Ok (still (sparkline x))
+  Ok (stateless (sparkline x))
 shown_of widgets.Monthly i d = do
   x ← shown_monthly i d
-  Ok (still (monthly x.0 x.1))
+  Ok (stateless (monthly x.0 x.1))
 shown_of widgets.Logo i d = do
   size ← logo_of i d
-  Ok (still (logo size))
+  Ok (stateless (logo size))
 
--- the item of number i of a scene
+-- the item with number i of a scene
 unfoldable pub placed_of : ℕ → Data → Result PlacedData BadField
 placed_of i d = do
   widget ← required widget_of (Some i) fields.Widget d
@@ -104,13 +104,13 @@ placed_of i d = do
   shown ← shown_of widget (Some i) d
   Ok (record { area = area; item = shown })
 
--- the item of this number, whose area is given by what holds it: the same tests without that of `area`
+-- the item with this number, whose area is given elsewhere: the same tests without that of `area`
 unfoldable pub item_without_area : ℕ → Data → Result ItemData BadField
 item_without_area i d = do
   widget ← required widget_of (Some i) fields.Widget d
   shown_of widget (Some i) d
 
--- the same in a given area
+-- the same in this area
 unfoldable pub item_of : Rect → ℕ → Data → Result PlacedData BadField
 item_of area i d = do
   item ← item_without_area i d

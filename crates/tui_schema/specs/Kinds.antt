@@ -1,11 +1,11 @@
--- Kinds of value. Each is a function of the data of a JSON value: None where that is not of the kind, anywhere inside.
+-- Kinds of value. Each is a function of a JSON value: None if that, or a value inside it, is not of the kind.
 pub mod Area
 pub mod Bars
 pub mod Block
 pub mod Borders
 pub mod Color
 pub mod Date
-pub mod Event
+pub mod StyledDate
 pub mod Four
 pub mod Fraction
 pub mod Joined

@@ -10,16 +10,16 @@ use Rattle.tui_schema.specs.declared.error.SceneError.{SceneError}
 use Rattle.tui_schema.specs.declared.error.SceneError.TheVariants as errors
 use Rattle.tui_schema.specs.declared.field.Field.{Field}
 
--- a refusal by its item, where it is an item's field, and the field
+-- the rejection of a field, with the number of its item if it is an item's
 abbrev pub bad_field : Option ℕ → Field → BadField
 bad_field i f = record { item = i; field = f }
 
--- the schema's error as that of any input
+-- the schema's error as an error of any input
 abbrev pub input_error : SceneError → InputError BadField
 input_error (errors.BadField i f) = inputs.Refused (bad_field i f)
 input_error errors.NoMemory = inputs.NoMemory
 
--- an answer with it as that of any input's reader
+-- a result with it as that of any input's reader
 abbrev pub as_input : {X : Type 0} → Result X SceneError → Result X (InputError BadField)
 as_input (Ok x) = Ok x
 as_input (Err e) = Err (input_error e)

@@ -1,4 +1,4 @@
--- Scenes: their fields in order, then item by item, the first whose test fails being the refusal.
+-- Scenes: their fields in order, then each item. The first test that fails rejects the scene.
 use Rattle.std.specs.Prelude.{ℕ, List, Option, None, Result, Ok}
 use Rattle.serde_json.specs.Data.{Data, Items}
 use Rattle.tui_scene.specs.Item.{PlacedData}
@@ -17,7 +17,7 @@ pub record SceneData : Type 0 where
   pub height : ℕ
   pub items : List PlacedData
 
--- what is read, as plain data
+-- a scene of the code as plain data
 abbrev pub reading_data : Reading → SceneData
 reading_data r = record { width = r.width; height = r.height; items = r.scene }
 
@@ -29,7 +29,7 @@ side_of = within 1 1000
 abbrev pub item_values_of : Data → Option Items
 item_values_of = elements_within 0 256
 
--- What is no object has no fields, so it is refused at `width`.
+-- a value that is no object has no fields, so it is rejected at `width`
 unfoldable pub scene_of : Data → Result SceneData BadField
 scene_of d = do
   width ← required side_of None fields.Width d

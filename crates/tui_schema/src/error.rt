@@ -1,4 +1,4 @@
-//! Why a value is no scene.
+//! Why a value is no valid scene.
 
 ghost use Rattle.std.specs.Prelude.{◌≡◌};
 
@@ -7,14 +7,14 @@ use crate::field::Field;
 use thiserror::Error;
 use tui_json::InputError;
 
-/// Why a value is no scene.
+/// Why a value is no valid scene.
 #[derive(Clone, Copy, Debug, PartialEq, Eq, Error)]
 pub enum SceneError {
-    /// The first field that is missing though required, or whose value is not of its kind: of the scene, or of the item of
-    /// this number, from 0.
+    /// The first field that is missing though required, or whose value is not of its kind: of the scene, or of the item
+    /// with this number, from 0.
     #[error("BadField")]
     BadField { item: Option<usize>, field: Field },
-    /// The memory that the scene takes was not there.
+    /// There was not enough memory for the scene.
     #[error("NoMemory")]
     NoMemory,
 }

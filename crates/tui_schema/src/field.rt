@@ -86,7 +86,7 @@ impl Field {
     ghost use Rattle.std.specs.Prelude.{◌≡◌};
     ghost use Rattle.tui_schema.specs.Field.{field_name};
 
-    /// Its name in the schema, as `highlight_symbol`.
+    /// Returns the name of the field in the schema, such as `highlight_symbol`.
     pub fn name(&self) -> &'static str
         ensures { result.now ≡ field_name self.now }
     {

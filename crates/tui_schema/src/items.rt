@@ -1,4 +1,4 @@
-//! Items: a widget and its area, each widget read by the fields of its table in order.
+//! Items: a widget and its area. The fields of each widget are read in the order of its table.
 
 mod bar_chart;
 mod block;
@@ -53,44 +53,44 @@ fn read_shown<'v>(
 ) -> Result<Item<'v>, InputError<BadField>>
     ensures { Gives item_data result (shown_of widget item (view value.now)) }
 {
-    Ok(match widget {
-        Widget::Clear => Item::Clear(Clear),
-        Widget::Fill => Item::Fill(read_fill(alloc, item, value)?),
-        Widget::Block => Item::Block(read_block(alloc, item, value)?),
-        Widget::Paragraph => Item::Paragraph(read_paragraph(alloc, item, value)?),
+    match widget {
+        Widget::Clear => Ok(Item::Clear(Clear)),
+        Widget::Fill => Ok(Item::Fill(read_fill(alloc, item, value)?)),
+        Widget::Block => Ok(Item::Block(read_block(alloc, item, value)?)),
+        Widget::Paragraph => Ok(Item::Paragraph(read_paragraph(alloc, item, value)?)),
         Widget::List => {
             let (list, state) = read_list(alloc, item, value)?;
-            Item::List(list, state)
+            Ok(Item::List(list, state))
         }
         Widget::Table => {
             let (table, state) = read_table(alloc, item, value)?;
-            Item::Table(table, state)
+            Ok(Item::Table(table, state))
         }
-        Widget::Tabs => Item::Tabs(read_tabs(alloc, item, value)?),
+        Widget::Tabs => Ok(Item::Tabs(read_tabs(alloc, item, value)?)),
         Widget::Scrollbar => {
             let (scrollbar, state) = read_scrollbar(alloc, item, value)?;
-            Item::Scrollbar(scrollbar, state)
+            Ok(Item::Scrollbar(scrollbar, state))
         }
-        Widget::Gauge => Item::Gauge(read_gauge(alloc, item, value)?),
-        Widget::LineGauge => Item::LineGauge(read_line_gauge(alloc, item, value)?),
-        Widget::BarChart => Item::BarChart(read_bar_chart(alloc, item, value)?),
-        Widget::Sparkline => Item::Sparkline(read_sparkline(alloc, item, value)?),
-        Widget::Monthly => Item::Monthly(read_monthly(alloc, item, value)?),
-        Widget::Logo => Item::Logo(read_logo(alloc, item, value)?),
-    })
+        Widget::Gauge => Ok(Item::Gauge(read_gauge(alloc, item, value)?)),
+        Widget::LineGauge => Ok(Item::LineGauge(read_line_gauge(alloc, item, value)?)),
+        Widget::BarChart => Ok(Item::BarChart(read_bar_chart(alloc, item, value)?)),
+        Widget::Sparkline => Ok(Item::Sparkline(read_sparkline(alloc, item, value)?)),
+        Widget::Monthly => Ok(Item::Monthly(read_monthly(alloc, item, value)?)),
+        Widget::Logo => Ok(Item::Logo(read_logo(alloc, item, value)?)),
+    }
 }
 
 /// The items of a scene.
 impl<'v> Numbered<'v, Field> for Placed<'v> {
     ghost use Rattle.tui_scene.specs.Item.{PlacedData};
 
-    type Known = ();
+    type Context = ();
 
-    ghost Seen = { PlacedData };
+    ghost AsData = { PlacedData };
 
-    ghost seen = { placed_data };
+    ghost as_data = { placed_data };
 
-    ghost tests = { λ known. placed_of };
+    ghost tests = { λ context. placed_of };
 
     #[tactic(auto, unfolding(crate::specs::Items::placed_of))]
     fn read(
@@ -107,9 +107,9 @@ impl<'v> Numbered<'v, Field> for Placed<'v> {
     }
 }
 
-/// The item that the value is, whose area is given by what holds it: its `widget` and then the fields of that widget are tested, in
-/// the order of the schema's tables, and `area` is a key that is not named. It is refused at the first field that is missing though
-/// required or whose value is not of its kind; then `index` is the number of the item in the refusal.
+/// Reads an item whose area is given elsewhere. Tests `widget` and then the fields of that widget, in the order of the
+/// schema's tables. The key `area` is ignored, like every key that the tables don't name. Fails at the first field that
+/// is missing though required, or whose value is not of its kind; the error has `index` as the number of the item.
 #[tactic(auto, unfolding(crate::specs::Items::item_without_area))]
 pub fn item_without_area<'v>(
     alloc: Global,
@@ -123,7 +123,7 @@ pub fn item_without_area<'v>(
     read_shown(alloc, widget, index, value)
 }
 
-/// The item that the value is, in this area, by the tests of `item_without_area`.
+/// Reads an item in this area, with the tests of `item_without_area`.
 #[tactic(auto, unfolding(crate::specs::Items::item_of))]
 pub fn item_of<'v>(
     alloc: Global,

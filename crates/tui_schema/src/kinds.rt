@@ -1,4 +1,4 @@
-//! The kinds of value that the schema names, each read from JSON in one way.
+//! The kinds of value that the schema names. Each is read from JSON in one way.
 
 mod area;
 mod bars;
@@ -23,5 +23,5 @@ mod text;
 mod title;
 mod wrap;
 
-pub(crate) use event::Event;
+pub(crate) use event::StyledDate;
 pub(crate) use symbol::Symbol;

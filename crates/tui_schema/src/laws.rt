@@ -1,4 +1,4 @@
-//! What `==` and a clone tell of fields and refusals.
+//! `==` and clones of fields and errors.
 
 ghost use Rattle.std.specs.Prelude.{◌≡◌, true};
 
@@ -6,7 +6,7 @@ use crate::bad_field::BadField;
 use crate::error::SceneError;
 use crate::field::Field;
 
-/// Fields, refused fields and errors are equal by `==` only where they are the same, and a clone is the value.
+/// `==` returns true only for equal fields, rejected fields and errors, and a clone is equal to its original.
 pub fn refusal_laws()
     ensures field { (a b : Field) → ⟦<Field as PartialEq>⟧.eq a b ≡ true → a ≡ b }
     ensures bad_field { (a b : BadField) → ⟦<BadField as PartialEq>⟧.eq a b ≡ true → a ≡ b }

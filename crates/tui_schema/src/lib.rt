@@ -1,4 +1,4 @@
-//! Scenes in JSON: the schema, and why a value is no scene.
+//! Scenes in JSON: the schema, and why a value is no valid scene.
 #![tactic(auto)]
 
 mod bad_field;

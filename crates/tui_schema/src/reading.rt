@@ -13,19 +13,30 @@ use std::alloc::Global;
 use tui_json::{Counted, InputError, Within, each_numbered, required};
 use tui_scene::{Placed, Scene};
 
-/// A scene and its size. Its texts are borrowed from the value that was read.
-#[derive(Drop)]
+/// A scene and its size. Its strings are borrowed from the JSON value.
 pub struct Reading<'v> {
-    /// In columns, 1 to 1000.
+    /// In columns, from 1 to 1000.
     pub width: u16,
-    /// In rows, 1 to 1000.
+    /// In rows, from 1 to 1000.
     pub height: u16,
-    /// Its widgets, in the order in which they are drawn.
+    /// The widgets, in the order in which they are drawn.
     pub scene: Scene<'v>,
 }
 
-/// The scene that the value is. It is refused at the first field, in the order of the schema's tables, that is missing though
-/// required or whose value is not of its kind; with the number of the item, from 0, where the field is an item's.
+// Written by hand, so that dependent crates need no proofs about dropping the fields.
+impl<'v> Drop for Reading<'v> {
+    fn drop(self) {
+        let Reading {
+            width,
+            height,
+            scene,
+        } = self;
+    }
+}
+
+/// Reads a scene from a JSON value. Fails at the first field, in the order of the schema's tables, that is missing
+/// though required, or whose value is not of its kind. If it is a field of an item, the error has the number of the
+/// item, from 0.
 #[tactic(auto, unfolding(crate::specs::Scene::scene_of))]
 pub fn read_scene<'v>(alloc: Global, value: &'v Value) -> Result<Reading<'v>, InputError<BadField>>
     ensures { Gives reading_data result (scene_of (view value.now)) }
@@ -41,7 +52,7 @@ pub fn read_scene<'v>(alloc: Global, value: &'v Value) -> Result<Reading<'v>, In
     })
 }
 
-/// The scene that the value is, by the tests of `read_scene`.
+/// Reads a scene from a JSON value, with the tests of `read_scene`.
 pub fn scene_of<'v>(alloc: Global, value: &'v Value) -> Result<Reading<'v>, SceneError>
     ensures { Gives reading_data (as_input result) (scene_of (view value.now)) }
 {

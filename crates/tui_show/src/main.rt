@@ -1,9 +1,10 @@
-//! The program `tui_show`: it reads a scene in JSON from standard input and writes the drawn screen to standard output.
+//! The program `tui_show`. It reads a scene in JSON from standard input, and writes the drawn screen to standard
+//! output.
 #![tactic(auto)]
 
 use std::process::ExitCode;
 use std::{env, io};
-use tui_outside::{StdSink, StdSource};
+use tui_io::{StdSink, StdSource};
 use tui_show_run::run_program;
 
 fn main(rt: HostRuntime) -> ExitCode {

@@ -1,10 +1,10 @@
--- An output is one.
+-- An output is unique.
 use Rattle.std.proofs.Common.{◌≡◌, ℕ, ◌<◌, ◌++◌, length, flat_map, sym, ap, ap₂, ◌∙◌, arith}
 use Rattle.tui_cells.specs.Buffer.{Screen}
 use Rattle.tui_show_run.specs.Demo.Line.{demo_line}
 use Rattle.tui_show_run.specs.Demo.Scene.{demo_scene, demo_wrap, one_line}
 use Rattle.tui_show_run.specs.Demo.Text.{demo_text}
-use Rattle.tui_para.specs.Wrapped.{IsTheOne}
+use Rattle.tui_para.specs.Wrapped.{IsUnique}
 use Rattle.tui_para.specs.declared.wrap.Wrap.{Wrap}
 use Rattle.tui_para.specs.WrappedText.{WrappedText, wrap_text}
 use Rattle.tui_print.specs.Laws.{PrintIsUnique}
@@ -24,7 +24,7 @@ one_output prints s text other a b =
     print.2 other again ∙ sym (print.2 text a.3)
 
 pub one_demo : ((w : ℕ) (way : Wrap) (alignment : Alignment) (text : TextData) → 0 < w →
-    IsTheOne (WrappedText w way alignment text) (wrap_text w way alignment text)) → DemoIsUnique
+    IsUnique (WrappedText w way alignment text) (wrap_text w way alignment text)) → DemoIsUnique
 one_demo once n text other a b =
     let same = one_drawing 40 8 (demo_scene n) a.new b.new a.screen b.screen a.drawn b.drawn in
     let one = once 20 demo_wrap Left (one_line (demo_text n)) (omega arith) in

@@ -1,4 +1,4 @@
--- A text has at most as many graphemes as bytes, and its wrapping at most one line more than graphemes.
+-- A text has at most as many graphemes as bytes, and wraps into at most one line more than it has graphemes.
 use Rattle.std.proofs.Common.{◌≡◌, ℕ, zero, suc, ◌+◌, ◌-◌, ◌*◌, ◌≤◌, Bool, true, false, nat_le, List, [], ◌∷◌, ◌++◌}
 use Rattle.std.proofs.Common.{length, map, filter, take, drop, sum_by, refl, ap, arith}
 use Rattle.std.specs.Str.{chars, chars_after, continuation_len, lead_bits}

@@ -9,13 +9,13 @@ use Rattle.tui_lists.specs.ListItem.{heights_of}
 use Rattle.tui_text.specs.Line.{raw_line}
 use Rattle.tui_show_run.specs.Demo.Text.{letter}
 
--- once more what looks the same
+-- one more element with the same view
 pub same_more : {A B : Type 0} (look : A → B) (old new : List A) (x : A) (y : B) (n : ℕ) → map look old ≡ repeat n (y ∷ []) → new ≡ old ++ x ∷ [] → look x ≡ y →
     map look new ≡ repeat (n + 1) (y ∷ [])
 same_more look old new x y n before pushed is =
     again [] (map look old) (map look new) (y ∷ []) n before (ap (map look) pushed ∙ (map_push look old x ∙ ap (λ z. map look old ++ z ∷ []) is))
 
--- what is made from one number more
+-- one more element made from a number
 pub next_more : {A B : Type 0} (look : A → B) (make : ℕ → B) (old new : List A) (x : A) (n : ℕ) →
     map look old ≡ map make (range_with_len 0 n) → new ≡ old ++ x ∷ [] → look x ≡ make n →
     map look new ≡ map make (range_with_len 0 (n + 1))
@@ -27,6 +27,6 @@ heights_are : (numbers : List ℕ) → heights_of (map demo_item numbers) ≡ ma
 heights_are [] = refl
 heights_are (i ∷ numbers) = ap₂ ◌∷◌ (length-repeat (item_lines i) (raw_line (letter i ∷ []))) (heights_are numbers)
 
--- the items are as high as they are said to be
+-- the items have the stated heights
 pub heights_of-demo_items : (n : ℕ) → heights_of (demo_items n) ≡ demo_heights n
 heights_of-demo_items n = heights_are (range_with_len 0 n)

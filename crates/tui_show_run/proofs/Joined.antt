@@ -1,4 +1,4 @@
--- One more letter, one more word, and the room that words take.
+-- One more letter, one more word, and the length of the words.
 use Rattle.std.proofs.Common.{◌≡◌, ℕ, zero, suc, ◌+◌, ◌*◌, ◌%◌, ◌<◌, ◌≤◌, List, [], ◌∷◌, ◌++◌, length, map, get_or, refl, ◌∙◌, ap, sym, add-one, arith}
 use Rattle.std.specs.List.{join_with_byte, range_with_len, repeat}
 use Rattle.std.proofs.lemmas.List.{append_assoc, append-nil, length-append}
@@ -9,7 +9,7 @@ repeat_more : {A : Type 0} (n : ℕ) (xs : List A) → repeat n xs ++ xs ≡ rep
 repeat_more zero xs = sym (append-nil xs)
 repeat_more (suc n) xs = append_assoc xs (repeat n xs) xs ∙ ap (λ l. xs ++ l) (repeat_more n xs)
 
--- once more the same
+-- one more repetition
 pub again : {A : Type 0} (old new newer xs : List A) (n : ℕ) → new ≡ old ++ repeat n xs → newer ≡ new ++ xs → newer ≡ old ++ repeat (n + 1) xs
 again old new newer xs n h e =
     rw (add-one, ← repeat_more n xs) (e ∙ (ap (λ l. l ++ xs) h ∙ append_assoc old (repeat n xs) xs))
@@ -32,13 +32,13 @@ pub word_more : (n i : ℕ) (a b c : List ℕ) → a ≡ words_before n i → b 
 word_more n i a b c h e f =
     f ∙ (ap (λ l. l ++ word n i) (e ∙ ap (λ l. l ++ gap i) h) ∙ (append_assoc (words_before n i) (gap i) (word n i) ∙ sym (words_more n i)))
 
--- what the words up to here may have had more than five letters each
-ahead : ℕ → ℕ
-ahead r = get_or (2 ∷ 3 ∷ 0 ∷ 2 ∷ 0 ∷ 3 ∷ 2 ∷ 6 ∷ 6 ∷ []) r 0
+-- by how much the words so far may exceed five letters each
+surplus : ℕ → ℕ
+surplus r = get_or (2 ∷ 3 ∷ 0 ∷ 2 ∷ 0 ∷ 3 ∷ 2 ∷ 6 ∷ 6 ∷ []) r 0
 
--- of nine words in a row each has another number of letters
-one_word : (r : ℕ) → r < 9 → 1 + r + ahead ((r + 7) % 9) ≡ 5 + ahead r
-unfolding ahead
+-- one more word: nine consecutive words have nine different lengths, 45 letters in all
+one_word : (r : ℕ) → r < 9 → 1 + r + surplus ((r + 7) % 9) ≡ 5 + surplus r
+unfolding surplus
 one_word zero h = refl
 one_word (suc zero) h = refl
 one_word (suc (suc zero)) h = refl
@@ -50,8 +50,8 @@ one_word (suc (suc (suc (suc (suc (suc (suc zero))))))) h = refl
 one_word (suc (suc (suc (suc (suc (suc (suc (suc zero)))))))) h = refl
 one_word (suc (suc (suc (suc (suc (suc (suc (suc (suc r))))))))) h = absurd (omega arith)
 
-ahead_most : (r : ℕ) → r < 9 → ahead r ≤ 6
-unfolding ahead
+ahead_most : (r : ℕ) → r < 9 → surplus r ≤ 6
+unfolding surplus
 ahead_most zero h = omega arith
 ahead_most (suc zero) h = omega arith
 ahead_most (suc (suc zero)) h = omega arith
@@ -71,7 +71,7 @@ length-gap : (i : ℕ) → length (gap i) ≤ 1
 length-gap zero = omega arith
 length-gap (suc i) = omega arith
 
-room : (n i : ℕ) → length (words_before n i) + ahead ((7 * i + n) % 9) ≤ 6 * i + 6
+room : (n i : ℕ) → length (words_before n i) + surplus ((7 * i + n) % 9) ≤ 6 * i + 6
 room n zero = omega (arith, ahead_most ((7 * 0 + n) % 9) (omega arith))
 room n (suc i) =
     let next : (7 * suc i + n) % 9 ≡ ((7 * i + n) % 9 + 7) % 9 = omega arith in

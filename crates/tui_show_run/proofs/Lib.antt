@@ -1,4 +1,4 @@
-pub mod ByEnding
+pub mod ByOutcome
 pub mod Commands
 pub mod Counted
 pub mod Drawn

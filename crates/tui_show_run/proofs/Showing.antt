@@ -14,7 +14,7 @@ use Rattle.tui_scene.specs.Item.{PlacedData, placed_after}
 use Rattle.tui_show_run.specs.Demo.{IsDemo, demo_offset, first_offset}
 use Rattle.tui_scene.specs.Drawn.{IsDrawn}
 
--- the state that a drawing of the list leaves
+-- the state after drawing the list
 offset_moved : (n : ℕ) → 1 ≤ n → (list_after (demo_list n) (area_of 0 0 20 8) (demo_state n)).offset ≡ demo_offset n
 unfolding list_after
 offset_moved n some =

@@ -1,4 +1,4 @@
--- The words of a demonstration are parted by single blanks, and have the fewest lines.
+-- The words of a demonstration are separated by single spaces, and have the fewest lines.
 use Rattle.std.proofs.Common.{◌≡◌, ◌≢◌, ℕ, zero, suc, ◌<◌, ◌≤◌, true, false, List, [], ◌∷◌, ◌++◌, length, map, refl, sym, ap, ap₂, subst, ◌∙◌, arith}
 use Rattle.std.specs.Prelude.{◌==◌, sum_by}
 use Rattle.std.specs.List.{AllByRecursion, join_with_byte, list_all, range_with_len, repeat}
@@ -12,7 +12,7 @@ use Rattle.tui_clusters.specs.Shown.{clusters, one_byte}
 use Rattle.tui_clusters.proofs.OneByte.{byte_width, printable_blank}
 use Rattle.tui_clusters.proofs.Runs.{printable_clusters}
 use Rattle.tui_para.specs.Division.{IsFewest, IsWord, Spaced, SpacedWithin}
-use Rattle.tui_para.specs.Wrapped.{IsTheOne, up_to}
+use Rattle.tui_para.specs.Wrapped.{IsUnique, up_to}
 use Rattle.tui_para.specs.Hyphens.{wrap}
 use Rattle.tui_para.specs.Lines.{glyph_line}
 use Rattle.tui_para.specs.WrappedText.{WrappedText, wrap_text}
@@ -24,7 +24,7 @@ use Rattle.tui_show_run.specs.Demo.Scene.{demo_wrap, one_line}
 use Rattle.tui_show_run.specs.Demo.Text.{demo_text, letter, times, word}
 use Rattle.tui_show_run.specs.Laws.{DemoIsFewest, graphemes_in, word_graphemes}
 
--- a letter a to z
+-- a letter from a to z
 abbrev IsLetter : ℕ → Type 0
 IsLetter b = (97 ≤ b) × (b ≤ 122)
 
@@ -71,16 +71,16 @@ letter_blank b h =
     let other : (b == 32) ≡ false = grind (arith, h.0) in
     printable_blank (one_byte b) b refl low high ∙ other
 
-is_word : (v : List ℕ) → AreLetters v → up_to glyph_blank (map glyph v) ≡ map glyph v
-is_word [] h = refl
-is_word (b ∷ bs) h = rw (letter_blank b h.0) (ap (λ (gs : List Glyph). glyph b ∷ gs) (is_word bs h.1))
+is_single_argument : (v : List ℕ) → AreLetters v → up_to glyph_blank (map glyph v) ≡ map glyph v
+is_single_argument [] h = refl
+is_single_argument (b ∷ bs) h = rw (letter_blank b h.0) (ap (λ (gs : List Glyph). glyph b ∷ gs) (is_single_argument bs h.1))
 
 some_word : (v : List ℕ) → 0 < length v → map glyph v ≢ []
 some_word [] some e = omega (arith, some)
 some_word (b ∷ bs) some e = cc
 
 word_is : (v : List ℕ) → IsShortWord v → IsWord glyph_blank (map glyph v)
-word_is v h = (some_word v h.some, is_word v h.letters)
+word_is v h = (some_word v h.some, is_single_argument v h.letters)
 
 word_width : (v : List ℕ) → AreLetters v → sum_by glyph_width (map glyph v) ≡ length v
 word_width [] h = refl
@@ -97,7 +97,7 @@ joined_printable [] h = refl
 joined_printable (v ∷ []) h = letters_printable v h.0.letters
 joined_printable (v ∷ u ∷ vs) h = all-append v (32 ∷ join_with_byte 32 (u ∷ vs)) (letters_printable v h.0.letters) (joined_printable (u ∷ vs) h.1)
 
--- words that are joined by blanks are spaced
+-- words joined by spaces have spaces between them
 joined_spaced : (vs : List (List ℕ)) → AreWords vs → Spaced glyph_blank glyph_width (map (map glyph) vs) (map glyph (join_with_byte 32 vs))
 joined_spaced [] h = refl
 joined_spaced (v ∷ []) h = (word_is v h.0, refl)
@@ -115,7 +115,7 @@ words_fit : (vs : List (List ℕ)) → AreWords vs → AllByRecursion (λ w. sum
 words_fit [] h = tt
 words_fit (v ∷ vs) h = (omega (arith, word_width v h.0.letters, h.0.few), words_fit vs h.1)
 
--- the same letter, again and again
+-- the same letter, repeated
 repeat_letters : (k c : ℕ) → IsLetter c → AreLetters (repeat k (c ∷ []))
 repeat_letters zero c h = tt
 repeat_letters (suc k) c h = (h, repeat_letters k c h)
@@ -154,7 +154,7 @@ demo_spaced n =
     subst (λ (ws : List (List Glyph)). Kind ws (graphemes_in (demo_text n))) (sym (words_are n is))
     (subst (λ (gs : List Glyph). Kind (map (map glyph) vs) gs) (sym text) whole)
 
-pub demo_is_fewest : ((n : ℕ) → IsTheOne (WrappedText 20 demo_wrap Left (one_line (demo_text n))) (wrap_text 20 demo_wrap Left (one_line (demo_text n)))) → DemoIsFewest
+pub demo_is_fewest : ((n : ℕ) → IsUnique (WrappedText 20 demo_wrap Left (one_line (demo_text n))) (wrap_text 20 demo_wrap Left (one_line (demo_text n)))) → DemoIsFewest
 demo_is_fewest once n count has =
     let spaced = demo_spaced n in
     let glyphs = graphemes_in (demo_text n) in

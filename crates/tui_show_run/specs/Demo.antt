@@ -1,4 +1,4 @@
--- The command `demo`: its text, its scene and its line in files of their own, and what it writes.
+-- The command `demo`: its text, its scene and its line, in files of their own, and its output.
 pub mod Text
 pub mod Scene
 pub mod Line
@@ -11,12 +11,12 @@ use Rattle.tui_rows.specs.RowLine.{row_line}
 use Rattle.tui_scene.specs.Item.{ItemData, PlacedData, list}
 use Rattle.tui_scene.specs.Drawn.{IsDrawn}
 
--- the first item that the list of n items shows in 8 rows: the middle item is in sight, and one on each side of it
+-- the first item that the list of n items shows in 8 rows: the middle item is visible, and one item on each side of it
 abbrev pub demo_offset : ℕ → ℕ
 demo_offset n = (window_of (demo_heights n) 8 0 (Some (n / 2)) 1).first
 
--- A line that says how many items there are, the first one that is shown, and how many lines the words take; then the rows of the
--- screen that the scene of n items and n words leaves on a blank buffer.
+-- The output of `demo`. It is a line that says how many items there are, which one is shown first, and how many lines
+-- the words take. After it come the rows of the screen that results from drawing n items and n words on a blank buffer.
 pub record IsDemo (n : ℕ) (text : List ℕ) : Type 0 where
   pub lines : ℕ
   pub has_lines : HasLines n lines
@@ -30,7 +30,7 @@ abbrev pub offset_in : ItemData → ℕ
 offset_in (list l s) = s.offset
 offset_in item = 0
 
--- that of the first of some widgets
+-- the offset of the first widget
 abbrev pub first_offset : List PlacedData → ℕ
 first_offset [] = 0
 first_offset (p ∷ ps) = offset_in p.item

@@ -1,25 +1,25 @@
--- The ending of a run, as every program's, and its exit status.
+-- The outcome of a run as that of any program, and its exit status.
 use Rattle.std.specs.Prelude.{ℕ}
 use Rattle.tui_program.specs.Status as frame
 use Rattle.tui_program.specs.declared.broken.Broken.TheVariants as broken
-use Rattle.tui_program.specs.declared.ending.Ending.{Ending}
-use Rattle.tui_program.specs.declared.ending.Ending.TheVariants as ending
+use Rattle.tui_program.specs.declared.outcome.Outcome.{Outcome}
+use Rattle.tui_program.specs.declared.outcome.Outcome.TheVariants as outcome
 use Rattle.tui_program.specs.declared.written.Written.TheVariants as written
 use Rattle.tui_schema.specs.declared.bad_field.BadField.{BadField}
 use Rattle.tui_show_run.specs.declared.ended.Ended.{Ended}
 use Rattle.tui_show_run.specs.declared.ended.Ended.TheVariants as ended
 
--- each ending of this program as one of every program's
-abbrev pub ending_of : Ended → Ending BadField
-ending_of ended.Ok = ending.Written written.Output
-ending_of ended.Usage = ending.Written written.Usage
-ending_of ended.TooLong = ending.Written written.TooLong
-ending_of ended.NotJson = ending.Written written.NotJson
-ending_of (ended.BadField i f) = ending.Written (written.Refused (record { item = i; field = f }))
-ending_of ended.ReadFault = ending.Broken broken.ReadFault
-ending_of ended.WriteFault = ending.Broken broken.WriteFault
-ending_of ended.NoMemory = ending.Broken broken.NoMemory
+-- an outcome of this program as one of any program
+abbrev pub outcome_of : Ended → Outcome BadField
+outcome_of ended.Ok = outcome.Written written.Output
+outcome_of ended.Usage = outcome.Written written.Usage
+outcome_of ended.TooLong = outcome.Written written.TooLong
+outcome_of ended.NotJson = outcome.Written written.NotJson
+outcome_of (ended.BadField i f) = outcome.Written (written.Refused (record { item = i; field = f }))
+outcome_of ended.ReadFault = outcome.Broken broken.ReadFault
+outcome_of ended.WriteFault = outcome.Broken broken.WriteFault
+outcome_of ended.NoMemory = outcome.Broken broken.NoMemory
 
--- 5 for a refused field, and for the others the status that every program has
+-- 5 for a rejected field; for the others the status that every program has
 abbrev pub status_of : Ended → ℕ
-status_of e = frame.status_of (λ refused. 5) (ending_of e)
+status_of e = frame.status_of (λ refused. 5) (outcome_of e)

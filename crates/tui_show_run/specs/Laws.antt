@@ -1,4 +1,4 @@
--- What a scene writes is one, and the words of a demonstration have the fewest lines.
+-- A scene has exactly one output, and the words of a demonstration have the fewest lines.
 use Rattle.std.specs.Prelude.{◌≡◌, ℕ, List, map}
 use Rattle.std.specs.List.{range_with_len}
 use Rattle.tui_cells.specs.Style.{no_style}
@@ -12,11 +12,11 @@ use Rattle.tui_text.specs.Grapheme.{Glyph, glyph_blank, glyph_width}
 use Rattle.tui_text.specs.Graphemes.{line_graphemes}
 use Rattle.tui_text.specs.Line.{raw_line}
 
--- a scene that is drawn has one output
+-- a scene has at most one output
 abbrev pub OutputIsUnique : Type 0
 OutputIsUnique = (s : SceneData) (text other : List ℕ) → IsShown s text → IsShown s other → other ≡ text
 
--- a number of items has one output of the command `demo`
+-- `demo` has at most one output for a number of items
 abbrev pub DemoIsUnique : Type 0
 DemoIsUnique = (n : ℕ) (text other : List ℕ) → IsDemo n text → IsDemo n other → other ≡ text
 
@@ -24,12 +24,12 @@ DemoIsUnique = (n : ℕ) (text other : List ℕ) → IsDemo n text → IsDemo n 
 abbrev pub graphemes_in : List ℕ → List Glyph
 graphemes_in text = line_graphemes no_style (raw_line text)
 
--- those of each word of a demonstration
+-- the graphemes of each word of a demonstration
 abbrev pub word_graphemes : ℕ → List (List Glyph)
 word_graphemes n = map (λ i. graphemes_in (word n i)) (range_with_len 0 n)
 
--- the text of a demonstration is words with single blanks between them, none of them wider than 20 columns, and no division of the words
--- into groups that fit 20 columns has fewer groups than the text has lines
+-- the text of a demonstration consists of words with single spaces between them, none wider than 20 columns; if these
+-- words are divided into groups that fit 20 columns, there are never fewer groups than the text has lines
 abbrev pub DemoIsFewest : Type 0
 DemoIsFewest = (n lines : ℕ) → HasLines n lines →
     SpacedWithin glyph_blank glyph_width 20 (word_graphemes n) (graphemes_in (demo_text n)) × IsFewest glyph_width (word_graphemes n) 20 lines

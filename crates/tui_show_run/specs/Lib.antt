@@ -3,7 +3,7 @@ pub mod Commands
 pub mod Shown
 pub mod Demo
 pub mod Ended
-pub mod Endings
+pub mod Outcomes
 pub mod Laws
-pub mod ByEnding
+pub mod ByOutcome
 pub mod Same

@@ -1,17 +1,17 @@
-//! The commands: their words, what they read, and what they write.
+//! The commands: their arguments, what they read, and what they write.
 
-ghost use Rattle.tui_program.specs.Endings.{AnswersWith, no_refusal, nothing};
+ghost use Rattle.tui_program.specs.Outcomes.{AnswersWith, no_refusal, nothing};
 ghost use Rattle.tui_schema.specs.Scene.{reading_data};
 ghost use Rattle.tui_show_run.specs.Shown.{IsShown};
 
 use crate::demo::show_demo;
 use serde_json::Value;
 use std::alloc::Global;
-use tui_outside::{Sink, Source, WriteFault};
+use tui_io::{Sink, Source, WriteFault};
 use tui_print::write_screen;
 use tui_program::{
-    Command, Ending, Job, Leftovers, Numerals, Stop, ending_after, is_word, number_after,
-    put_refused_in_scene, run_json,
+    Cleanup, Job, Numerals, Outcome, ProgramCommand, Stop, is_single_argument, number_after,
+    outcome_after, run_json, write_refused_in_scene,
 };
 use tui_scene::draw_new;
 use tui_schema::{BadField, Reading, read_scene};
@@ -19,24 +19,24 @@ use tui_schema::{BadField, Reading, read_scene};
 /// A command of the program.
 #[derive(Clone, Copy, Debug, PartialEq, Eq)]
 pub enum ShowCommand {
-    /// `scene` reads a scene, and writes its screen.
+    /// `scene` reads a scene and writes its screen.
     Scene,
-    /// `demo N` draws N items beside N words, from 1 to 100000, and writes a line on them and the screen's rows.
+    /// `demo N` draws N items beside N words, from 1 to 100000. It writes a line about them and the rows of the screen.
     Demo(u32),
 }
 
-impl Command for ShowCommand {
-    ghost use Rattle.tui_show_run.specs.Commands.{few_words};
-    ghost use Rattle.tui_show_run.specs.Endings.{show_rules};
+impl ProgramCommand for ShowCommand {
+    ghost use Rattle.tui_show_run.specs.Commands.{few_arguments};
+    ghost use Rattle.tui_show_run.specs.Outcomes.{show_rules};
 
     type Refusal = BadField;
 
     ghost rules = { show_rules };
 
-    ghost few = { few_words };
+    ghost few = { few_arguments };
 
-    fn of_words(words: &[String]) -> Option<ShowCommand> {
-        if is_word(words, "scene") {
+    fn from_arguments(words: &[String]) -> Option<ShowCommand> {
+        if is_single_argument(words, "scene") {
             return Some(ShowCommand::Scene);
         }
         let counts = Numerals {
@@ -55,17 +55,17 @@ impl Command for ShowCommand {
         alloc: Global,
         source: &mut S,
         sink: &mut K,
-        leftovers: Leftovers,
-    ) -> Ending<BadField> {
+        cleanup: Cleanup,
+    ) -> Outcome<BadField> {
         match self {
-            ShowCommand::Scene => run_json(self, alloc, source, sink, leftovers),
-            ShowCommand::Demo(n) => ending_after(show_demo(alloc, *n, sink)),
+            ShowCommand::Scene => run_json(self, alloc, source, sink, cleanup),
+            ShowCommand::Demo(n) => outcome_after(show_demo(alloc, *n, sink)),
         }
     }
 }
 
 impl Job for ShowCommand {
-    ghost use Rattle.tui_show_run.specs.Endings.{scene_job};
+    ghost use Rattle.tui_show_run.specs.Outcomes.{scene_job};
 
     type Refusal = BadField;
 
@@ -76,16 +76,16 @@ impl Job for ShowCommand {
         alloc: Global,
         value: &Value,
         sink: &mut K,
-        leftovers: Leftovers,
+        cleanup: Cleanup,
     ) -> Result<(), Stop<BadField>> {
         let mut reading = read_scene(alloc, value)?;
-        let answer = show_scene(alloc, &mut reading, sink, leftovers);
-        leftovers.done_with(reading);
+        let answer = show_scene(alloc, &mut reading, sink, cleanup);
+        cleanup.dispose_of(reading);
         answer
     }
 
-    fn refuse<K: Sink>(&self, refusal: BadField, sink: &mut K) -> Result<(), WriteFault> {
-        put_refused_in_scene("item", refusal.item, refusal.field.name(), sink)
+    fn reject<K: Sink>(&self, refusal: BadField, sink: &mut K) -> Result<(), WriteFault> {
+        write_refused_in_scene("item", refusal.item, refusal.field.name(), sink)
     }
 }
 
@@ -93,12 +93,12 @@ fn show_scene<K: Sink>(
     alloc: Global,
     reading: &mut Reading<'_>,
     sink: &mut K,
-    leftovers: Leftovers,
+    cleanup: Cleanup,
 ) -> Result<(), Stop<BadField>>
-    ensures { AnswersWith (IsShown (reading_data reading.old)) nothing no_refusal (K.told sink.old) (K.told sink.new) result }
+    ensures { AnswersWith (IsShown (reading_data reading.old)) nothing no_refusal (K.observed sink.old) (K.observed sink.new) result }
 {
     let buffer = draw_new(alloc, reading.width, reading.height, &mut reading.scene)?;
     write_screen(&buffer, &reading.scene, sink)?;
-    leftovers.done_with(buffer);
+    cleanup.dispose_of(buffer);
     Ok(())
 }

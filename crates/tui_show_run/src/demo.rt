@@ -1,8 +1,8 @@
-//! The command `demo`: a list of items beside a paragraph of words, as many of both as a number says.
+//! The command `demo`: a list of items beside a paragraph of words, with a given number of both.
 
 ghost use Rattle.std.specs.Prelude.{◌≡◌, ◌≤◌, ◌++◌, IfOk, flat_map, string_bytes};
 ghost use Rattle.tui_rows.specs.RowLine.{row_line};
-ghost use Rattle.tui_program.specs.Endings.{AnswersWith, no_refusal, nothing};
+ghost use Rattle.tui_program.specs.Outcomes.{AnswersWith, no_refusal, nothing};
 ghost use Rattle.tui_scene.specs.Item.{item_data};
 ghost use Rattle.tui_show_run.specs.Demo.{IsDemo, first_offset, offset_in};
 
@@ -17,24 +17,24 @@ use crate::demo::scene::demo_scene;
 use crate::demo::text::demo_text;
 use std::alloc::Global;
 use tui_cells::{Buffer, Mem};
-use tui_outside::Sink;
+use tui_io::Sink;
 use tui_program::Stop;
 use tui_rows::write_rows;
 use tui_scene::{Item, Scene, draw_new};
 use tui_schema::BadField;
 
-/// Draws the demonstration of n items and n words, and writes a line on it and the rows of its screen.
+/// Draws the demonstration of `n` items and `n` words, and writes a line about it and the rows of its screen.
 pub(crate) fn show_demo<K: Sink>(alloc: Global, n: u32, sink: &mut K) -> Result<(), Stop<BadField>>
     requires least { 1 ≤ n }
     requires most { n ≤ 100000 }
-    ensures { AnswersWith (IsDemo n) nothing no_refusal (K.told sink.old) (K.told sink.new) result }
+    ensures { AnswersWith (IsDemo n) nothing no_refusal (K.observed sink.old) (K.observed sink.new) result }
 {
     let (line, buffer) = drawn_demo(alloc, n)?;
     write_rows(line.as_str(), &buffer, sink)?;
     Ok(())
 }
 
-/// The line, and the buffer whose rows follow it.
+/// Returns the line, and the buffer whose rows follow it.
 fn drawn_demo(alloc: Global, n: u32) -> Mem<(String, Buffer)>
     requires least { 1 ≤ n }
     requires most { n ≤ 100000 }
@@ -47,7 +47,7 @@ fn drawn_demo(alloc: Global, n: u32) -> Mem<(String, Buffer)>
     Ok((line, buffer))
 }
 
-/// The first item that is shown of the list with which a scene begins.
+/// Returns the offset of the list that is the first item of a scene.
 fn first_offset(scene: &Scene<'_>) -> usize
     ensures { result ≡ first_offset scene.now }
 {

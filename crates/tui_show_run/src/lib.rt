@@ -1,4 +1,4 @@
-//! The commands `scene` and `demo`, from the words and the bytes that are read to the bytes that are written.
+//! The commands `scene` and `demo`, from the arguments and the input to the output.
 #![tactic(auto)]
 
 mod command;
@@ -10,6 +10,6 @@ mod program;
 
 pub use command::ShowCommand;
 pub use ended::Ended;
-pub use laws::{ending_laws, scene_laws};
+pub use laws::{outcome_laws, scene_laws};
 pub use program::{run_program, show};
 pub use tui_schema::BadField;

@@ -1,19 +1,19 @@
-//! Plain values of the program, which `==` tells apart and a clone leaves as they are.
+//! Values of the program that `==` compares exactly, and whose clones are equal to them.
 
 ghost use Rattle.std.proofs.Common.{rules};
 ghost use Rattle.tui_show_run.specs.Same.{same_ended};
 
 use crate::command::ShowCommand;
 use crate::ended::Ended;
-use tui_program::Plain;
+use tui_program::PlainValue;
 
-impl Plain for ShowCommand {
+impl PlainValue for ShowCommand {
     ghost same = { Prim.search rules };
 
     ghost cloned = { Prim.search rules };
 }
 
-impl Plain for Ended {
+impl PlainValue for Ended {
     ghost same = { same_ended };
 
     ghost cloned = { Prim.search rules };

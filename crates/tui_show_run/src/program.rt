@@ -1,46 +1,56 @@
-//! A whole run, from the words and the bytes read to the bytes written.
+//! A whole run, from the arguments and the input to the output.
 
 ghost use Rattle.std.specs.Prelude.{◌≡◌, ◌⊎◌};
 ghost use Rattle.tui_program.specs.Transcript.{transcript_of};
 ghost use Rattle.tui_program.specs.Runs.{IsRunFrom};
-ghost use Rattle.tui_show_run.specs.Commands.{AreWrong};
-ghost use Rattle.tui_show_run.specs.Ended.{ending_of};
-ghost use Rattle.tui_show_run.specs.Endings.{ShowEnds, IsCompleteScene, IsCompleteDemo, show_rules};
+ghost use Rattle.tui_show_run.specs.Commands.{IsNoCommand};
+ghost use Rattle.tui_show_run.specs.Ended.{outcome_of};
+ghost use Rattle.tui_show_run.specs.Outcomes.{ShowEnds, IsCompleteScene, IsCompleteDemo, show_rules};
 
 use crate::command::ShowCommand;
 use crate::ended::Ended;
 use std::alloc::Global;
 use std::env::Args;
 use std::io;
-use tui_outside::{Sink, Source};
-use tui_program::{Leftovers, run};
+use tui_io::{Sink, Source};
+use tui_program::{Cleanup, run};
 
-/// Runs the command that the words name: `scene` alone reads a scene in JSON (docs/SCENE.md) from the source, draws it and
-/// writes the screen to the sink; `demo` and a number from 1 to 100000, in one to six digits, reads nothing, draws a list of
-/// that many items beside as many words, and writes a line on them and the rows of the screen.
+/// Runs the command that the arguments name.
 ///
-/// With `scene` it ends Ok only where the source was read to its end within 1,048,576 bytes, these bytes are JSON that the
-/// schema accepts, no read and no put failed, and the sink holds what it held and then the print of the buffer that a run over
-/// the scene's widgets reaches from a blank buffer. With `demo` it ends Ok only where no put failed and the sink holds what it
-/// held and then that line and these rows. Every other ending has its cause; see `Ended`.
+/// `scene` alone reads a scene in JSON (docs/SCENE.md) from the source, draws it, and writes the screen to the sink.
+/// `demo` with a number from 1 to 100000, in one to six digits, reads nothing. It draws a list of that many items
+/// beside as many words, and writes a line about them and the rows of the screen.
+///
+/// With `scene` the outcome is `Ok` only if all of this holds:
+///
+/// - the source was read to its end, within 1,048,576 bytes;
+/// - these bytes are JSON that the schema accepts;
+/// - no read and no write failed;
+/// - the sink has what it had before, followed by the print of the screen: the buffer that results from drawing the
+///   scene's widgets on a blank one.
+///
+/// With `demo` the outcome is `Ok` only if no write failed. The sink then has what it had before, followed by that line
+/// and these rows. Every other outcome has its cause; see `Ended`.
 pub fn show<S: Source, K: Sink>(
     alloc: Global,
     words: &[String],
     source: &mut S,
     sink: &mut K,
 ) -> Ended
-    ensures ends { ShowEnds words.now (transcript_of (S.told source.old) (S.told source.new) (K.told sink.old) (K.told sink.new)) result }
-    ensures complete { IsCompleteScene words.now (transcript_of (S.told source.old) (S.told source.new) (K.told sink.old) (K.told sink.new)) result }
-    ensures demo { IsCompleteDemo words.now (transcript_of (S.told source.old) (S.told source.new) (K.told sink.old) (K.told sink.new)) result }
-    ensures usage { AreWrong words.now → (result ≡ Ended.Usage) ⊎ (result ≡ Ended.WriteFault) }
+    ensures ends { ShowEnds words.now (transcript_of (S.observed source.old) (S.observed source.new) (K.observed sink.old) (K.observed sink.new)) result }
+    ensures complete { IsCompleteScene words.now (transcript_of (S.observed source.old) (S.observed source.new) (K.observed sink.old) (K.observed sink.new)) result }
+    ensures demo { IsCompleteDemo words.now (transcript_of (S.observed source.old) (S.observed source.new) (K.observed sink.old) (K.observed sink.new)) result }
+    ensures usage { IsNoCommand words.now → (result ≡ Ended.Usage) ⊎ (result ≡ Ended.WriteFault) }
 {
-    run::<ShowCommand, S, K>(alloc, words, source, sink, Leftovers::Dropped).into()
+    run::<ShowCommand, S, K>(alloc, words, source, sink, Cleanup::Dropped).into()
 }
 
-/// Runs the command that the words name, as `show` does. The words are those that the system gives; where it refuses a word, it is one
-/// empty word, so that the run ends with `Usage`; where it says that memory was wanting for them, nothing is read and nothing written. It
-/// is the last that a process does: the memory of what it read and drew is left to the system. A caller that goes on has `show`, which
-/// gives it back.
+/// Runs the command that the system's arguments name, as `show` does. If the system reports an invalid argument, runs
+/// with a single empty argument, so that the outcome is `Usage`. If it reports that it is out of memory, nothing is
+/// read and nothing is written.
+///
+/// Call this only as the last action of a process: the memory of the run is leaked. A caller that continues should
+/// use `show`, which frees it.
 pub fn run_program<S: Source, K: Sink>(
     alloc: Global,
     args: io::Result<Args>,
@@ -48,7 +58,7 @@ pub fn run_program<S: Source, K: Sink>(
     sink: &mut K,
 ) -> Ended
     ensures { IsRunFrom show_rules args
-        (transcript_of (S.told source.old) (S.told source.new) (K.told sink.old) (K.told sink.new)) (ending_of result) }
+        (transcript_of (S.observed source.old) (S.observed source.new) (K.observed sink.old) (K.observed sink.new)) (outcome_of result) }
 {
     tui_program::run_program::<ShowCommand, S, K>(alloc, args, source, sink).into()
 }

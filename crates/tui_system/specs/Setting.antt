@@ -1,26 +1,26 @@
--- The terminal that a session begins on.
+-- The terminal at the start of a session.
 use Rattle.std.specs.Prelude.{◌≡◌, ◌⊎◌, ℕ, ◌≤◌, List, false}
-use Rattle.tui_program.specs.Words.{Write}
+use Rattle.tui_program.specs.Arguments.{IsNumeralOf}
 use Rattle.tui_program.specs.declared.numerals.Numerals.{Numerals}
 use Rattle.tui_system.specs.declared.settings.Setting.{Setting}
-use Rattle.tui_tty.specs.declared.cursor.Cursor.TheVariants.{Hidden}
-use Rattle.tui_tty.specs.declared.depth.Depth.{Depth}
-use Rattle.tui_tty.specs.declared.output.Output.{Output}
-use Rattle.tui_tty.specs.declared.trust.Trust.TheVariants.{Common}
+use Rattle.tui_terminal_model.specs.declared.cursor.Cursor.TheVariants.{Hidden}
+use Rattle.tui_terminal_model.specs.declared.depth.Depth.{Depth}
+use Rattle.tui_terminal_model.specs.declared.output.Output.{Output}
+use Rattle.tui_terminal_model.specs.declared.widths.KnownWidths.TheVariants.{Common}
 
--- numbers of columns or rows: from 1 to 1000, in four digits at most
+-- a number of columns or rows: from 1 to 1000, in at most four digits
 abbrev pub sides : Numerals
 sides = record { digits = 4; least = 1; most = 1000 }
 
--- the number that a text writes, or another, if it writes none
+-- the number that a string denotes, or `otherwise` if it denotes none
 abbrev pub IsSide : List ℕ → ℕ → ℕ → Type 0
-IsSide text otherwise side = Write sides text side ⊎ (((n : ℕ) → Write sides text n → ⊥) × (side ≡ otherwise))
+IsSide text otherwise side = IsNumeralOf sides text side ⊎ (((n : ℕ) → IsNumeralOf sides text n → ⊥) × (side ≡ otherwise))
 
--- what is sent to a terminal of as many colours as `depth` says
+-- how output is sent to a terminal of this colour depth
 abbrev pub hidden : Depth → Output
-hidden depth = record { depth = depth; trust = Common; cursor = Hidden; hold = false }
+hidden depth = record { depth = depth; widths = Common; cursor = Hidden; synchronized = false }
 
--- what some variables may say: that is sent, and there are from 1 to 1000 columns and rows
+-- settings that some environment gives: output is sent like this, and there are 1 to 1000 columns and rows
 pub record IsSetting (s : Setting) : Type 0 where
   pub depth : Depth
   pub output : s.output ≡ hidden depth

@@ -1,8 +1,8 @@
-//! What the system answers, apart from that it had no memory.
+//! Results of system calls, with running out of memory as an error of its own.
 
 ghost use Rattle.std.specs.Prelude.{◌≡◌, ◌↔◌, Err, IfOk, IsErr, string_bytes};
 ghost use Rattle.std.specs.declared.env.VarError.TheVariants.{OutOfMemory};
-ghost use Rattle.tui_system.specs.Answers.{LacksMemory, text_said};
+ghost use Rattle.tui_system.specs.Answers.{IsOutOfMemory, variable_text};
 
 use std::alloc::Global;
 use std::env::VarError;
@@ -10,10 +10,10 @@ use std::io;
 use std::io::ErrorKind;
 use tui_cells::{Mem, NoMemory};
 
-/// The system's answer as it is, unless it says that memory was wanting.
-pub fn unless_memory<T: Drop>(answer: io::Result<T>) -> Mem<io::Result<T>>
+/// Returns a system call's result as it is. Fails with `NoMemory` if the system reported that it is out of memory.
+pub fn or_out_of_memory<T: Drop>(answer: io::Result<T>) -> Mem<io::Result<T>>
     ensures same { IfOk result (λ same. same ≡ answer) }
-    ensures wanting { IsErr result ↔ LacksMemory answer }
+    ensures out_of_memory { IsErr result ↔ IsOutOfMemory answer }
 {
     match answer {
         Err(error) if error.kind() == ErrorKind::OutOfMemory => Err(NoMemory),
@@ -21,12 +21,13 @@ pub fn unless_memory<T: Drop>(answer: io::Result<T>) -> Mem<io::Result<T>>
     }
 }
 
-/// The text of a variable; nothing, where it has none.
-pub(crate) fn text_of(alloc: Global, said: Result<String, VarError>) -> Mem<String>
-    ensures text { IfOk result (λ text. string_bytes text ≡ text_said said) }
-    ensures wanting { IsErr result ↔ (said ≡ Err OutOfMemory) }
+/// Returns the value of a variable, or an empty string if it has none. Fails with `NoMemory` if the system was out of
+/// memory.
+pub(crate) fn text_of(alloc: Global, value: Result<String, VarError>) -> Mem<String>
+    ensures text { IfOk result (λ text. string_bytes text ≡ variable_text value) }
+    ensures out_of_memory { IsErr result ↔ (value ≡ Err OutOfMemory) }
 {
-    match said {
+    match value {
         Ok(text) => Ok(text),
         Err(VarError::OutOfMemory) => Err(NoMemory),
         Err(_) => Ok(String::new(alloc)),

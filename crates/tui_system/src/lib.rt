@@ -1,14 +1,14 @@
-//! What programs that live on a terminal ask of the system: their words, what the environment says of the terminal, and files. Where the system had no
-//! memory for an answer, that is told apart from all else.
+//! What interactive programs need from the system: command-line arguments, terminal settings from the environment, and
+//! files. Running out of memory is an error of its own.
 #![tactic(auto)]
 
 mod answers;
-mod asking;
+mod args_and_files;
 mod environment;
 mod plain;
 mod settings;
 
-pub use answers::unless_memory;
-pub use asking::{opened, words};
+pub use answers::or_out_of_memory;
+pub use args_and_files::{arguments, open_file};
 pub use environment::{depth, setting, variable};
 pub use settings::Setting;

@@ -1,12 +1,12 @@
-//! Settings, which `==` tells apart and a clone leaves as they are.
+//! `==` of settings is exact, and a clone of a setting is equal to it.
 
 ghost use Rattle.std.proofs.Common.{rules};
 ghost use Rattle.tui_system.specs.Same.{same_setting};
 
 use crate::settings::Setting;
-use tui_program::Plain;
+use tui_program::PlainValue;
 
-impl Plain for Setting {
+impl PlainValue for Setting {
     ghost same = { same_setting };
 
     ghost cloned = { Prim.search rules };

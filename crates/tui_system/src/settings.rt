@@ -1,12 +1,12 @@
-//! The terminal that a session begins on.
+//! The terminal at the start of a session.
 
 ghost use Rattle.std.specs.Prelude.{◌≡◌};
 ghost use Rattle.tui_system.specs.Setting.{IsSide, hidden};
 
 use tui_program::Numerals;
-use tui_tty::{Cursor, Depth, Output, Trust};
+use tui_terminal_model::{Cursor, Depth, KnownWidths, Output};
 
-/// What is sent, and the first size in columns and rows.
+/// How output is sent to the terminal, and its first size in columns and rows.
 #[derive(Clone, Copy, Debug, PartialEq, Eq)]
 pub struct Setting {
     pub output: Output,
@@ -15,9 +15,10 @@ pub struct Setting {
 }
 
 impl Setting {
-    /// A terminal of as many colours as `depth` says, which is trusted with common symbols, and of the columns and rows that two variables of the
-    /// environment say, each a number from 1 to 1000. Where one says none there are 80 columns, and 24 rows.
-    pub fn said_by(depth: Depth, columns: &str, lines: &str) -> Setting
+    /// Returns the settings of a terminal of this colour depth. It is assumed to draw common symbols as wide as they
+    /// are counted here. `columns` and `lines` are the values of two environment variables, each a number from 1 to
+    /// 1000. If one is no such number, there are 80 columns or 24 rows.
+    pub fn from_variables(depth: Depth, columns: &str, lines: &str) -> Setting
         ensures output { result.output ≡ hidden depth }
         ensures width { IsSide columns.now 80 result.width }
         ensures height { IsSide lines.now 24 result.height }
@@ -25,9 +26,9 @@ impl Setting {
         Setting {
             output: Output {
                 depth,
-                trust: Trust::Common,
+                widths: KnownWidths::Common,
                 cursor: Cursor::Hidden,
-                hold: false,
+                synchronized: false,
             },
             width: side_in(columns, 80),
             height: side_in(lines, 24),
@@ -35,7 +36,7 @@ impl Setting {
     }
 }
 
-/// The number of columns or rows that a text says; where it says none, `otherwise`.
+/// Returns the number of columns or rows in a string, or `otherwise` if it is no such number.
 fn side_in(text: &str, otherwise: u16) -> u16
     ensures { IsSide text.now otherwise result }
 {

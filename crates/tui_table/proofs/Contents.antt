@@ -1,4 +1,4 @@
--- The rows, the header and the footer of a table together.
+-- The rows, the header and the footer of a table, drawn together.
 use Rattle.std.proofs.Common.{◌≡◌, ◌≤◌, ℕ, ◌+◌, min, false, List, length, Option, ◌∙◌, ap, subst}
 use Rattle.tui_cells.specs.declared.rect.Rect.{Rect}
 use Rattle.tui_cells.specs.Buffer.{Screen}
@@ -42,7 +42,7 @@ pub after_is : (t : TableData) (inner : Rect) (s : TableState) (w : Window) (sel
 unfolding table_after
 after_is t inner s w selected column shown ws ss cs = rw (shown, ss, cs) (ap (λ (k : Window). record { offset = k.first; selected = row_after t s; selected_column = column_after t s }) ws)
 
--- what keeps all outside a row keeps all outside the rows
+-- what changes nothing outside a row changes nothing outside the body
 pub row_kept : (body area : Rect) (from : ℕ) (r : RowData) (a b : Screen) → area ≡ area_in body from r → KeptOutside (covers area) a b → KeptOutside (covers body) a b
 row_kept body area from r a b e k =
     KeptOutside-weaker (λ x y out. rows_out body (from + r.top_margin) r.height x y out) (subst (λ (s : Rect). KeptOutside (covers s) a b) e k)

@@ -12,7 +12,7 @@ use Rattle.tui_table.specs.Cell.{CellData}
 use Rattle.tui_table.specs.declared.row_kind.RowKind.{RowKind}
 use Rattle.tui_table.specs.Strokes.{cell_layers, cells_layers, over_columns, span_in, text_over}
 
--- the columns that a cell of a span gets, and those after it
+-- the columns that a cell takes by its span, and those after it
 part_of : (columns : List Segment) (used span : ℕ) → used ≤ length columns →
     take (used + min span (length columns - used) - used) (drop used columns) ≡ take span (drop used columns)
 part_of columns used span le = grind (arith, common_steps)
@@ -49,7 +49,7 @@ unfolding cell_layers
 cell_none area gutter spacing [] d a e = Painted-none a
 cell_none area gutter spacing (k ∷ ks) d a e = absurd (omega arith)
 
--- a width that is cut at 65535 is the same in an area that is not wider
+-- a width that is limited to 65535 makes no difference in an area that is not wider
 same_part : (area : Rect) (from count cut : ℕ) → area.width ≤ 65535 → cut ≡ min count 65535 → columns_from area from cut ≡ columns_from area from count
 same_part area from count cut small e = ap (λ w. record area { x = min (area.x + from) 65535; width = w }) (omega (arith, e))
 

@@ -1,4 +1,4 @@
 pub mod InColumns
 pub mod RowLists
 pub mod Contents
-pub mod Moving
+pub mod StatefulDrawing

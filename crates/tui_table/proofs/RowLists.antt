@@ -10,7 +10,7 @@ use Rattle.tui_cells.specs.declared.rect.Rect.{Rect}
 use Rattle.tui_cells.specs.Buffer.{Screen}
 use Rattle.tui_cells.specs.Layers.{Painted}
 use Rattle.tui_cells.proofs.Painting.{Painted-none, Painted-then}
-use Rattle.tui_layout.proofs.Totals.{total-one, total-turned, total-upto}
+use Rattle.tui_layout.proofs.Totals.{total-one, total-turned, total-prefix_sum}
 use Rattle.tui_layout.specs.Sums.{total}
 use Rattle.tui_layout.specs.declared.segment.Segment.{Segment}
 use Rattle.tui_table.specs.Areas.{area_in}
@@ -28,7 +28,7 @@ heights_more f xs i x h hs lt here e known =
     ap (λ ys. heights_of (map f ys)) more ∙ (ap heights_of (map-append f (take i xs) (x ∷ [])) ∙ map-append row_height (map f (take i xs)) (f x ∷ [])) in
     ap (λ ks. ks ++ h ∷ []) known ∙ (ap (λ k. heights_of (map f (take i xs)) ++ k ∷ []) e ∙ sym mapped)
 
--- a row as it is seen
+-- a row as seen through a function
 pub row_here : {A B : Type 0} (f : A → B) (xs : List A) (i : ℕ) (x : A) → i < length xs → x ≡ get_or xs i x → f x ≡ get_or (map f xs) i (f x)
 row_here f xs i x lt here = sym (get_or-map f xs i x (f x) lt ∙ sym (ap f here))
 
@@ -39,7 +39,7 @@ total_more rows a i sum r le lt here e =
     let xs = heights_of rows in
     let inside : i < length (heights_of rows) = rw (length-map rows row_height) lt in
     let found : get_or (heights_of rows) i 0 ≡ row_height r = get_or-map row_height rows i r 0 lt ∙ sym (ap row_height here) in
-    omega (arith, e, found, total-upto xs a i le, total-upto xs a (i + 1) (omega arith), total-upto xs i (i + 1) (omega arith), total-one xs i inside)
+    omega (arith, e, found, total-prefix_sum xs a i le, total-prefix_sum xs a (i + 1) (omega arith), total-prefix_sum xs i (i + 1) (omega arith), total-one xs i inside)
 
 pub total_none : (rows : List RowData) (a i : ℕ) → i ≤ a → 0 ≡ total (heights_of rows) a i
 total_none rows a i le = sym (total-turned (heights_of rows) a i le)
@@ -52,7 +52,7 @@ slice_more xs a i x le lt here =
     let at : get_or (drop a xs) (i - a) x ≡ x = get_or-drop a xs (i - a) x ∙ (ap (λ (k : ℕ). get_or xs k x) back ∙ sym here) in
     ap (λ (k : ℕ). take k (drop a xs)) n ∙ (take_more (drop a xs) (i - a) x inside ∙ ap (λ y. take (i - a) (drop a xs) ++ y ∷ []) at)
 
--- no row
+-- no rows
 pub rows_none : (t : TableData) (body : Rect) (gutter : ℕ) (columns : List Segment) (selected : Option ℕ) (first : ℕ) (a : Screen) →
     Painted (rows_layers t body gutter columns selected first first) a a
 unfolding rows_layers
@@ -78,7 +78,7 @@ rows_more t body area gutter columns selected first i used kind r a b c le lt he
     subst P (sym (slice_more rows first i (i, r) le inside found))
     (rw (flat_map-append (row_in t body gutter columns selected first) (slice_range rows first i) ((i, r) ∷ [])) (Painted-then p (Painted-then one (Painted-none c))))
 
--- a row past the last one is none
+-- one row past the last adds nothing
 slice_cut : {A : Type 0} (xs : List A) (a last end : ℕ) → a ≤ last → last ≤ length xs → end ≡ min (last + 1) (length xs) → slice_range xs a (last + 1) ≡ slice_range xs a end
 slice_cut xs a last end le within e = elim (cases_lt last (length xs)) [
   | inl lt ↦ ap (λ (n : ℕ). take n (drop a xs)) (omega arith)

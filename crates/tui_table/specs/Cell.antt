@@ -15,6 +15,6 @@ pub record CellData : Type 0 where
 abbrev pub cell_data : Cell → CellData
 cell_data c = record { content = text_data c.content; style = c.style; span = c.column_span }
 
--- a text in one column, without a style beside its own
+-- a text in one column, without another style than its own
 abbrev pub cell_of : TextData → CellData
 cell_of content = record { content = content; style = no_style; span = 1 }

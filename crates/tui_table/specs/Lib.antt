@@ -7,6 +7,6 @@ pub mod Areas
 pub mod Moves
 pub mod Strokes
 pub mod Stays
-pub mod Settles
+pub mod Idempotence
 pub mod Drawing
 pub mod Laws

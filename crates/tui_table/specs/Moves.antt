@@ -1,4 +1,4 @@
--- How a drawing moves the state of a table.
+-- The state that a drawing of a table leaves.
 use Rattle.std.specs.Prelude.{◌≡◌, ℕ, ◌-◌, ◌==◌, min, true, false, length, Option, None, Some, if◌then◌else◌}
 use Rattle.tui_cells.specs.declared.rect.Rect.{Rect}
 use Rattle.tui_cells.specs.Rect.{is_empty}
@@ -10,22 +10,23 @@ use Rattle.tui_table.specs.Row.{heights_of}
 use Rattle.tui_table.specs.Table.{TableData}
 use Rattle.tui_table.specs.declared.state.TableState.{TableState}
 
--- the rows that are shown whole, in an area of this height
+-- the window of rows that are shown in full in an area of this height
 abbrev pub table_window : TableData → ℕ → TableState → Window
 table_window t height s = window_of (heights_of t.rows) (room_of t height) s.offset s.selected 0
 
--- a place among this many: past the last it is the last, and there is none where there are none, where a list's `cut_selection` is not asked
-abbrev pub cut_to : ℕ → Option ℕ → Option ℕ
-cut_to count None = None
-cut_to count (Some place) = if count == 0 then None else Some (min place (count - 1))
+-- A selection among `count` entries: past the last it becomes the last, and without entries it is none. A list's
+-- `cut_selection` is not used without entries.
+abbrev pub clamp_to : ℕ → Option ℕ → Option ℕ
+clamp_to count None = None
+clamp_to count (Some place) = if count == 0 then None else Some (min place (count - 1))
 
--- the selected row and column that a drawing leaves
+-- the selected row after a drawing
 abbrev pub row_after : TableData → TableState → Option ℕ
-row_after t s = cut_to (length t.rows) s.selected
+row_after t s = clamp_to (length t.rows) s.selected
 
 -- the selected column after a drawing
 abbrev pub column_after : TableData → TableState → Option ℕ
-column_after t s = cut_to (column_count t) s.selected_column
+column_after t s = clamp_to (column_count t) s.selected_column
 
 -- the state after a drawing in an area
 unfoldable pub table_after : TableData → Rect → TableState → TableState
@@ -35,7 +36,8 @@ table_after t inner s = if is_empty inner then s else record {
   selected_column = column_after t s;
 }
 
--- What a user relies on. In an empty area the state stays; else both selections are cut, and the offset moves least to show the selected row.
+-- What a user can rely on. If the area is empty, the state is unchanged. Otherwise both selections are limited, and the
+-- offset moves as little as possible to show the selected row.
 pub record TableMoves (t : TableData) (inner : Rect) (old new : TableState) : Type 0 where
   pub stays : is_empty inner ≡ true → new ≡ old
   pub selected : is_empty inner ≡ false → new.selected ≡ row_after t old

@@ -23,11 +23,11 @@ row_data r = record {
   style = r.style;
 }
 
--- cells in one row of the screen, without margins and a style of their own
+-- cells in one row of the screen, without margins or a style of their own
 abbrev pub row_of : List CellData → RowData
 row_of cells = record { cells = cells; height = 1; top_margin = 0; bottom_margin = 0; style = no_style }
 
--- the rows of the screen that a row takes, both margins included
+-- how many rows of the screen a row takes, both margins included
 abbrev pub row_height : RowData → ℕ
 row_height r = r.top_margin + r.height + r.bottom_margin
 
@@ -35,6 +35,6 @@ row_height r = r.top_margin + r.height + r.bottom_margin
 abbrev pub heights_of : List RowData → List ℕ
 heights_of rows = map row_height rows
 
--- the most cells of any row, 0 without rows
+-- the greatest number of cells in a row, 0 without rows
 abbrev pub most_cells : List RowData → ℕ
 most_cells rows = fold max 0 (map (λ r. length r.cells) rows)

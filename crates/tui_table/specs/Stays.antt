@@ -1,4 +1,4 @@
--- Laws that the drawing of a table carries: its strokes stay in its footprint.
+-- Laws of drawing a table: its strokes stay in its footprint.
 use Rattle.std.specs.Prelude.{
   ◌≡◌,
   ℕ,
@@ -26,7 +26,7 @@ use Rattle.std.specs.Prelude.{
 use Rattle.std.specs.List.{enumerate_from}
 use Rattle.tui_cells.specs.declared.rect.Rect.{Rect}
 use Rattle.tui_cells.specs.declared.style.Style.{Style}
-use Rattle.tui_cells.specs.Cell.{dress}
+use Rattle.tui_cells.specs.Cell.{set_style}
 use Rattle.tui_cells.specs.Layers.{Layer, StayIn}
 use Rattle.tui_cells.specs.Rect.{columns_from, covers, is_empty, rows_from}
 use Rattle.tui_cells.specs.Stays.{StayIn-append, StayIn-none, StayIn-stroke}
@@ -77,7 +77,7 @@ in_columns : (r : Rect) (from count : ℕ) {ls : List Layer} → StayIn (covers 
 in_columns r from count s = StayIn-wider (λ x y out. columns_out r from count x y out) s
 
 dress_stays : (area : Rect) (style : Style) → StayIn (covers area) (dress_if_some style (Some area))
-dress_stays area style = StayIn-stroke (covers area) (dress style) (λ x y out. out)
+dress_stays area style = StayIn-stroke (covers area) (set_style style) (λ x y out. out)
 
 -- a text over an area stays there
 pub over_stays : (area : Rect) (style : Style) (text : TextData) → StayIn (covers area) (text_over area style text)
@@ -155,7 +155,7 @@ both_out body (Some a) (Some b) p = λ x y out. outside_both a b x y (p x y out)
 
 dressed_stays : (body : Rect) (style : Style) (o : Option Rect) → OutOf body o → StayIn (covers body) (dress_if_some style o)
 dressed_stays body style None p = StayIn-none
-dressed_stays body style (Some area) p = StayIn-stroke (covers area) (dress style) p
+dressed_stays body style (Some area) p = StayIn-stroke (covers area) (set_style style) p
 
 highlights_stay : (t : TableData) (body : Rect) (row column : Option Rect) → OutOf body row → OutOf body column →
     StayIn (covers body) (highlight_layers t row column)
@@ -188,13 +188,13 @@ parts_stay t inner gutter columns s false =
     StayIn-append (edge_stays t inner gutter columns 0 t.header)
     (StayIn-append (body_if_stays t inner gutter columns s (length t.rows == 0)) (edge_stays t inner gutter columns _ t.footer))
 
--- what stands inside the block stays there
+-- what is inside the block stays there
 pub content_stays : (t : TableData) (inner : Rect) (s : TableState) → StayIn (covers inner) (content_layers t inner s)
 unfolding content_layers
 content_stays t inner s = parts_stay t inner (gutter_of t inner.width (row_after t s)) (columns_in t inner.width (row_after t s)) s (is_empty inner)
 
--- a table changes cells of its footprint alone
+-- a table changes only cells of its footprint
 pub table_stays : (t : TableData) (s : TableState) (clip : Rect) → StayIn (footprint_if t.block clip) (table_layers t s clip)
 table_stays t s clip =
-    StayIn-append (clip_stays t.block clip (StayIn-stroke (covers clip) (dress t.style) (λ x y out. out)))
+    StayIn-append (clip_stays t.block clip (StayIn-stroke (covers clip) (set_style t.style) (λ x y out. out)))
     (StayIn-append (block_stays_if t.block clip) (inner_stays t.block clip (content_stays t (inner_of t.block clip) s)))

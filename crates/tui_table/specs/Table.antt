@@ -46,7 +46,7 @@ table_data t = record {
   flex = t.flex;
 }
 
--- rows in columns of these widths, one column apart, and nothing else
+-- rows in columns of these widths, one column apart, with default settings
 abbrev pub table_of : List RowData → List Constraint → TableData
 table_of rows widths = record {
   rows = rows;

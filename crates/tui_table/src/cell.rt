@@ -16,7 +16,7 @@ pub struct Cell<'a> {
     pub(crate) column_span: u16,
 }
 
-// Written out, so that a crate above proves nothing of what it holds to let it go.
+// Written out, so that dependent crates have nothing to prove about its fields when they drop it.
 impl<'a> Drop for Cell<'a> {
     fn drop(self) {
         let Cell {
@@ -28,7 +28,7 @@ impl<'a> Drop for Cell<'a> {
 }
 
 impl<'a> Cell<'a> {
-    /// A cell of a text in one column, without a style of its own.
+    /// Creates a cell of this text in one column, without a style of its own.
     pub fn new(content: Text<'a>) -> Cell<'a>
         ensures { cell_data result ≡ cell_of (text_data content.entry) }
     {
@@ -39,7 +39,7 @@ impl<'a> Cell<'a> {
         }
     }
 
-    /// Puts this text in place of the old one.
+    /// Replaces the text.
     pub fn content(mut self, content: Text<'a>) -> Cell<'a>
         ensures { cell_data result ≡ record (cell_data self.entry) { content = text_data content.entry } }
     {
@@ -47,8 +47,8 @@ impl<'a> Cell<'a> {
         self
     }
 
-    /// Sets how many columns the cell takes. With 0 it takes none and is not drawn. In a header or a footer each cell takes
-    /// one, whatever its span.
+    /// Sets how many columns the cell takes. With 0 it takes none and is not drawn. In a header or a footer each cell
+    /// takes one, whatever its span.
     pub fn column_span(mut self, columns: u16) -> Cell<'a>
         ensures { cell_data result ≡ record (cell_data self.entry) { span = columns } }
     {
@@ -64,7 +64,7 @@ impl<'a> Cell<'a> {
         self
     }
 
-    /// An equal cell of its own. `NoMemory` where there is none for the text.
+    /// Returns an equal cell. Fails with `NoMemory` if there is no memory for the text.
     pub fn clone(&self) -> Mem<Cell<'a>>
         ensures is { IfOk result (λ cell. cell_data cell ≡ cell_data self.now) }
         ensures equal { IfOk result (λ cell. ⟦<Cell<'a> as PartialEq>⟧.eq cell self.now ≡ true) }

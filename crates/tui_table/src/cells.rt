@@ -17,7 +17,7 @@ use tui_cells::{Buffer, FARTHEST_EDGE, Mem, Rect, Style};
 use tui_layout::Segment;
 use tui_text::{Text, paint_rows};
 
-/// A style on an area, and a text over it.
+/// Sets a style on an area, and draws a text over it.
 #[tactic(auto, unfolding(crate::specs::Strokes::text_over))]
 pub(crate) fn paint_over(buf: &mut Buffer, area: Rect, style: Style, text: &Text<'_>) -> Mem<()>
     ensures ok { OnOk result (Painted (text_over area style (text_data text.now)) buf.old buf.new) }
@@ -27,7 +27,7 @@ pub(crate) fn paint_over(buf: &mut Buffer, area: Rect, style: Style, text: &Text
     paint_rows(buf, area, text)
 }
 
-/// The columns of the screen that some columns and the spacing between two take, cut at 65535.
+/// Returns the width of these columns with the spacing between them, in columns of the screen. At most 65535.
 fn width_over(columns: &[Segment], spacing: u16) -> u16
     requires { 0 < length columns.now }
     ensures { result ≡ min (sum_by (λ c. c.width) columns.now + spacing * (length columns.now - 1)) farthest_edge }
@@ -40,14 +40,15 @@ fn width_over(columns: &[Segment], spacing: u16) -> u16
     (width + between).min(FARTHEST_EDGE as u128) as u16
 }
 
-/// The part of an area from a column on, counted from behind the highlight symbol's.
+/// Returns the part of an area from column `start` on. `start` is counted from the end of the highlight symbol's
+/// columns.
 pub(crate) fn part_of(area: Rect, gutter: u16, start: u16, width: u16) -> Rect
     ensures { result ≡ columns_from area (gutter + start) width }
 {
     area.columns_from(gutter.saturating_add(start), width)
 }
 
-/// A cell in its columns: from the first of them, as wide as all of them and the spacing between.
+/// Draws a cell in its columns: from the first of them on, as wide as all of them with the spacing between them.
 fn paint_cell(
     buf: &mut Buffer,
     area: Rect,
@@ -66,7 +67,7 @@ fn paint_cell(
     paint_over(buf, part, cell.style, &cell.content)
 }
 
-/// How many columns a cell asks for: in a header or a footer one, whatever its span.
+/// Returns how many columns a cell takes: one in a header or a footer, else its span.
 fn span_in(kind: RowKind, cell: &Cell<'_>) -> u16
     ensures { result ≡ span_in kind (cell_data cell.now) }
 {
@@ -76,7 +77,7 @@ fn span_in(kind: RowKind, cell: &Cell<'_>) -> u16
     }
 }
 
-/// Cells in order, each in the next columns, as many as it asks for.
+/// Draws cells in order. Each takes as many of the next columns as it spans.
 pub(crate) fn paint_cells(
     buf: &mut Buffer,
     area: Rect,
@@ -99,7 +100,7 @@ pub(crate) fn paint_cells(
     Ok(())
 }
 
-/// The area of a row behind this many rows of another area.
+/// Returns the area of a row that comes after `from` rows of another area.
 pub(crate) fn area_in(rect: Rect, from: u128, row: &Row<'_>) -> Rect
     requires { from < 2 ^ 100 }
     ensures { result ≡ area_in rect from (row_data row.now) }

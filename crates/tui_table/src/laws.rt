@@ -1,11 +1,12 @@
-//! What holds of all tables.
+//! Laws of all tables.
 
-ghost use Rattle.tui_table.specs.Laws.{ColumnsAreInOrder, DrawingSettles, SelectedIsShown};
+ghost use Rattle.tui_table.specs.Laws.{ColumnsAreInOrder, RedrawIsIdempotent, SelectedIsShown};
 
-/// A selected row that fits, with its margins, between the header and the footer is shown whole. Drawn again in the same clip a
-/// table keeps its state and draws the same strokes. Its columns lie side by side behind the columns of the highlight symbol.
+/// Laws of every table. A selected row that fits between the header and the footer with its margins is shown in full.
+/// Drawn again in the same clip, a table keeps its state and draws the same strokes. Its columns are side by side,
+/// after the columns of the highlight symbol.
 pub fn table_laws()
     ensures shown { SelectedIsShown }
-    ensures again { DrawingSettles }
+    ensures again { RedrawIsIdempotent }
     ensures columns { ColumnsAreInOrder }
 {}

@@ -18,7 +18,7 @@ pub struct Row<'a> {
     pub(crate) style: Style,
 }
 
-// Written out, so that a crate above proves nothing of what it holds to let it go.
+// Written out, so that dependent crates have nothing to prove about its fields when they drop it.
 impl<'a> Drop for Row<'a> {
     fn drop(self) {
         let Row {
@@ -32,7 +32,7 @@ impl<'a> Drop for Row<'a> {
 }
 
 impl<'a> Row<'a> {
-    /// A row of these cells, one row of the screen high, without margins and a style of its own.
+    /// Creates a row of these cells, one row of the screen high, without margins or a style of its own.
     pub fn new(cells: Vec<Cell<'a>>) -> Row<'a>
         ensures { row_data result ≡ row_of (map cell_data cells.entry.items) }
     {
@@ -45,7 +45,7 @@ impl<'a> Row<'a> {
         }
     }
 
-    /// Puts these cells in place of the old ones.
+    /// Replaces the cells.
     pub fn cells(self, cells: Vec<Cell<'a>>) -> Row<'a>
         ensures { row_data result ≡ record (row_data self.entry) { cells = map cell_data cells.entry.items } }
     {
@@ -90,7 +90,7 @@ impl<'a> Row<'a> {
         row
     }
 
-    /// An equal row of its own. `NoMemory` where there is none for the cells.
+    /// Returns an equal row. Fails with `NoMemory` if there is no memory for the cells.
     pub fn clone(&self) -> Mem<Row<'a>>
         ensures is { IfOk result (λ row. row_data row ≡ row_data self.now) }
         ensures equal { IfOk result (λ row. ⟦<Row<'a> as PartialEq>⟧.eq row self.now ≡ true) }
@@ -102,12 +102,12 @@ impl<'a> Row<'a> {
         Ok(Row { cells, ..*self })
     }
 
-    /// The rows of the screen that it takes, both margins included.
+    /// Returns how many rows of the screen it takes, both margins included.
     pub(crate) fn outer_height(&self) -> u32
         ensures rows { result ≡ row_height (row_data self.now) }
         ensures small { result ≤ 3 * farthest_edge }
     {
-        // Each is read first: so its range is known where the sum is formed.
+        // Each is read first, so that its range is known where the sum is computed.
         let above = self.top_margin;
         let height = self.height;
         let below = self.bottom_margin;

@@ -1,4 +1,4 @@
-//! The rows of a table with what is known of all of them.
+//! The rows of a table, with what is computed from all of them.
 
 ghost use Rattle.std.specs.Prelude.{◌≡◌, ◌≤◌, IfOk, OnErr, OnOk, length, map, true};
 ghost use Rattle.std.specs.Cmp.Lexicographic.{lists_equiv, lists_per, pointwise};
@@ -17,16 +17,16 @@ use std::marker::Model;
 use tui_cells::Mem;
 use tui_layout::{Sums, Window, window_of};
 
-/// Rows, the sums of their heights, and the most cells of any of them. The last two follow from the rows, so they count neither in
-/// a comparison nor in a hash, and `Debug` leaves them out.
+/// Rows, the sums of their heights, and the greatest number of cells in a row. The last two follow from the rows, so
+/// `PartialEq`, `Hash` and `Debug` leave them out.
 #[derive(Drop)]
-pub struct Rows<'a> {
+pub struct TableRows<'a> {
     rows: Vec<Row<'a>>,
     heights: Sums,
     most: usize,
 }
 
-impl<'a> Model for Rows<'a> {
+impl<'a> Model for TableRows<'a> {
     ghost use Rattle.std.specs.Prelude.{◌≡◌, List, map};
     ghost use Rattle.tui_table.specs.Row.{heights_of, most_cells, row_data};
     ghost use Rattle.tui_table.specs.declared.row.Row.{Row};
@@ -38,21 +38,21 @@ impl<'a> Model for Rows<'a> {
     ghost invariant = { λ r. (r.heights ≡ heights_of (map row_data r.rows.items)) × (r.most ≡ most_cells (map row_data r.rows.items)) };
 }
 
-impl<'a> Rows<'a> {
-    /// These rows. `NoMemory` where there is none for the sums of their heights.
-    pub(crate) fn new(rows: Vec<Row<'a>>) -> Mem<Rows<'a>>
+impl<'a> TableRows<'a> {
+    /// Takes these rows. Fails with `NoMemory` if there is no memory for the sums of their heights.
+    pub(crate) fn new(rows: Vec<Row<'a>>) -> Mem<TableRows<'a>>
         ensures { IfOk result (λ kept. kept ≡ rows.entry.items) }
     {
         let heights = heights_of(&rows)?;
         let most = most_cells(&rows);
-        Ok(Rows {
+        Ok(TableRows {
             rows,
             heights,
             most,
         })
     }
 
-    /// Puts these rows in place of the old ones. At `NoMemory` the old ones stay.
+    /// Replaces the rows. If it fails with `NoMemory`, the old rows stay.
     pub(crate) fn replace(&mut self, rows: Vec<Row<'a>>) -> Mem<()>
         ensures ok { OnOk result (self.new ≡ rows.entry.items) }
         ensures err { OnErr result (self.new ≡ self.old) }
@@ -70,14 +70,14 @@ impl<'a> Rows<'a> {
         &self.rows
     }
 
-    /// The most cells of any row, 0 where there is none.
+    /// Returns the greatest number of cells in a row, or 0 if there are no rows.
     pub(crate) fn most_cells(&self) -> usize
         ensures { result ≡ most_cells (map row_data self.now) }
     {
         self.most
     }
 
-    /// The rows that are shown in this many rows of the screen.
+    /// Returns the rows that are shown in `room` rows of the screen.
     pub(crate) fn window(&self, room: u16, offset: usize, selected: Option<usize>) -> Window
         ensures found { result ≡ window_of (heights_of (map row_data self.now)) room offset selected 0 }
         ensures order { (result.first ≤ result.end) × (result.end ≤ length self.now) }
@@ -92,16 +92,16 @@ impl<'a> Rows<'a> {
         )
     }
 
-    /// Equal rows of their own. `NoMemory` where there is none for them.
-    pub(crate) fn clone(&self) -> Mem<Rows<'a>>
+    /// Returns equal rows. Fails with `NoMemory` if there is no memory for them.
+    pub(crate) fn clone(&self) -> Mem<TableRows<'a>>
         ensures is { IfOk result (λ rows. map row_data rows ≡ map row_data self.now) }
-        ensures equal { IfOk result (λ rows. ⟦<Rows<'a> as PartialEq>⟧.eq rows self.now ≡ true) }
+        ensures equal { IfOk result (λ rows. ⟦<TableRows<'a> as PartialEq>⟧.eq rows self.now ≡ true) }
     {
         let mut rows = Vec::with_capacity(*self.rows.allocator(), self.rows.len())?;
         for row in &self.rows {
             rows.push(row.clone()?)?;
         }
-        Rows::new(rows)
+        TableRows::new(rows)
     }
 }
 
@@ -125,21 +125,21 @@ fn most_cells(rows: &[Row<'_>]) -> usize
     most
 }
 
-impl<'a> PartialEq for Rows<'a> {
+impl<'a> PartialEq for TableRows<'a> {
     ghost eq = { pointwise ⟦<Row<'a> as PartialEq>⟧.eq };
 
     ghost laws = { lists_per rows_agree.laws-law };
 
-    fn eq(&self, other: &Rows<'a>) -> bool {
+    fn eq(&self, other: &TableRows<'a>) -> bool {
         self.rows == other.rows
     }
 }
 
-impl<'a> Eq for Rows<'a> {
+impl<'a> Eq for TableRows<'a> {
     ghost laws = { lists_equiv rows_equal.laws-law };
 }
 
-impl<'a> Hash for Rows<'a> {
+impl<'a> Hash for TableRows<'a> {
     ghost hash_input = { fed.slice ⟦<Row<'a> as Hash>⟧.hash_input };
 
     ghost respects_eq = { (items_Alike (record { fed = rows_hash.respects_eq-law })).fed };
@@ -149,7 +149,7 @@ impl<'a> Hash for Rows<'a> {
     }
 }
 
-impl<'a> fmt::Debug for Rows<'a> {
+impl<'a> fmt::Debug for TableRows<'a> {
     fn fmt<W: fmt::Write>(&self, f: &mut fmt::Formatter<W>) -> fmt::Result {
         self.rows.fmt(f)
     }

@@ -4,15 +4,15 @@ ghost use Rattle.std.specs.Prelude.{◌≡◌, ◌↔◌, ℕ, Err, IfOk, OnErr,
 ghost use Rattle.tui_frames.specs.Block.{block_data};
 ghost use Rattle.tui_table.specs.Row.{row_data};
 ghost use Rattle.tui_table.specs.Table.{table_data, table_of};
-ghost use Rattle.tui_table.specs.Widths.{first_above};
+ghost use Rattle.tui_table.specs.Widths.{first_above_100};
 ghost use Rattle.tui_text.specs.Text.{text_data};
 
 mod areas;
 mod rendering;
 
 use crate::row::Row;
-use crate::rows::Rows;
-use crate::widths::{checked, clone_widths};
+use crate::rows::TableRows;
+use crate::widths::{check_widths, clone_widths};
 use crate::widths_error::WidthsError;
 use std::alloc::Global;
 use std::mem;
@@ -21,10 +21,10 @@ use tui_frames::{Block, clone_if_some};
 use tui_layout::{Constraint, Flex, HighlightSpacing};
 use tui_text::Text;
 
-/// Rows of cells in columns, with a header above and a footer below. A row and a column may be selected.
+/// Rows of cells in columns, which may have a header above and a footer below. A row and a column may be selected.
 #[derive(Debug, PartialEq, Eq, Hash)]
 pub struct Table<'a> {
-    rows: Rows<'a>,
+    rows: TableRows<'a>,
     header: Option<Row<'a>>,
     footer: Option<Row<'a>>,
     block: Option<Block<'a>>,
@@ -39,7 +39,7 @@ pub struct Table<'a> {
     flex: Flex,
 }
 
-// Written out, so that a crate above proves nothing of what it holds to let it go.
+// Written out, so that dependent crates have nothing to prove about its fields when they drop it.
 impl<'a> Drop for Table<'a> {
     fn drop(self) {
         let Table {
@@ -61,21 +61,22 @@ impl<'a> Drop for Table<'a> {
 }
 
 impl<'a> Table<'a> {
-    /// A table of these rows. Its columns have these widths, or are all alike where there are none, and are one column of the
-    /// screen apart. It has no header, footer, block, styles and highlight symbol.
+    /// Creates a table of these rows. Its columns have these widths, or equal widths if `widths` is empty, and are one
+    /// column of the screen apart. It has no header, footer, block, styles or highlight symbol.
     ///
-    /// `PercentageAbove100` comes exactly where a width is a percentage above 100, with the first such place, before memory is
-    /// asked for. `NoMemory` where there is none for what is known of the rows.
+    /// Fails with `PercentageAbove100` exactly if a width is a percentage above 100, and reports the first such width.
+    /// This is checked before anything is allocated. Fails with `NoMemory` if there is no memory for what is computed
+    /// from the rows.
     pub fn new(
         alloc: Global,
         rows: Vec<Row<'a>>,
         widths: Vec<Constraint>,
     ) -> Result<Table<'a>, WidthsError>
         ensures ok { IfOk result (λ table. table_data table ≡ table_of (map row_data rows.entry.items) widths.items) }
-        ensures refused { (index : ℕ) → (result ≡ Err (WidthsError.PercentageAbove100 index)) ↔ (first_above widths.items ≡ Some index) }
+        ensures rejected { (index : ℕ) → (result ≡ Err (WidthsError.PercentageAbove100 index)) ↔ (first_above_100 widths.items ≡ Some index) }
     {
-        checked(&widths)?;
-        let rows = Rows::new(rows)?;
+        check_widths(&widths)?;
+        let rows = TableRows::new(rows)?;
         Ok(Table {
             rows,
             header: None,
@@ -93,7 +94,7 @@ impl<'a> Table<'a> {
         })
     }
 
-    /// Puts these rows in place of the old ones. At `NoMemory` the table is as before, and the new rows are gone.
+    /// Replaces the rows. If it fails with `NoMemory`, the table is unchanged and the new rows are dropped.
     pub fn rows(&mut self, rows: Vec<Row<'a>>) -> Mem<()>
         ensures ok { OnOk result (table_data self.new ≡ record (table_data self.old) { rows = map row_data rows.entry.items }) }
         ensures err { OnErr result (table_data self.new ≡ table_data self.old) }
@@ -101,20 +102,21 @@ impl<'a> Table<'a> {
         self.rows.replace(rows)
     }
 
-    /// Puts these widths of columns in place of the old ones. It takes no memory. `PercentageAbove100` comes exactly where a
-    /// width is a percentage above 100, with the first such place; then the table is as before, and the new widths are gone.
+    /// Replaces the widths of the columns. Does not allocate. Fails with `PercentageAbove100` exactly if a width is a
+    /// percentage above 100, and reports the first such width. Then the table is unchanged and the new widths are
+    /// dropped.
     pub fn widths(&mut self, widths: Vec<Constraint>) -> Result<(), WidthsError>
         ensures ok { OnOk result (table_data self.new ≡ record (table_data self.old) { widths = widths.items }) }
-        ensures refused { (index : ℕ) → (result ≡ Err (WidthsError.PercentageAbove100 index)) ↔ (first_above widths.items ≡ Some index) }
+        ensures rejected { (index : ℕ) → (result ≡ Err (WidthsError.PercentageAbove100 index)) ↔ (first_above_100 widths.items ≡ Some index) }
         ensures err { OnErr result (table_data self.new ≡ table_data self.old) }
         ensures memory { result ≡ Err WidthsError.NoMemory → ⊥ }
     {
-        checked(&widths)?;
+        check_widths(&widths)?;
         self.widths = widths;
         Ok(())
     }
 
-    /// Sets the row above the rows, whose cells have a column each.
+    /// Sets the row above the rows. Each of its cells takes one column.
     pub fn header(mut self, header: Row<'a>) -> Table<'a>
         ensures { table_data result ≡ record (table_data self.entry) { header = Some (row_data header.entry) } }
     {
@@ -122,7 +124,7 @@ impl<'a> Table<'a> {
         self
     }
 
-    /// Sets the row below the rows, whose cells have a column each.
+    /// Sets the row below the rows. Each of its cells takes one column.
     pub fn footer(mut self, footer: Row<'a>) -> Table<'a>
         ensures { table_data result ≡ record (table_data self.entry) { footer = Some (row_data footer.entry) } }
     {
@@ -138,7 +140,7 @@ impl<'a> Table<'a> {
         self
     }
 
-    /// Puts a block around the table, which then has the area inside.
+    /// Surrounds the table with a block. The table is drawn inside it.
     pub fn block(mut self, block: Block<'a>) -> Table<'a>
         ensures { table_data result ≡ record (table_data self.entry) { block = Some (block_data block.entry) } }
     {
@@ -146,7 +148,7 @@ impl<'a> Table<'a> {
         self
     }
 
-    /// Sets the style under all.
+    /// Sets the base style of the whole table.
     pub fn style(mut self, style: Style) -> Table<'a>
         ensures { table_data result ≡ record (table_data self.entry) { style = style } }
     {
@@ -154,14 +156,14 @@ impl<'a> Table<'a> {
         self
     }
 
-    /// Sets the style over the selected row, as `row_highlight_style` does.
+    /// Sets the style that is drawn over the selected row, as `row_highlight_style` does.
     pub fn highlight_style(self, style: Style) -> Table<'a>
         ensures { table_data result ≡ record (table_data self.entry) { row_style = style } }
     {
         self.row_highlight_style(style)
     }
 
-    /// Sets the style over the selected row.
+    /// Sets the style that is drawn over the selected row.
     pub fn row_highlight_style(mut self, style: Style) -> Table<'a>
         ensures { table_data result ≡ record (table_data self.entry) { row_style = style } }
     {
@@ -169,7 +171,7 @@ impl<'a> Table<'a> {
         self
     }
 
-    /// Sets the style over the selected column.
+    /// Sets the style that is drawn over the selected column.
     pub fn column_highlight_style(mut self, style: Style) -> Table<'a>
         ensures { table_data result ≡ record (table_data self.entry) { column_style = style } }
     {
@@ -177,7 +179,7 @@ impl<'a> Table<'a> {
         self
     }
 
-    /// Sets the style over the cell where the selected row and the selected column meet.
+    /// Sets the style that is drawn over the cell where the selected row and the selected column meet.
     pub fn cell_highlight_style(mut self, style: Style) -> Table<'a>
         ensures { table_data result ≡ record (table_data self.entry) { cell_style = style } }
     {
@@ -193,7 +195,7 @@ impl<'a> Table<'a> {
         self
     }
 
-    /// Sets when columns of the screen are kept for the highlight symbol.
+    /// Sets when columns of the screen are reserved for the highlight symbol.
     pub fn highlight_spacing(mut self, spacing: HighlightSpacing) -> Table<'a>
         ensures { table_data result ≡ record (table_data self.entry) { symbol_spacing = spacing } }
     {
@@ -201,7 +203,7 @@ impl<'a> Table<'a> {
         self
     }
 
-    /// Sets where columns stand that leave a rest of the width.
+    /// Sets where the columns are placed if they don't fill the width.
     pub fn flex(mut self, flex: Flex) -> Table<'a>
         ensures { table_data result ≡ record (table_data self.entry) { flex = flex } }
     {
@@ -209,7 +211,7 @@ impl<'a> Table<'a> {
         self
     }
 
-    /// An equal table of its own. `NoMemory` where there is none for what it holds.
+    /// Returns an equal table. Fails with `NoMemory` if there is no memory for what it holds.
     pub fn clone(&self) -> Mem<Table<'a>>
         ensures is { IfOk result (λ table. table_data table ≡ table_data self.now) }
         ensures equal { IfOk result (λ table. ⟦<Table<'a> as PartialEq>⟧.eq table self.now ≡ true) }
@@ -226,7 +228,7 @@ impl<'a> Table<'a> {
     }
 }
 
-/// A row that a table may have, once more.
+/// Returns an equal row, if there is a row.
 fn clone_row_if_some<'a>(row: &Option<Row<'a>>) -> Mem<Option<Row<'a>>>
     ensures is { IfOk result (λ copy. option_map row_data copy ≡ option_map row_data row.now) }
     ensures equal { IfOk result (λ copy. ⟦<Option<Row<'a>> as PartialEq>⟧.eq copy row.now ≡ true) }

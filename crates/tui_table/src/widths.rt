@@ -1,15 +1,15 @@
-//! Widths that a table takes.
+//! Checks the widths of columns.
 
 ghost use Rattle.std.specs.Prelude.{◌≡◌, ℕ, IfErr, IfOk, None, OnOk, Some};
-ghost use Rattle.tui_table.specs.Widths.{first_above, is_above};
+ghost use Rattle.tui_table.specs.Widths.{first_above_100, is_above_100};
 
 use crate::widths_error::WidthsError;
 use tui_cells::Mem;
 use tui_layout::Constraint;
 
-/// Whether it is a percentage above 100.
-fn is_above(width: Constraint) -> bool
-    ensures { result ≡ is_above width }
+/// Whether the width is a percentage above 100.
+fn is_above_100(width: Constraint) -> bool
+    ensures { result ≡ is_above_100 width }
 {
     match width {
         Constraint::Percentage(percent) => percent > 100,
@@ -17,30 +17,30 @@ fn is_above(width: Constraint) -> bool
     }
 }
 
-/// The first place, from 0, with a percentage above 100.
-pub(crate) fn first_above(widths: &[Constraint]) -> Option<usize>
-    ensures { result ≡ first_above widths.now }
+/// Returns the index, from 0, of the first width that is a percentage above 100.
+pub(crate) fn first_above_100(widths: &[Constraint]) -> Option<usize>
+    ensures { result ≡ first_above_100 widths.now }
 {
     'widths: for i in 0..widths.len() {
-        if is_above(widths[i]) {
+        if is_above_100(widths[i]) {
             return Some(i);
         }
     }
     None
 }
 
-/// Refuses widths with a percentage above 100, and names the first such place.
-pub(crate) fn checked(widths: &[Constraint]) -> Result<(), WidthsError>
-    ensures ok { OnOk result (first_above widths.now ≡ None) }
-    ensures err { IfErr result (λ e. (index : ℕ) × (e ≡ WidthsError.PercentageAbove100 index) × (first_above widths.now ≡ Some index)) }
+/// Fails with `PercentageAbove100` if a width is a percentage above 100, and reports the first such width.
+pub(crate) fn check_widths(widths: &[Constraint]) -> Result<(), WidthsError>
+    ensures ok { OnOk result (first_above_100 widths.now ≡ None) }
+    ensures err { IfErr result (λ e. (index : ℕ) × (e ≡ WidthsError.PercentageAbove100 index) × (first_above_100 widths.now ≡ Some index)) }
 {
-    match first_above(widths) {
+    match first_above_100(widths) {
         None => Ok(()),
         Some(index) => Err(WidthsError::PercentageAbove100 { index }),
     }
 }
 
-/// The same widths once more. `NoMemory` where there is none for them.
+/// Returns the same widths. Fails with `NoMemory` if there is no memory for them.
 pub(crate) fn clone_widths(widths: &Vec<Constraint>) -> Mem<Vec<Constraint>>
     ensures { IfOk result (λ copy. copy.items ≡ widths.now.items) }
 {

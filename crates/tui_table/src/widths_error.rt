@@ -1,15 +1,15 @@
-//! Why widths of columns are refused.
+//! Why widths of columns are rejected.
 
 use thiserror::Error;
 use tui_cells::NoMemory;
 
-/// Why a table does not take the widths of its columns.
+/// Why a table rejects the widths of its columns.
 #[derive(Clone, Copy, Debug, PartialEq, Eq, Error)]
 pub enum WidthsError {
-    /// A percentage is above 100; `index` is the first such place, from 0.
+    /// A width is a percentage above 100. `index` is the first such width, from 0.
     #[error("PercentageAbove100")]
     PercentageAbove100 { index: usize },
-    /// The memory that the table takes was not there.
+    /// There was no memory for the table.
     #[error("NoMemory")]
     NoMemory,
 }

@@ -1,4 +1,4 @@
--- The bytes of what is added to a pen, part by part.
+-- The bytes that add to a pen, part by part.
 use Rattle.std.proofs.Common.{◌≡◌, ℕ, ◌+◌, Bool, true, false, ◌&&◌, List, [], ◌∷◌, ◌++◌, flat_map, refl, sym, ap, ◌∙◌, append_assoc, arith}
 use Rattle.std.specs.Prelude.{codes, decimal, if◌then◌else◌}
 use Rattle.std.proofs.lemmas.List.{append-nil}
@@ -6,14 +6,14 @@ use Rattle.std.proofs.lemmas.Grind.{flat_map-append}
 use Rattle.std.proofs.lemmas.List.Concat.{flat_map-cons}
 use Rattle.std.proofs.lemmas.Bool.{cond-true, cond-false}
 use Rattle.std.proofs.lemmas.Bool.Decides.{nat_tests}
-use Rattle.tui_tty.specs.Pens.{add_all}
-use Rattle.tui_tty.specs.Spelling.{csi, next_setting_text, setting_text, spelling}
-use Rattle.tui_tty.specs.Terminal.{Command, Setting, add, mark}
+use Rattle.tui_terminal_model.specs.Pens.{add_all}
+use Rattle.tui_terminal_model.specs.Encoding.{csi, next_setting_text, setting_text, encoding}
+use Rattle.tui_terminal_model.specs.Terminal.{Command, Setting, add, mark}
 use Rattle.tui_terminal.specs.Adding.{begun_after, end_text, lead, settings_text}
 use Rattle.tui_terminal.specs.Marks.{mark_if}
 use Rattle.tui_terminal.proofs.Texts.{one_text}
 
--- a setting behind others, and those behind it
+-- a setting after others, and those after it
 next_text : (s : Setting) (ss : List Setting) → codes ";" ++ (setting_text s ++ flat_map next_setting_text ss) ≡ flat_map next_setting_text (s ∷ ss)
 next_text s ss = sym (flat_map-cons next_setting_text s ss ∙ append_assoc (codes ";") (setting_text s) (flat_map next_setting_text ss))
 
@@ -22,17 +22,17 @@ settings_more b [] ys = refl
 settings_more b (x ∷ xs) [] = append-nil (settings_text b (x ∷ xs)) ∙ ap (settings_text b) (sym (append-nil (x ∷ xs)))
 settings_more b (x ∷ xs) (y ∷ ys) =
     let f = flat_map next_setting_text in
-    let behind : f xs ++ (codes ";" ++ (setting_text y ++ f ys)) ≡ f (xs ++ y ∷ ys) =
+    let following : f xs ++ (codes ";" ++ (setting_text y ++ f ys)) ≡ f (xs ++ y ∷ ys) =
     ap (λ (l : List ℕ). f xs ++ l) (next_text y ys) ∙ sym (flat_map-append next_setting_text xs (y ∷ ys)) in
     append_assoc (lead b) (setting_text x ++ f xs) _
-    ∙ ap (λ (l : List ℕ). lead b ++ l) (append_assoc (setting_text x) (f xs) _ ∙ ap (λ (l : List ℕ). setting_text x ++ l) behind)
+    ∙ ap (λ (l : List ℕ). lead b ++ l) (append_assoc (setting_text x) (f xs) _ ∙ ap (λ (l : List ℕ). setting_text x ++ l) following)
 
 begun_more : (b : Bool) (xs ys : List Setting) → begun_after (begun_after b xs) ys ≡ begun_after b (xs ++ ys)
 begun_more b [] ys = refl
 begun_more b (x ∷ xs) [] = refl
 begun_more b (x ∷ xs) (y ∷ ys) = refl
 
--- a part, and the parts behind it
+-- a part, and the parts after it
 pub part_text : (b c : Bool) (xs ys : List Setting) (text : List ℕ) → c ≡ begun_after b xs → text ≡ settings_text c ys → settings_text b xs ++ text ≡ settings_text b (xs ++ ys)
 part_text b c xs ys text eb et =
     ap (λ (l : List ℕ). settings_text b xs ++ l) (et ∙ ap (λ (k : Bool). settings_text k ys) eb) ∙ settings_more b xs ys
@@ -41,14 +41,14 @@ pub part_begun : (b c d : Bool) (xs ys : List Setting) → c ≡ begun_after b x
 part_begun b c d xs ys ec ed = ed ∙ (ap (λ (k : Bool). begun_after k ys) ec ∙ begun_more b xs ys)
 
 -- a whole sequence
-pub sequence_text : (ss : List Setting) (b : Bool) → b ≡ begun_after false ss → settings_text false ss ++ end_text b ≡ flat_map spelling (add_all ss)
-unfolding spelling
+pub sequence_text : (ss : List Setting) (b : Bool) → b ≡ begun_after false ss → settings_text false ss ++ end_text b ≡ flat_map encoding (add_all ss)
+unfolding encoding
 sequence_text [] b e = ap end_text e
 sequence_text (s ∷ ss) b e =
     let f = flat_map next_setting_text ss in
     ap (λ (k : Bool). settings_text false (s ∷ ss) ++ end_text k) e
     ∙ (append_assoc csi (setting_text s ++ f) (codes "m")
-    ∙ (ap (λ (l : List ℕ). csi ++ l) (append_assoc (setting_text s) f (codes "m")) ∙ sym (one_text spelling (add s ss))))
+    ∙ (ap (λ (l : List ℕ). csi ++ l) (append_assoc (setting_text s) f (codes "m")) ∙ sym (one_text encoding (add s ss))))
 
 -- ---- one setting, or none
 
@@ -65,7 +65,7 @@ mark_none begun k b e = sym (ap (settings_text begun) (cond-false b (mark k ∷ 
 pub mark_not_begun : (begun : Bool) (k : ℕ) (b : Bool) → b ≡ false → begun ≡ begun_after begun (mark_if k b)
 mark_not_begun begun k b e = sym (ap (begun_after begun) (cond-false b (mark k ∷ []) [] e))
 
--- a colour that is another one, in front or behind
+-- a colour that differs, foreground or background
 pub color_text : (begun same : Bool) (s : Setting) (text : List ℕ) → text ≡ setting_text s → same ≡ false →
     lead begun ++ text ≡ settings_text begun (if same then [] else s ∷ [])
 color_text begun same s text is e =
@@ -93,23 +93,23 @@ dropped_text begun b ss e = sym (ap (settings_text begun) (cond-false b ss [] e)
 pub dropped_begun : (begun b : Bool) (ss : List Setting) → b ≡ false → begun ≡ begun_after begun (if b then ss else [])
 dropped_begun begun b ss e = sym (ap (begun_after begun) (cond-false b ss [] e))
 
--- ---- what is added to a pen
+-- ---- all that is added to a pen
 
-pub added_text : (ms fs bs : List Setting) (b c d : Bool) (behind : List Command) → b ≡ begun_after false ms → c ≡ begun_after b fs → d ≡ begun_after c bs →
-    settings_text false ms ++ (settings_text b fs ++ (settings_text c bs ++ (end_text d ++ flat_map spelling behind))) ≡ flat_map spelling (add_all (ms ++ (fs ++ bs)) ++ behind)
-added_text ms fs bs b c d behind eb ec ed =
-    let rest = end_text d ++ flat_map spelling behind in
+pub added_text : (ms fs bs : List Setting) (b c d : Bool) (following : List Command) → b ≡ begun_after false ms → c ≡ begun_after b fs → d ≡ begun_after c bs →
+    settings_text false ms ++ (settings_text b fs ++ (settings_text c bs ++ (end_text d ++ flat_map encoding following))) ≡ flat_map encoding (add_all (ms ++ (fs ++ bs)) ++ following)
+added_text ms fs bs b c d following eb ec ed =
+    let rest = end_text d ++ flat_map encoding following in
     let colors : settings_text b fs ++ settings_text c bs ≡ settings_text b (fs ++ bs) = part_text b c fs bs (settings_text c bs) ec refl in
     let all : settings_text false ms ++ settings_text b (fs ++ bs) ≡ settings_text false (ms ++ (fs ++ bs)) = part_text false b ms (fs ++ bs) _ eb refl in
     let begun : d ≡ begun_after false (ms ++ (fs ++ bs)) = part_begun false b d ms (fs ++ bs) eb (part_begun b c d fs bs ec ed) in
     ap (λ (l : List ℕ). settings_text false ms ++ l) (sym (append_assoc (settings_text b fs) (settings_text c bs) rest) ∙ ap (λ (l : List ℕ). l ++ rest) colors)
     ∙ (sym (append_assoc (settings_text false ms) (settings_text b (fs ++ bs)) rest)
     ∙ (ap (λ (l : List ℕ). l ++ rest) all
-    ∙ (sym (append_assoc (settings_text false (ms ++ (fs ++ bs))) (end_text d) (flat_map spelling behind))
-    ∙ (ap (λ (l : List ℕ). l ++ flat_map spelling behind) (sequence_text (ms ++ (fs ++ bs)) d begun)
-    ∙ sym (flat_map-append spelling (add_all (ms ++ (fs ++ bs))) behind)))))
+    ∙ (sym (append_assoc (settings_text false (ms ++ (fs ++ bs))) (end_text d) (flat_map encoding following))
+    ∙ (ap (λ (l : List ℕ). l ++ flat_map encoding following) (sequence_text (ms ++ (fs ++ bs)) d begun)
+    ∙ sym (flat_map-append encoding (add_all (ms ++ (fs ++ bs))) following)))))
 
--- nine marks, each of which stays
+-- nine marks, all of which stay
 pub nine_stay : (a b c d e f g h k : Bool) →
     (((((((a && b) && c) && d) && e) && f) && g) && h) && k ≡ (a && (b && (c && (d && (e && (f && (g && (h && (k && true)))))))))
 nine_stay a b c d e f g h k = grind (arith, nat_tests)

@@ -1,4 +1,4 @@
-mod AtBehind
+mod AtReached
 mod Bytes
 mod EqualEnds
 mod FitRows
@@ -13,6 +13,6 @@ mod SameRows
 mod Styling
 mod SymbolLemmas
 mod Texts
-mod TrustedRows
+mod KnownWidthRows
 mod Walking
 pub mod AddedTexts

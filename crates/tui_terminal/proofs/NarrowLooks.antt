@@ -1,4 +1,4 @@
--- Symbols of one column that a terminal is trusted with.
+-- Symbols of known width that take one column.
 use Rattle.std.proofs.Common.{◌≡◌, ℕ, ◌+◌, ◌-◌, ◌*◌, ◌<◌, ◌≤◌, ◌==◌, min, Bool, true, false, ◌&&◌, List, [], ◌∷◌, inl, inr, refl, sym, ap, ◌∙◌, arith}
 use Rattle.std.specs.Prelude.{nat_le, Some}
 use Rattle.std.specs.List.{list_all}
@@ -6,17 +6,17 @@ use Rattle.std.proofs.lemmas.Bool.{and_from, and_parts, or_cases, true≢false}
 use Rattle.std.proofs.lemmas.Bool.Decides.{nat_tests}
 use Rattle.tui_cells.specs.Cell.{Look}
 use Rattle.tui_text.specs.Visible.{step_of}
-use Rattle.tui_tty.specs.declared.trust.Trust.{Trust}
-use Rattle.tui_tty.specs.declared.trust.Trust.TheVariants.{Common, Ascii}
-use Rattle.tui_tty.specs.Pieces.{next_cover, shown, uncovered}
-use Rattle.tui_tty.specs.Symbols.{Range, is_among, is_ascii, is_common, is_quiet, is_quiet_byte, is_sendable, is_tail, is_trusted, three_byte_trusted, two_byte_trusted}
-use Rattle.tui_tty_laws.proofs.Seen.{seen_true}
+use Rattle.tui_terminal_model.specs.declared.widths.KnownWidths.{KnownWidths}
+use Rattle.tui_terminal_model.specs.declared.widths.KnownWidths.TheVariants.{Common, Ascii}
+use Rattle.tui_terminal_model.specs.Pieces.{next_cover, shown, uncovered}
+use Rattle.tui_terminal_model.specs.Symbols.{Range, is_among, is_ascii, is_common, is_quiet, is_quiet_byte, is_sendable, is_tail, has_known_width, three_byte_ranges, two_byte_ranges}
+use Rattle.tui_terminal_laws.proofs.Seen.{seen_true}
 use Rattle.tui_terminal.specs.Narrow.{is_narrow}
-use Rattle.tui_terminal.proofs.Looks.{ascii_quiet, byte_steps, byte_trusted, cover_as_it_is, next_open, shown_open, trusted_sendable}
+use Rattle.tui_terminal.proofs.Looks.{ascii_quiet, byte_steps, byte_known_width, cover_as_it_is, next_open, shown_open, known_width_sendable}
 
--- ---- a trusted symbol holds no control character
+-- ---- a symbol of known width holds no control character
 
--- a number among ranges that begin at another one or above
+-- a number within ranges that all begin at or above another number
 above : (m : ℕ) (rs : List Range) (c : ℕ) → list_all (λ (r : Range). nat_le m r.from) rs ≡ true → is_among rs c ≡ true → m ≤ c
 above m [] c begins among = absurd (true≢false (sym among))
 above m (r ∷ rs) c begins among =
@@ -39,14 +39,14 @@ tail_high b e = let both = and_parts (nat_le 0x80 b) (nat_le b 0xBF) e in let lo
 at_least : (m n : ℕ) → nat_le m n ≡ true → m ≤ n
 at_least m n e = grind (arith, nat_tests)
 
-two_quiet : (a b : ℕ) → ((is_tail b && nat_le 0xC0 a) && is_among two_byte_trusted (64 * (a - 0xC0) + (b - 0x80))) ≡ true → is_quiet (a ∷ b ∷ []) ≡ true
+two_quiet : (a b : ℕ) → ((is_tail b && nat_le 0xC0 a) && is_among two_byte_ranges (64 * (a - 0xC0) + (b - 0x80))) ≡ true → is_quiet (a ∷ b ∷ []) ≡ true
 unfolding is_quiet
 two_quiet a b e =
-    let both = and_parts (is_tail b && nat_le 0xC0 a) (is_among two_byte_trusted (64 * (a - 0xC0) + (b - 0x80))) e in
+    let both = and_parts (is_tail b && nat_le 0xC0 a) (is_among two_byte_ranges (64 * (a - 0xC0) + (b - 0x80))) e in
     let first = and_parts (is_tail b) (nat_le 0xC0 a) both.0 in
     let tail = tail_high b first.0 in
     let lead = at_least 0xC0 a first.1 in
-    let code = above 0xA1 two_byte_trusted (64 * (a - 0xC0) + (b - 0x80)) refl both.1 in
+    let code = above 0xA1 two_byte_ranges (64 * (a - 0xC0) + (b - 0x80)) refl both.1 in
     and_from (is_quiet_byte false a) _ (high_quiet false a (omega (arith, lead)) (λ on. absurd (true≢false (sym on))))
     (and_from (is_quiet_byte (a == 0xC2) b) true (high_quiet (a == 0xC2) b tail.0 (λ on. let is = is_number a 0xC2 on in omega (arith, code, is, tail.0))) refl)
 
@@ -67,34 +67,34 @@ unfolding is_ascii is_common
 common_quiet [] e = absurd (true≢false (sym e))
 common_quiet (a ∷ []) e = ascii_quiet (a ∷ []) e
 common_quiet (a ∷ b ∷ []) e = two_quiet a b e
-common_quiet (a ∷ b ∷ c ∷ []) e = three_quiet a b c (and_parts ((is_tail b && is_tail c) && nat_le 0xE0 a) (is_among three_byte_trusted (4096 * (a - 0xE0) + (64 * (b - 0x80) + (c - 0x80)))) e).0
+common_quiet (a ∷ b ∷ c ∷ []) e = three_quiet a b c (and_parts ((is_tail b && is_tail c) && nat_le 0xE0 a) (is_among three_byte_ranges (4096 * (a - 0xE0) + (64 * (b - 0x80) + (c - 0x80)))) e).0
 common_quiet (a ∷ b ∷ c ∷ d ∷ s) e = absurd (true≢false (sym e))
 
-pub trusted_quiet : (trust : Trust) (s : List ℕ) → is_trusted trust s ≡ true → is_quiet s ≡ true
-trusted_quiet Common s e = common_quiet s e
-trusted_quiet Ascii s e = ascii_quiet s e
+pub known_width_quiet : (widths : KnownWidths) (s : List ℕ) → has_known_width widths s ≡ true → is_quiet s ≡ true
+known_width_quiet Common s e = common_quiet s e
+known_width_quiet Ascii s e = ascii_quiet s e
 
--- ---- one of one column
+-- ---- symbols of one column
 
-pub narrow_trusted : (trust : Trust) (s : List ℕ) → is_narrow trust s ≡ true → is_trusted trust s ≡ true
-narrow_trusted trust s e = (and_parts (is_trusted trust s) (step_of s == 1) e).0
+pub narrow_known_width : (widths : KnownWidths) (s : List ℕ) → is_narrow widths s ≡ true → has_known_width widths s ≡ true
+narrow_known_width widths s e = (and_parts (has_known_width widths s) (step_of s == 1) e).0
 
-pub narrow_steps : (trust : Trust) (s : List ℕ) → is_narrow trust s ≡ true → step_of s ≡ 1
-narrow_steps trust s e = is_number (step_of s) 1 (and_parts (is_trusted trust s) (step_of s == 1) e).1
+pub narrow_steps : (widths : KnownWidths) (s : List ℕ) → is_narrow widths s ≡ true → step_of s ≡ 1
+narrow_steps widths s e = is_number (step_of s) 1 (and_parts (has_known_width widths s) (step_of s == 1) e).1
 
--- as a printable byte is
-pub byte_narrow : (trust : Trust) (s : List ℕ) → is_ascii s ≡ true → is_narrow trust s ≡ true
-byte_narrow trust s e = and_from (is_trusted trust s) (step_of s == 1) (byte_trusted trust s e) (ap (λ (n : ℕ). n == 1) (byte_steps s e))
+-- a printable byte is such a symbol
+pub byte_narrow : (widths : KnownWidths) (s : List ℕ) → is_ascii s ≡ true → is_narrow widths s ≡ true
+byte_narrow widths s e = and_from (has_known_width widths s) (step_of s == 1) (byte_known_width widths s e) (ap (λ (n : ℕ). n == 1) (byte_steps s e))
 
-narrow_sendable : (trust : Trust) (room : ℕ) (s : List ℕ) → 0 < room → is_narrow trust s ≡ true → is_sendable trust room s ≡ true
-narrow_sendable trust room s some e = let sure = narrow_trusted trust s e in let step = narrow_steps trust s e in trusted_sendable trust room s sure (trusted_quiet trust s sure) (omega (arith, some, step))
+narrow_sendable : (widths : KnownWidths) (room : ℕ) (s : List ℕ) → 0 < room → is_narrow widths s ≡ true → is_sendable widths room s ≡ true
+narrow_sendable widths room s some e = let sure = narrow_known_width widths s e in let step = narrow_steps widths s e in known_width_sendable widths room s sure (known_width_quiet widths s sure) (omega (arith, some, step))
 
--- a cell with it, where the cells lie under none
-pub narrow_seen : (trust : Trust) (room : ℕ) (c : Look) → 0 < room → is_narrow trust c.symbol ≡ true → shown trust uncovered room c ≡ Some c
-narrow_seen trust room c some e = sym (shown_open trust uncovered room c refl) ∙ ap Some (seen_true trust room c (narrow_sendable trust room c.symbol some e))
+-- a cell with such a symbol, if nothing covers it
+pub narrow_seen : (widths : KnownWidths) (room : ℕ) (c : Look) → 0 < room → is_narrow widths c.symbol ≡ true → shown widths uncovered room c ≡ Some c
+narrow_seen widths room c some e = sym (shown_open widths uncovered room c refl) ∙ ap Some (seen_true widths room c (narrow_sendable widths room c.symbol some e))
 
-pub narrow_next : (trust : Trust) (room : ℕ) (c : Look) → 0 < room → is_narrow trust c.symbol ≡ true → next_cover trust uncovered room c ≡ uncovered
-narrow_next trust room c some e =
-    let step = narrow_steps trust c.symbol e in
+pub narrow_next : (widths : KnownWidths) (room : ℕ) (c : Look) → 0 < room → is_narrow widths c.symbol ≡ true → next_cover widths uncovered room c ≡ uncovered
+narrow_next widths room c some e =
+    let step = narrow_steps widths c.symbol e in
     let none : 0 ≡ min (step_of c.symbol) room - 1 = omega (arith, step) in
-    sym (next_open trust uncovered room c refl) ∙ sym (cover_as_it_is trust room c c.symbol 0 true refl none (sym (narrow_sendable trust room c.symbol some e)) refl)
+    sym (next_open widths uncovered room c refl) ∙ sym (cover_as_it_is widths room c c.symbol 0 true refl none (sym (narrow_sendable widths room c.symbol some e)) refl)

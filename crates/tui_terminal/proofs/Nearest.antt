@@ -4,20 +4,20 @@ use Rattle.std.proofs.Math.ListN.{drop_of_length-le}
 use Rattle.std.proofs.lemmas.List.{get_or-map, length-map}
 use Rattle.tui_terminal.specs.Shades.{all_named, named_of}
 use Rattle.tui_terminal.specs.declared.shade.Shade.{Shade}
-use Rattle.tui_tty.specs.Colours.{Light, Named, black, nearer, nearest_of, named_at, other_names}
+use Rattle.tui_terminal_model.specs.Colours.{Channels, Named, black, nearer, nearest_of, named_at, other_names}
 
--- one more of the others is looked at
-pub nearest_more : (c : Light) (best : Named) (others : List Shade) (i : ℕ) (d : Shade) → i < length others →
+-- one more of the other colours is compared
+pub nearest_more : (c : Channels) (best : Named) (others : List Shade) (i : ℕ) (d : Shade) → i < length others →
     nearest_of c best (all_named (drop i others)) ≡ nearest_of c (nearer c best (named_of (get_or others i d))) (all_named (drop (i + 1) others))
 unfolding nearest_of
 nearest_more c best others i d lt = rw (drop-cons others i d lt, add-one) refl
 
-pub nearest_all : (c : Light) (best : Named) (others : List Shade) (i : ℕ) → length others ≤ i →
+pub nearest_all : (c : Channels) (best : Named) (others : List Shade) (i : ℕ) → length others ≤ i →
     nearest_of c best (all_named (drop i others)) ≡ best
 unfolding nearest_of
 nearest_all c best others i past = ap (λ (l : List Shade). nearest_of c best (all_named l)) (drop_of_length-le others past)
 
--- the sixteen names
+-- the sixteen named colours
 pub names_long : (names : List Shade) → all_named names ≡ black ∷ other_names → length names ≡ 16
 unfolding other_names
 names_long names is = sym (length-map names named_of) ∙ ap length is

@@ -10,12 +10,12 @@ module _ (test : List ℕ → Bool) where
   abbrev all_pass : List Look → Bool
   all_pass row = list_all (λ k. test k.symbol) row
 
-  -- one cell more
+  -- one more cell
   pub tested : (row : List Look) (i : ℕ) (c : Look) (passes : Bool) → i < length row → c ≡ get_or row i c → test c.symbol ≡ passes →
       list_all (λ k. test k.symbol) (drop i row) ≡ (passes && list_all (λ k. test k.symbol) (drop (i + 1) row))
   tested row i c passes lt is e = ap all_pass (dropped row i c lt is) ∙ ap (λ (b : Bool). b && all_pass (drop (i + 1) row)) e
 
-  -- past its end
+  -- after the last cell
   pub tested_all : (row : List Look) (i : ℕ) → length row ≤ i → true ≡ list_all (λ k. test k.symbol) (drop i row)
   tested_all row i past = sym (ap all_pass (drop_all i row past))
 

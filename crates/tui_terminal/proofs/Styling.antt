@@ -1,4 +1,4 @@
--- The cells of a row, one behind another, and the rows of a screen.
+-- The cells of a row, one after another, and the rows of a screen.
 use Rattle.std.proofs.Common.{◌≡◌, Bool, true, false, not, ◌&&◌, ◌||◌, ap₂, ℕ, suc, ◌+◌, ◌-◌, ◌<◌, ◌≤◌, List, [], ◌∷◌, ◌++◌, length, get_or, drop, slice_index_or, flat_map, Option, Some, None, refl, sym, ap, subst, ◌∙◌, append_assoc, add-one, length-append, drop-cons, length-drop, inl, inr, arith}
 use Rattle.std.proofs.Math.ListN.{drop_of_length-le}
 use Rattle.std.proofs.Math.Seq.{get_or-append_seam}
@@ -12,15 +12,15 @@ use Rattle.tui_cells.specs.contracts.color.ColorPartialEq as color
 use Rattle.tui_cells.specs.declared.attributes.Attributes.{Attributes}
 use Rattle.tui_cells.specs.declared.color.Color.{Color}
 use Rattle.tui_cells.specs.declared.color.Color.TheVariants.{Reset}
-use Rattle.tui_tty.specs.declared.depth.Depth.{Depth}
-use Rattle.tui_tty.specs.declared.depth.Depth.TheVariants as depths
-use Rattle.tui_tty.specs.declared.trust.Trust.TheVariants.{Common}
-use Rattle.tui_tty.specs.Colours.{color_at, palette_color, sixteen_color}
-use Rattle.tui_tty.specs.Pens.{attributes_of, marks_of, marks_stay, pen_of}
-use Rattle.tui_tty.specs.Pieces.{Cover, next_cover, pieces, row_pieces, shown, shown_row, uncovered}
-use Rattle.tui_tty.specs.Spelling.{spelling}
-use Rattle.tui_tty.specs.Styled.{AreStyledRows, Becomes, StyledRow}
-use Rattle.tui_tty.specs.Terminal.{Command, Pen, print, rest}
+use Rattle.tui_terminal_model.specs.declared.depth.Depth.{Depth}
+use Rattle.tui_terminal_model.specs.declared.depth.Depth.TheVariants as depths
+use Rattle.tui_terminal_model.specs.declared.widths.KnownWidths.TheVariants.{Common}
+use Rattle.tui_terminal_model.specs.Colours.{color_at, palette_color, sixteen_color}
+use Rattle.tui_terminal_model.specs.Pens.{attributes_of, marks_of, marks_stay, pen_of}
+use Rattle.tui_terminal_model.specs.Pieces.{Cover, next_cover, pieces, row_pieces, shown, shown_row, uncovered}
+use Rattle.tui_terminal_model.specs.Encoding.{encoding}
+use Rattle.tui_terminal_model.specs.Styled.{AreStyledRows, Becomes, StyledRow}
+use Rattle.tui_terminal_model.specs.Terminal.{Command, Pen, print, rest}
 use Rattle.tui_terminal.specs.Adding.{sent_pen}
 use Rattle.tui_terminal.specs.StyledCells.{AreFirst, StyledCell, has_same_marks, is_sent_same, styled_line}
 use Rattle.tui_terminal.proofs.Texts.{more_text, one_text}
@@ -37,7 +37,7 @@ reset_stays depths.True = refl
 pen_with : (fg bg : Color) (bits : ℕ) → Pen
 pen_with fg bg bits = record { fg = fg; bg = bg; marks = marks_of bits }
 
--- a blank cell is drawn by the pen at rest
+-- a blank cell is drawn by the default pen
 pub rest_pen : (depth : Depth) (a : Attributes) → look_of space a ≡ blank → pen_of depth a ≡ rest
 rest_pen depth a is =
     let fg = ap (λ (c : Look). color_at depth c.fg) is ∙ reset_stays depth in
@@ -45,7 +45,7 @@ rest_pen depth a is =
     let marks = ap (λ (c : Look). marks_of c.modifier) is in
     λ i. record { fg = fg i; bg = bg i; marks = marks i }
 
--- colours and modifiers as they are sent tell the pen
+-- colours and modifiers, as they are sent, determine the pen
 abbrev pub at_depth : Depth → Attributes → Attributes
 at_depth depth a = record { fg = color_at depth a.fg; bg = color_at depth a.bg; modifier = a.modifier }
 
@@ -98,7 +98,7 @@ sent_same a b e =
     (and_from (color.TheImpl.ghosts.eq a.fg b.fg) (color.TheImpl.ghosts.eq a.bg b.bg) fg bg)
     (and_from (marks_stay (marks_of a.modifier.bits) (marks_of b.modifier.bits)) (marks_stay (marks_of b.modifier.bits) (marks_of a.modifier.bits)) there back)
 
--- attributes at a depth set one pen exactly where they are the same as they are sent
+-- two attributes set the same pen at a depth exactly if they are sent alike
 pub one_pen : (depth : Depth) (a b : Attributes) → is_sent_same (at_depth depth a) (at_depth depth b) ≡ true → pen_of depth a ≡ pen_of depth b
 one_pen depth a b e = same_sent (at_depth depth a) (at_depth depth b) e
 
@@ -107,7 +107,7 @@ pen_one depth a b e = sent_same (at_depth depth a) (at_depth depth b) e
 
 -- ---- rows
 
--- what shows in a column is printed by its pen
+-- what shows in a column is printed with its pen
 pub shows_cell : (depth : Depth) (pen : Pen) (cell : Option Look) (symbol : List ℕ) (a : Attributes) (cs : List Command) → cell ≡ Some (look_of symbol a) →
     Becomes pen (pen_of depth a) cs → StyledCell depth pen cell (pen_of depth a) (cs ++ print symbol ∷ [])
 shows_cell depth pen cell symbol a cs is h =
@@ -116,11 +116,11 @@ shows_cell depth pen cell symbol a cs is h =
 pub hides_cell : (depth : Depth) (pen : Pen) (cell : Option Look) → cell ≡ None → StyledCell depth pen cell pen []
 hides_cell depth pen cell is = subst (λ (o : Option Look). StyledCell depth pen o pen []) (sym is) (refl, refl)
 
-pub cell_text : (cs : List Command) (symbol : List ℕ) → flat_map spelling cs ++ symbol ≡ flat_map spelling (cs ++ print symbol ∷ [])
-unfolding spelling
-cell_text cs symbol = more_text spelling cs (print symbol ∷ []) symbol (sym (one_text spelling (print symbol)))
+pub cell_text : (cs : List Command) (symbol : List ℕ) → flat_map encoding cs ++ symbol ≡ flat_map encoding (cs ++ print symbol ∷ [])
+unfolding encoding
+cell_text cs symbol = more_text encoding cs (print symbol ∷ []) symbol (sym (one_text encoding (print symbol)))
 
--- wherever their columns begin
+-- the same in whichever column they begin
 pub moved : (depth : Depth) (pen : Pen) (x y : ℕ) (cells : List (Option Look)) (cs : List Command) →
     StyledRow depth pen (pieces x cells) cs → StyledRow depth pen (pieces y cells) cs
 unfolding pieces
@@ -134,7 +134,7 @@ moved depth pen x y (Some c ∷ cells) cs h = record {
   whole = h.whole;
 }
 
--- what shows in a column, and what is behind it
+-- what shows in a column, and what comes after it
 first_cell : (depth : Depth) (pen next : Pen) (cell : Option Look) (cells : List (Option Look)) (cs more : List Command) →
     StyledCell depth pen cell next cs → StyledRow depth next (pieces 0 cells) more → StyledRow depth pen (pieces 0 (cell ∷ cells)) (cs ++ more)
 unfolding pieces
@@ -160,21 +160,21 @@ pub next_cell : (depth : Depth) (pen next : Pen) (row : List Look) (cover after 
     StyledRow depth next (pieces 0 (row_from row after (i + 1))) more → StyledRow depth pen (pieces 0 (row_from row cover i)) (cs ++ more)
 unfolding shown_row
 next_cell depth pen next row cover after i c cs more lt read is h k =
-    let behind = drop (i + 1) row in
+    let following = drop (i + 1) row in
     let split : drop i row ≡ c ∷ drop (i + 1) row = rw add-one (drop-cons row i c lt ∙ ap (λ (d : Look). d ∷ drop (suc i) row) (sym read)) in
-    let room : length row - i ≡ 1 + length behind = omega (arith, length-drop (i + 1) row) in
+    let room : length row - i ≡ 1 + length following = omega (arith, length-drop (i + 1) row) in
     let here = rw room at h in
     let there = rw (is, room) at k in
-    rw split (first_cell depth pen next (shown Common cover (1 + length behind) c) (shown_row Common (next_cover Common cover (1 + length behind) c) behind) cs more here there)
+    rw split (first_cell depth pen next (shown Common cover (1 + length following) c) (shown_row Common (next_cover Common cover (1 + length following) c) following) cs more here there)
 
--- behind the last column
+-- after the last column
 pub row_ended : (depth : Depth) (pen : Pen) (row : List Look) (cover : Cover) (i : ℕ) (cs : List Command) → length row ≤ i → Becomes pen rest cs →
     StyledRow depth pen (pieces 0 (row_from row cover i)) cs
 unfolding shown_row pieces
 row_ended depth pen row cover i cs past h = rw (drop_of_length-le row past) h
 
-pub line_text : (done cs : List Command) → flat_map spelling done ++ (flat_map spelling cs ++ 10 ∷ []) ≡ styled_line (done ++ cs)
-line_text done cs = sym (append_assoc (flat_map spelling done) (flat_map spelling cs) (10 ∷ [])) ∙ ap (λ (l : List ℕ). l ++ 10 ∷ []) (more_text spelling done cs _ refl)
+pub line_text : (done cs : List Command) → flat_map encoding done ++ (flat_map encoding cs ++ 10 ∷ []) ≡ styled_line (done ++ cs)
+line_text done cs = sym (append_assoc (flat_map encoding done) (flat_map encoding cs) (10 ∷ [])) ∙ ap (λ (l : List ℕ). l ++ 10 ∷ []) (more_text encoding done cs _ refl)
 
 -- ---- screens
 
@@ -207,5 +207,5 @@ all_rows depth b n rows first past within = record {
   rows = rows;
   counted = omega (arith, first.counted);
   each = λ y lt. first.each y (omega (arith, lt));
-  spelled = refl;
+  encoded = refl;
 }

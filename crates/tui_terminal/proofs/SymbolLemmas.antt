@@ -4,10 +4,10 @@ use Rattle.std.proofs.lemmas.Bool.{true≢false}
 use Rattle.std.proofs.lemmas.List.{drop_all, map_push}
 use Rattle.std.proofs.lemmas.List.Sums.{sum_by_push}
 use Rattle.std.proofs.Math.Seq.{drop-cons}
-use Rattle.tui_tty.specs.Symbols.{Range, ends_chars, is_among, is_quiet_byte, is_quiet_from, joins_next, last_ends, three_byte_trusted}
-use Rattle.tui_tty.specs.Terminal.{reach_of}
+use Rattle.tui_terminal_model.specs.Symbols.{Range, ends_chars, is_among, is_quiet_byte, is_quiet_from, joins_next, last_ends, three_byte_ranges}
+use Rattle.tui_terminal_model.specs.Terminal.{reach_of}
 
--- ---- quiet symbols
+-- ---- symbols without control characters
 
 pub quiet_step : (after : Bool) (bytes : List ℕ) (i : ℕ) → i < length bytes →
     is_quiet_from after (drop i bytes) ≡ (is_quiet_byte after (get_or bytes i 0) && is_quiet_from (get_or bytes i 0 == 0xC2) (drop (i + 1) bytes))
@@ -43,14 +43,14 @@ among_later : (xs ys : List Range) (r : Range) (c : ℕ) → (nat_le r.from c &&
 among_later [] ys r c e = ap (λ (b : Bool). b || is_among ys c) e
 among_later (x ∷ xs) ys r c e = or_right (nat_le x.from c && nat_le c x.to) (is_among (xs ++ r ∷ ys) c) (among_later xs ys r c e)
 
-pub ideograph_among : (c : ℕ) → (nat_le 0x4E00 c && nat_le c 0x9FD5) ≡ true → is_among three_byte_trusted c ≡ true
-ideograph_among c e = among_later (take 13 three_byte_trusted) (drop 14 three_byte_trusted) (record { from = 0x4E00; to = 0x9FD5 }) c e
+pub ideograph_among : (c : ℕ) → (nat_le 0x4E00 c && nat_le c 0x9FD5) ≡ true → is_among three_byte_ranges c ≡ true
+ideograph_among c e = among_later (take 13 three_byte_ranges) (drop 14 three_byte_ranges) (record { from = 0x4E00; to = 0x9FD5 }) c e
 
--- ---- what may be sent
+-- ---- which symbols may be sent
 
--- where a trusted symbol is quiet
-pub sendable_parts : (quiet fits trusted harmless : Bool) → (trusted ≡ true → quiet ≡ true) →
-    ((trusted || (quiet && harmless)) && fits) ≡ ((quiet && fits) && (trusted || harmless))
+-- if symbols of known width hold no control character
+pub sendable_parts : (quiet fits known_width harmless : Bool) → (known_width ≡ true → quiet ≡ true) →
+    ((known_width || (quiet && harmless)) && fits) ≡ ((quiet && fits) && (known_width || harmless))
 sendable_parts true true true harmless e = refl
 sendable_parts true false true harmless e = refl
 sendable_parts false fits true harmless e = absurd (true≢false (sym (e refl)))

@@ -1,14 +1,14 @@
--- How many colours a terminal has, by what its environment says.
+-- The colour depth of a terminal, from the environment.
 use Rattle.std.specs.Prelude.{◌≡◌, ◌≢◌, ◌⊎◌, ℕ, List, [], codes}
 use Rattle.std.specs.Str.Iter.{HasSubslice}
-use Rattle.tui_tty.specs.declared.depth.Depth.{Depth}
-use Rattle.tui_tty.specs.declared.depth.Depth.TheVariants as depths
+use Rattle.tui_terminal_model.specs.declared.depth.Depth.{Depth}
+use Rattle.tui_terminal_model.specs.declared.depth.Depth.TheVariants as depths
 
--- there is no terminal that has colours
+-- there is no terminal, or it has no colours
 abbrev pub IsDumb : List ℕ → Type 0
 IsDumb term = (term ≡ []) ⊎ (term ≡ codes "dumb")
 
--- or none are wanted
+-- or the user wants no colours
 abbrev pub IsPlain : List ℕ → List ℕ → Type 0
 IsPlain no_color term = (no_color ≢ []) ⊎ IsDumb term
 
@@ -18,8 +18,8 @@ IsTrueColor colorterm = (colorterm ≡ codes "truecolor") ⊎ (colorterm ≡ cod
 abbrev pub HasPalette : List ℕ → Type 0
 HasPalette term = HasSubslice term (codes "256color")
 
--- The depth by the variables NO_COLOR, COLORTERM and TERM of the environment, where one that is not set is empty: the first that
--- applies.
+-- The depth by the environment variables NO_COLOR, COLORTERM and TERM, which are empty if they are not set. The first
+-- rule that applies decides.
 abbrev pub IsDepth : List ℕ → List ℕ → List ℕ → Depth → Type 0
 IsDepth no_color colorterm term depths.None = IsPlain no_color term
 IsDepth no_color colorterm term depths.True = (IsPlain no_color term → ⊥) × IsTrueColor colorterm

@@ -3,7 +3,7 @@ pub mod Depth
 pub mod Fitting
 pub mod Marks
 pub mod Narrow
-pub mod Risks
+pub mod UncertainWidths
 pub mod Seeing
 pub mod Sent
 pub mod Shades

@@ -1,7 +1,7 @@
 -- Marks of a pen.
 use Rattle.std.specs.Prelude.{ℕ, Bool, List, [], ◌∷◌, if◌then◌else◌}
-use Rattle.tui_tty.specs.Terminal.{Setting, mark}
+use Rattle.tui_terminal_model.specs.Terminal.{Setting, mark}
 
--- a mark, or none
+-- a mark, if it is set
 abbrev pub mark_if : ℕ → Bool → List Setting
 mark_if k b = if b then mark k ∷ [] else []

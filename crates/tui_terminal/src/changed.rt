@@ -1,11 +1,12 @@
-//! What is the same in two rows.
+//! Comparing two rows.
 
 ghost use Rattle.std.specs.Prelude.{◌≡◌, ◌≤◌, drop, length};
-ghost use Rattle.tui_tty_laws.specs.Sent.{is_same};
+ghost use Rattle.tui_terminal_laws.specs.Sent.{is_same};
 
 use tui_cells::Cell;
 
-/// The column behind the last cell in which two rows of one length differ; 0 where they are the same.
+/// Returns the column after the last cell in which two rows of the same length differ, or 0
+/// if they are equal.
 pub(crate) fn changed_end(old: &[Cell], new: &[Cell]) -> usize
     requires { length old.now ≡ length new.now }
     ensures { (result ≤ length new.now) × (drop result old.now ≡ drop result new.now) }

@@ -1,16 +1,16 @@
-//! A colour as far as a terminal has it.
+//! Converting colours to the depth of a terminal.
 
 ghost use Rattle.std.specs.Prelude.{◌≡◌};
-ghost use Rattle.tui_terminal.specs.Shades.{light_of};
-ghost use Rattle.tui_tty.specs.Colours.{color_at, nearest_in_palette, nearest_named, palette_color, sixteen_color};
+ghost use Rattle.tui_terminal.specs.Shades.{channels_of};
+ghost use Rattle.tui_terminal_model.specs.Colours.{color_at, nearest_in_palette, nearest_named, palette_color, sixteen_color};
 
-use crate::palette::{grays, light_at, named_at, names, nearest_in_cube};
-use crate::shade::{Light, nearest};
+use crate::palette::{channels_at, grays, named_at, names, nearest_in_cube};
+use crate::shade::{Channels, nearest};
 use tui_cells::Color;
-use tui_tty::Depth;
+use tui_terminal_model::Depth;
 
-/// A colour as a terminal of some depth has it.
-#[tactic(auto, unfolding(tui_tty::specs::Colours::color_at))]
+/// Converts a colour to a depth.
+#[tactic(auto, unfolding(tui_terminal_model::specs::Colours::color_at))]
 pub(crate) fn color_at(depth: Depth, color: Color) -> Color
     ensures { result ≡ color_at depth color }
 {
@@ -22,47 +22,47 @@ pub(crate) fn color_at(depth: Depth, color: Color) -> Color
     }
 }
 
-#[tactic(auto, unfolding(tui_tty::specs::Colours::palette_color))]
+#[tactic(auto, unfolding(tui_terminal_model::specs::Colours::palette_color))]
 fn palette_color(color: Color) -> Color
     ensures { result ≡ palette_color color }
 {
     match color {
-        Color::Rgb(red, green, blue) => nearest_in_palette(Light { red, green, blue }),
+        Color::Rgb(red, green, blue) => nearest_in_palette(Channels { red, green, blue }),
         _ => color,
     }
 }
 
-#[tactic(auto, unfolding(tui_tty::specs::Colours::sixteen_color))]
+#[tactic(auto, unfolding(tui_terminal_model::specs::Colours::sixteen_color))]
 fn sixteen_color(color: Color) -> Color
     ensures { result ≡ sixteen_color color }
 {
     match color {
-        Color::Rgb(red, green, blue) => nearest_named(Light { red, green, blue }),
+        Color::Rgb(red, green, blue) => nearest_named(Channels { red, green, blue }),
         Color::Indexed(n) => sixteen_of_palette(n),
         _ => color,
     }
 }
 
-#[tactic(auto, unfolding(tui_tty::specs::Colours::sixteen_color))]
+#[tactic(auto, unfolding(tui_terminal_model::specs::Colours::sixteen_color))]
 fn sixteen_of_palette(n: u8) -> Color
     ensures { result ≡ sixteen_color (Color.Indexed n) }
 {
     if n < 16 {
         named_at(n)
     } else {
-        nearest_named(light_at(n))
+        nearest_named(channels_at(n))
     }
 }
 
-fn nearest_named(light: Light) -> Color
-    ensures { result ≡ nearest_named (light_of light) }
+fn nearest_named(channels: Channels) -> Color
+    ensures { result ≡ nearest_named (channels_of channels) }
 {
     let names = names();
-    nearest(light, names[0], &names[1..]).color
+    nearest(channels, names[0], &names[1..]).color
 }
 
-fn nearest_in_palette(light: Light) -> Color
-    ensures { result ≡ (nearest_in_palette (light_of light)).color }
+fn nearest_in_palette(channels: Channels) -> Color
+    ensures { result ≡ (nearest_in_palette (channels_of channels)).color }
 {
-    nearest(light, nearest_in_cube(light), grays()).color
+    nearest(channels, nearest_in_cube(channels), grays()).color
 }

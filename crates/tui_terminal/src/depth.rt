@@ -1,13 +1,16 @@
-//! How many colours a terminal has, by what its environment says.
+//! The colour depth of a terminal, from the environment.
 
 ghost use Rattle.std.specs.Prelude.{◌↔◌, IsTrue};
 ghost use Rattle.tui_terminal.specs.Depth.{IsDepth, IsDumb, IsPlain, IsTrueColor};
 
-use tui_tty::Depth;
+use tui_terminal_model::Depth;
 
-/// The depth by the variables `NO_COLOR`, `COLORTERM` and `TERM` of the environment, where one that is not set is an empty text. The first of
-/// these that applies: `NO_COLOR` that is not empty, `TERM` that is empty or `dumb` give None; `COLORTERM` of `truecolor` or `24bit` True;
-/// `TERM` with `256color` in it Palette; else it is Sixteen. By no-color.org, and by what terminals set.
+/// Returns the colour depth by the environment variables `NO_COLOR`, `COLORTERM` and `TERM`. Pass an empty
+/// string for a variable that is not set. The first rule that applies decides:
+///
+/// `None` if `NO_COLOR` is not empty, or `TERM` is empty or `dumb`; `True` if `COLORTERM` is `truecolor`
+/// or `24bit`; `Palette` if `TERM` contains `256color`; else `Sixteen`. This follows no-color.org and
+/// what terminals set.
 #[tactic(auto, using(std::proofs::lemmas::Str::Pattern::contains_text))]
 pub fn depth_of(no_color: &str, colorterm: &str, term: &str) -> Depth
     ensures { IsDepth no_color.now colorterm.now term.now result }

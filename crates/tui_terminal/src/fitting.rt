@@ -1,72 +1,72 @@
-//! Rows of symbols that a terminal is trusted with and that have room where they stand: each that lies under none shows as it is, and no risky one comes
-//! or goes. What is known on the way is two numbers, so nothing of it stands in memory.
+//! Rows of symbols of known width that fit. Each cell that nothing covers shows as it is, and no
+//! symbol of uncertain width appears or disappears. The state of the loop is two numbers, so that it
+//! stays in registers.
 
 ghost use Rattle.std.specs.Prelude.{◌≡◌, ◌+◌, ◌-◌, ◌<◌, ◌≤◌, ◌&&◌, ◌==◌, flat_map, if◌then◌else◌, length, nat_le, not, true};
-ghost use Rattle.tui_outside.specs.Gathers.{Gathers};
+ghost use Rattle.tui_io.specs.Prints.{Prints};
 ghost use Rattle.tui_terminal.specs.Fitting.{are_fit, is_fit};
 ghost use Rattle.tui_terminal.specs.Sent.{placed_if};
 ghost use Rattle.tui_text.specs.Visible.{step_of};
-ghost use Rattle.tui_tty.specs.Spelling.{spelling};
-ghost use Rattle.tui_tty.specs.Symbols.{is_trusted};
-ghost use Rattle.tui_tty_laws.specs.Sending.{at_after, nowhere, send};
-ghost use Rattle.tui_tty_laws.specs.Sent.{changes, is_same, row_shown};
+ghost use Rattle.tui_terminal_model.specs.Encoding.{encoding};
+ghost use Rattle.tui_terminal_model.specs.Symbols.{has_known_width};
+ghost use Rattle.tui_terminal_laws.specs.Sending.{at_after, nothing_known, send};
+ghost use Rattle.tui_terminal_laws.specs.Sent.{changes, is_same, row_shown};
 
 use crate::changed::is_same_cell;
-use crate::sending::{Reached, put_cell_if};
-use crate::symbols::{is_ascii, is_trusted};
+use crate::sending::{Reached, Spot, emit_cell_if};
+use crate::symbols::{has_known_width, is_ascii};
+use crate::target::RowTarget;
 use tui_cells::Cell;
-use tui_outside::{Print, Sink};
+use tui_io::{Print, Sink};
+use tui_terminal_model::KnownWidths;
 use tui_text::symbol_columns;
-use tui_tty::{Output, Trust};
 
-/// Whether a row is such a one.
-pub(crate) fn is_fit_row(trust: Trust, row: &[Cell]) -> bool
-    ensures { result ≡ are_fit trust row.now }
+/// Whether every symbol of a row has a known width and fits.
+pub(crate) fn is_fit_row(widths: KnownWidths, row: &[Cell]) -> bool
+    ensures { result ≡ are_fit widths row.now }
 {
     'columns: for column in 0..row.len() {
         let cell = &row[column];
-        if !is_fit(trust, row.len() - column, cell) {
+        if !is_fit(widths, row.len() - column, cell) {
             return false;
         }
     }
     true
 }
 
-// A printable byte takes one column, and is trusted.
+// A printable byte takes one column and has a known width.
 #[inline(always)]
-fn is_fit(trust: Trust, room: usize, cell: &Cell) -> bool
+fn is_fit(widths: KnownWidths, room: usize, cell: &Cell) -> bool
     requires { 0 < room }
-    ensures { result ≡ is_fit trust room cell.now }
+    ensures { result ≡ is_fit widths room cell.now }
 {
     let symbol = cell.symbol();
-    is_ascii(symbol) || is_known_fit(trust, room, symbol)
+    is_ascii(symbol) || is_fit_slow(widths, room, symbol)
 }
 
 #[inline]
-fn is_known_fit(trust: Trust, room: usize, symbol: &str) -> bool
-    ensures { result ≡ (is_trusted trust symbol.now && nat_le (step_of symbol.now) room) }
+fn is_fit_slow(widths: KnownWidths, room: usize, symbol: &str) -> bool
+    ensures { result ≡ (has_known_width widths symbol.now && nat_le (step_of symbol.now) room) }
 {
-    is_trusted(trust, symbol) && symbol_columns(symbol) <= room
+    has_known_width(widths, symbol) && symbol_columns(symbol) <= room
 }
 
-/// Adds the cells of such a row that did not show so before, in such a row.
+/// Adds the cells of such a row that did not show so before. The old row is such a row too.
 #[inline(never)]
-pub(crate) fn put_new_fit<K: Sink>(
+pub(crate) fn emit_new_fit<K: Sink>(
     print: &mut Print,
-    output: Output,
-    y: usize,
-    left: usize,
+    target: RowTarget,
     old: &[Cell],
     new: &[Cell],
     sink: &mut K,
 )
-    requires { (length old.now ≡ length new.now) × (left + length new.now ≤ 65535) × (y < 65536)
-        × (are_fit output.trust old.now ≡ true) × (are_fit output.trust new.now ≡ true) }
-    ensures { Gathers (K.told sink.old) (K.told sink.new) print.old print.new (flat_map spelling (send output y nowhere
-        (changes output.trust left (row_shown output.trust old.now) (row_shown output.trust new.now)))) }
+    requires { (length old.now ≡ length new.now) × (target.left + length new.now ≤ 65535) × (target.y < 65536)
+        × (are_fit target.output.widths old.now ≡ true) × (are_fit target.output.widths new.now ≡ true) }
+    ensures { Prints (K.observed sink.old) (K.observed sink.new) print.old print.new (flat_map encoding (send target.output target.y nothing_known
+        (changes target.output.widths target.left (row_shown target.output.widths old.now) (row_shown target.output.widths new.now)))) }
 {
     let mut reached = Reached::none();
-    // How many of the next cells lie under a symbol, in the old row and in the new one.
+    // How many of the next cells are covered by a symbol, in the old row and in the new one.
     let mut was = 0usize;
     let mut is = 0usize;
     'columns: for column in 0..new.len() {
@@ -74,11 +74,14 @@ pub(crate) fn put_new_fit<K: Sink>(
         let cell = &new[column];
         let wanted = is_new(was, is, cell_old, cell);
         let columns = symbol_columns(cell.symbol());
-        reached = put_cell_if(
-            print, output, y, left, new, reached, column, columns, wanted, sink,
-        );
-        was = behind(was, symbol_columns(cell_old.symbol()));
-        is = behind(is, columns);
+        let spot = Spot {
+            place: column,
+            columns,
+            wanted,
+        };
+        reached = emit_cell_if(print, target, new, reached, spot, sink);
+        was = following(was, symbol_columns(cell_old.symbol()));
+        is = following(is, columns);
     }
 }
 
@@ -97,9 +100,10 @@ fn has_shown(was: usize, old: &Cell, new: &Cell) -> bool
     was == 0 && is_same_cell(old, new)
 }
 
-// How many cells behind one lie under a symbol, by how many there were at the cell, and by how many columns its symbol takes.
+// Returns how many cells are still covered after a cell, from their number at the cell and the
+// columns of its symbol.
 #[inline(always)]
-fn behind(left: usize, columns: usize) -> usize
+fn following(left: usize, columns: usize) -> usize
     requires { 0 < columns }
     ensures { result ≡ (if left == 0 then columns - 1 else left - 1) }
 {

@@ -1,30 +1,32 @@
-//! Rows of symbols of one column that a terminal is trusted with: each shows as it is, and no risky one comes or goes.
+//! Rows of symbols of known width that take one column. Each cell shows as it is, and no symbol of uncertain
+//! width appears or disappears.
 
 ghost use Rattle.std.specs.Prelude.{◌≡◌, ◌+◌, ◌<◌, ◌≤◌, flat_map, if◌then◌else◌, length, nat_eq, not, slice_index_or, true};
 ghost use Rattle.std.specs.Cmp.Lexicographic.{pointwise};
 ghost use Rattle.std.specs.List.{list_all};
 ghost use Rattle.tui_cells.specs.Cell.{blank};
-ghost use Rattle.tui_outside.specs.Gathers.{Gathers};
+ghost use Rattle.tui_io.specs.Prints.{Prints};
 ghost use Rattle.tui_terminal.specs.Narrow.{is_narrow};
-ghost use Rattle.tui_terminal.specs.Sent.{at_behind, placed_if};
-ghost use Rattle.tui_tty.specs.Spelling.{spelling};
-ghost use Rattle.tui_tty_laws.specs.Sending.{at_after, nowhere, row_anew, send};
-ghost use Rattle.tui_tty_laws.specs.Sent.{changes, is_same, row_shown};
+ghost use Rattle.tui_terminal.specs.Sent.{at_reached, placed_if};
+ghost use Rattle.tui_terminal_model.specs.Encoding.{encoding};
+ghost use Rattle.tui_terminal_laws.specs.Sending.{at_after, nothing_known, row_in_full, send};
+ghost use Rattle.tui_terminal_laws.specs.Sent.{changes, is_same, row_shown};
 
 use crate::changed::is_same_cell;
-use crate::sending::{Reached, put_cell_if};
+use crate::sending::{Reached, Spot, emit_cell_if};
 use crate::symbols::{is_narrow, is_same_text};
+use crate::target::RowTarget;
 use tui_cells::Cell;
-use tui_outside::{Print, Sink};
-use tui_tty::{Output, Trust};
+use tui_io::{Print, Sink};
+use tui_terminal_model::KnownWidths;
 
-/// Whether each symbol of a row is such a one.
-pub(crate) fn is_narrow_row(trust: Trust, row: &[Cell]) -> bool
-    ensures { result ≡ list_all (λ c. is_narrow trust c.symbol) row.now }
+/// Whether every symbol of a row has a known width and takes one column.
+pub(crate) fn is_narrow_row(widths: KnownWidths, row: &[Cell]) -> bool
+    ensures { result ≡ list_all (λ c. is_narrow widths c.symbol) row.now }
 {
     'columns: for column in 0..row.len() {
         let cell = &row[column];
-        if !is_narrow(trust, cell.symbol()) {
+        if !is_narrow(widths, cell.symbol()) {
             return false;
         }
     }
@@ -32,51 +34,56 @@ pub(crate) fn is_narrow_row(trust: Trust, row: &[Cell]) -> bool
 }
 
 /// Adds all cells of such a row.
-pub(crate) fn put_all_narrow<K: Sink>(
+pub(crate) fn emit_all_narrow<K: Sink>(
     print: &mut Print,
-    output: Output,
-    y: usize,
-    left: usize,
+    target: RowTarget,
     row: &[Cell],
     sink: &mut K,
 )
-    requires { (left + length row.now ≤ 65535) × (y < 65536) × (list_all (λ c. is_narrow output.trust c.symbol) row.now ≡ true) }
-    ensures { Gathers (K.told sink.old) (K.told sink.new) print.old print.new
-        (flat_map spelling (send output y nowhere (row_anew output.trust left row.now))) }
+    requires { (target.left + length row.now ≤ 65535) × (target.y < 65536) × (list_all (λ c. is_narrow target.output.widths c.symbol) row.now ≡ true) }
+    ensures { Prints (K.observed sink.old) (K.observed sink.new) print.old print.new
+        (flat_map encoding (send target.output target.y nothing_known (row_in_full target.output.widths target.left row.now))) }
 {
     let mut reached = Reached::none();
     'columns: for column in 0..row.len() {
-        reached = put_cell_if(print, output, y, left, row, reached, column, 1, true, sink);
+        let spot = Spot {
+            place: column,
+            columns: 1,
+            wanted: true,
+        };
+        reached = emit_cell_if(print, target, row, reached, spot, sink);
     }
 }
 
-/// Adds the cells of such a row that did not show so before, in such a row.
-pub(crate) fn put_new_narrow<K: Sink>(
+/// Adds the cells of such a row that did not show so before. The old row is such a row too.
+pub(crate) fn emit_new_narrow<K: Sink>(
     print: &mut Print,
-    output: Output,
-    y: usize,
-    left: usize,
+    target: RowTarget,
     old: &[Cell],
     new: &[Cell],
     sink: &mut K,
 )
-    requires { (length old.now ≡ length new.now) × (left + length new.now ≤ 65535) × (y < 65536)
-        × (list_all (λ c. is_narrow output.trust c.symbol) old.now ≡ true) × (list_all (λ c. is_narrow output.trust c.symbol) new.now ≡ true) }
-    ensures { Gathers (K.told sink.old) (K.told sink.new) print.old print.new (flat_map spelling (send output y nowhere
-        (changes output.trust left (row_shown output.trust old.now) (row_shown output.trust new.now)))) }
+    requires { (length old.now ≡ length new.now) × (target.left + length new.now ≤ 65535) × (target.y < 65536)
+        × (list_all (λ c. is_narrow target.output.widths c.symbol) old.now ≡ true) × (list_all (λ c. is_narrow target.output.widths c.symbol) new.now ≡ true) }
+    ensures { Prints (K.observed sink.old) (K.observed sink.new) print.old print.new (flat_map encoding (send target.output target.y nothing_known
+        (changes target.output.widths target.left (row_shown target.output.widths old.now) (row_shown target.output.widths new.now)))) }
 {
     let mut reached = Reached::none();
     'columns: for column in 0..new.len() {
         let cell_old = &old[column];
         let cell = &new[column];
         let wanted = is_changed(reached.last == column, cell_old, cell);
-        reached = put_cell_if(
-            print, output, y, left, new, reached, column, 1, wanted, sink,
-        );
+        let spot = Spot {
+            place: column,
+            columns: 1,
+            wanted,
+        };
+        reached = emit_cell_if(print, target, new, reached, spot, sink);
     }
 }
 
-// A cell beside one that has changed has mostly another symbol, which costs less to compare than colours; else it is mostly the same.
+// A cell next to one that has changed mostly has another symbol, and symbols are cheaper to compare than
+// colours. Other cells are mostly unchanged.
 #[inline(always)]
 fn is_changed(goes_on: bool, old: &Cell, new: &Cell) -> bool
     ensures { result ≡ not (is_same old.now new.now) }

@@ -1,19 +1,19 @@
 //! The colours of a terminal's palette, as xterm has them by default.
 
 ghost use Rattle.std.specs.Prelude.{◌≡◌, ◌<◌, ◌≤◌, ◌∷◌};
-ghost use Rattle.tui_terminal.specs.Shades.{all_named, light_of, named_of};
-ghost use Rattle.tui_tty.specs.Colours.{black, cube_color, cube_light, gray_light, grays, level, level_at, light_at, named_at, nearest_in_cube, other_names};
+ghost use Rattle.tui_terminal.specs.Shades.{all_named, channels_of, named_of};
+ghost use Rattle.tui_terminal_model.specs.Colours.{black, cube_color, cube_channels, gray_channels, grays, level, level_at, channels_at, named_at, nearest_in_cube, other_names};
 
-use crate::shade::{Light, Shade};
+use crate::shade::{Channels, Shade};
 use tui_cells::Color;
 
 macro_rules! shades {
     ($($color:expr => $red:literal $green:literal $blue:literal,)*) => {
-        [$(Shade { color: $color, light: Light { red: $red, green: $green, blue: $blue } }),*]
+        [$(Shade { color: $color, channels: Channels { red: $red, green: $green, blue: $blue } }),*]
     };
 }
 
-// The first sixteen.
+// The first sixteen colours.
 #[rattlefmt::skip]
 static NAMES: [Shade; 16] = shades! {
     Color::Black => 0 0 0,
@@ -35,12 +35,12 @@ static NAMES: [Shade; 16] = shades! {
 };
 
 macro_rules! grays {
-    ($($place:literal => $light:literal,)*) => {
-        [$(Shade { color: Color::Indexed($place), light: Light { red: $light, green: $light, blue: $light } }),*]
+    ($($place:literal => $channels:literal,)*) => {
+        [$(Shade { color: Color::Indexed($place), channels: Channels { red: $channels, green: $channels, blue: $channels } }),*]
     };
 }
 
-// The last 24.
+// The last 24 colours.
 #[rattlefmt::skip]
 static GRAYS: [Shade; 24] = grays! {
     232 => 8, 233 => 18, 234 => 28, 235 => 38, 236 => 48, 237 => 58, 238 => 68, 239 => 78,
@@ -49,7 +49,7 @@ static GRAYS: [Shade; 24] = grays! {
 };
 
 /// The sixteen named colours, Black first.
-#[tactic(auto, unfolding(tui_tty::specs::Colours::other_names))]
+#[tactic(auto, unfolding(tui_terminal_model::specs::Colours::other_names))]
 pub(crate) fn names() -> &'static [Shade]
     ensures { all_named result.now ≡ black ∷ other_names }
 {
@@ -57,40 +57,40 @@ pub(crate) fn names() -> &'static [Shade]
 }
 
 /// The grays, the darkest first.
-#[tactic(auto, unfolding(tui_tty::specs::Colours::grays, tui_tty::specs::Colours::gray_light))]
+#[tactic(auto, unfolding(tui_terminal_model::specs::Colours::grays, tui_terminal_model::specs::Colours::gray_channels))]
 pub(crate) fn grays() -> &'static [Shade]
     ensures { all_named result.now ≡ grays }
 {
     &GRAYS
 }
 
-/// The nearest of the cube's colours, level by level.
-pub(crate) fn nearest_in_cube(light: Light) -> Shade
-    ensures { named_of result ≡ nearest_in_cube (light_of light) }
+/// Returns the nearest colour of the cube, level by level.
+pub(crate) fn nearest_in_cube(channels: Channels) -> Shade
+    ensures { named_of result ≡ nearest_in_cube (channels_of channels) }
 {
-    let red = level_at(light.red);
-    let green = level_at(light.green);
-    let blue = level_at(light.blue);
+    let red = level_at(channels.red);
+    let green = level_at(channels.green);
+    let blue = level_at(channels.blue);
     Shade {
         color: Color::Indexed(16 + (36 * red + (6 * green + blue))),
-        light: cube_light(red, green, blue),
+        channels: cube_channels(red, green, blue),
     }
 }
 
-#[tactic(auto, unfolding(tui_tty::specs::Colours::cube_light))]
-fn cube_light(red: u8, green: u8, blue: u8) -> Light
+#[tactic(auto, unfolding(tui_terminal_model::specs::Colours::cube_channels))]
+fn cube_channels(red: u8, green: u8, blue: u8) -> Channels
     requires within { (red ≤ 5) × (green ≤ 5) × (blue ≤ 5) }
-    ensures { light_of result ≡ cube_light red green blue }
+    ensures { channels_of result ≡ cube_channels red green blue }
 {
-    Light {
+    Channels {
         red: level(red),
         green: level(green),
         blue: level(blue),
     }
 }
 
-// The nearest level of the cube.
-#[tactic(auto, unfolding(tui_tty::specs::Colours::level_at))]
+// The level of the cube that is nearest.
+#[tactic(auto, unfolding(tui_terminal_model::specs::Colours::level_at))]
 fn level_at(v: u8) -> u8
     ensures is { result ≡ level_at v }
     ensures within { result ≤ 5 }
@@ -112,7 +112,7 @@ fn level(i: u8) -> u8
     if i > 0 { 55 + 40 * i } else { 0 }
 }
 
-/// A named colour by its place.
+/// Returns a named colour by its index.
 pub(crate) fn named_at(n: u8) -> Color
     requires { n < 16 }
     ensures { result ≡ named_at n }
@@ -120,22 +120,22 @@ pub(crate) fn named_at(n: u8) -> Color
     names()[n as usize].color
 }
 
-/// Red, green and blue of a colour by its place.
-#[tactic(auto, unfolding(tui_tty::specs::Colours::gray_light))]
-pub(crate) fn light_at(n: u8) -> Light
+/// Returns red, green and blue of a colour of the palette by its index.
+#[tactic(auto, unfolding(tui_terminal_model::specs::Colours::gray_channels))]
+pub(crate) fn channels_at(n: u8) -> Channels
     requires { 16 ≤ n }
-    ensures { light_of result ≡ light_at n }
+    ensures { channels_of result ≡ channels_at n }
 {
     if n < 232 {
         let place = n - 16;
         let row = place / 6;
-        cube_light(place / 36, row - place / 36 * 6, place - row * 6)
+        cube_channels(place / 36, row - place / 36 * 6, place - row * 6)
     } else {
-        let light = 8 + 10 * (n - 232);
-        Light {
-            red: light,
-            green: light,
-            blue: light,
+        let channels = 8 + 10 * (n - 232);
+        Channels {
+            red: channels,
+            green: channels,
+            blue: channels,
         }
     }
 }

@@ -2,19 +2,20 @@
 
 ghost use Rattle.std.specs.Prelude.{◌≡◌, ◌↔◌, ◌<◌, ◌++◌, IsTrue, codes, decimal, flat_map, if◌then◌else◌};
 ghost use Rattle.tui_cells.specs.declared.color.Color.TheVariants.{Reset};
-ghost use Rattle.tui_outside.specs.Gathers.{Gathers};
+ghost use Rattle.tui_io.specs.Prints.{Prints};
 ghost use Rattle.tui_terminal.specs.Marks.{mark_if};
-ghost use Rattle.tui_tty.specs.Colours.{color_at};
-ghost use Rattle.tui_tty.specs.Pens.{back_of, front_of, has_name, marks_from, marks_of, paints_of, pen_of, then_back};
-ghost use Rattle.tui_tty.specs.Spelling.{back_text, front_text, next_setting_text, spelling};
+ghost use Rattle.tui_terminal_model.specs.Colours.{color_at};
+ghost use Rattle.tui_terminal_model.specs.Pens.{background_of, foreground_of, has_name, marks_from, marks_of, paints_of, pen_of, then_background};
+ghost use Rattle.tui_terminal_model.specs.Encoding.{background_text, foreground_text, next_setting_text, encoding};
 
 use crate::colours::color_at;
+use crate::shade::Channels;
 use tui_cells::{Attributes, Color, Modifier};
-use tui_outside::{Print, Sink};
-use tui_tty::Depth;
+use tui_io::{Print, Sink};
+use tui_terminal_model::Depth;
 
-/// Attributes as a terminal of this depth has them. One that has all colours has them as they are.
-#[tactic(auto, unfolding(tui_tty::specs::Colours::color_at))]
+/// Converts attributes to a depth. At full depth they are unchanged.
+#[tactic(auto, unfolding(tui_terminal_model::specs::Colours::color_at))]
 pub(crate) fn at_depth(depth: Depth, a: Attributes) -> Attributes
     ensures { result ≡ record { fg = color_at depth a.fg; bg = color_at depth a.bg; modifier = a.modifier } }
 {
@@ -34,16 +35,18 @@ fn at_less(depth: Depth, a: Attributes) -> Attributes
     }
 }
 
-/// Adds what sets the pen to some attributes, as a terminal of this depth has them, whatever it was.
-pub(crate) fn put_pen<K: Sink>(
+/// Adds the bytes that set the pen to some attributes at this depth, whatever the pen was.
+#[cold]
+#[inline(never)]
+pub(crate) fn emit_pen<K: Sink>(
     print: &mut Print,
     depth: Depth,
     attributes: Attributes,
     sink: &mut K,
 )
-    ensures { Gathers (K.told sink.old) (K.told sink.new) print.old print.new (flat_map spelling (paints_of (pen_of depth attributes))) }
+    ensures { Prints (K.observed sink.old) (K.observed sink.new) print.old print.new (flat_map encoding (paints_of (pen_of depth attributes))) }
 {
-    put_colours(
+    emit_colours(
         print,
         color_at(depth, attributes.fg),
         color_at(depth, attributes.bg),
@@ -52,23 +55,24 @@ pub(crate) fn put_pen<K: Sink>(
     );
 }
 
-/// Adds what sets the pen to two colours, as they are sent, and some modifiers, whatever it was.
-pub(crate) fn put_colours<K: Sink>(
+/// Adds the bytes that set the pen to two colours, already converted to the depth, and some modifiers,
+/// whatever the pen was.
+pub(crate) fn emit_colours<K: Sink>(
     print: &mut Print,
     fg: Color,
     bg: Color,
     modifier: Modifier,
     sink: &mut K,
 )
-    ensures { Gathers (K.told sink.old) (K.told sink.new) print.old print.new
-        (flat_map spelling (paints_of (record { fg = fg; bg = bg; marks = marks_of modifier.bits }))) }
+    ensures { Prints (K.observed sink.old) (K.observed sink.new) print.old print.new
+        (flat_map encoding (paints_of (record { fg = fg; bg = bg; marks = marks_of modifier.bits }))) }
 {
     print.text(sink, "\x1b[0");
-    put_marks(print, modifier.bits(), sink);
-    put_front(print, fg, sink);
-    put_back(print, named_or_reset(bg), sink);
+    emit_marks(print, modifier.bits(), sink);
+    emit_foreground(print, fg, sink);
+    emit_background(print, named_or_reset(bg), sink);
     print.push(sink, b'm');
-    put_behind(print, bg, sink);
+    emit_unnamed_background(print, bg, sink);
 }
 
 fn named_or_reset(color: Color) -> Color
@@ -77,32 +81,32 @@ fn named_or_reset(color: Color) -> Color
     if has_name(color) { color } else { Color::Reset }
 }
 
-/// Whether a colour is the terminal's own or one of the sixteen.
-#[tactic(auto, unfolding(tui_tty::specs::Pens::has_name))]
+/// Whether a colour is the terminal's own or one of the sixteen named ones.
+#[tactic(auto, unfolding(tui_terminal_model::specs::Pens::has_name))]
 pub(crate) fn has_name(color: Color) -> bool
     ensures { result ≡ has_name color }
 {
     !matches!(color, Color::Rgb(..) | Color::Indexed(_))
 }
 
-fn put_marks<K: Sink>(print: &mut Print, bits: u16, sink: &mut K)
-    ensures { Gathers (K.told sink.old) (K.told sink.new) print.old print.new (flat_map next_setting_text (marks_from 0 (marks_of bits))) }
+fn emit_marks<K: Sink>(print: &mut Print, bits: u16, sink: &mut K)
+    ensures { Prints (K.observed sink.old) (K.observed sink.new) print.old print.new (flat_map next_setting_text (marks_from 0 (marks_of bits))) }
 {
-    put_mark(print, bits & 1 == 1, 0, sink);
-    put_mark(print, bits & 2 == 2, 1, sink);
-    put_mark(print, bits & 4 == 4, 2, sink);
-    put_mark(print, bits & 8 == 8, 3, sink);
-    put_mark(print, bits & 16 == 16, 4, sink);
-    put_mark(print, bits & 32 == 32, 5, sink);
-    put_mark(print, bits & 64 == 64, 6, sink);
-    put_mark(print, bits & 128 == 128, 7, sink);
-    put_mark(print, bits & 256 == 256, 8, sink);
+    emit_mark(print, bits & 1 == 1, 0, sink);
+    emit_mark(print, bits & 2 == 2, 1, sink);
+    emit_mark(print, bits & 4 == 4, 2, sink);
+    emit_mark(print, bits & 8 == 8, 3, sink);
+    emit_mark(print, bits & 16 == 16, 4, sink);
+    emit_mark(print, bits & 32 == 32, 5, sink);
+    emit_mark(print, bits & 64 == 64, 6, sink);
+    emit_mark(print, bits & 128 == 128, 7, sink);
+    emit_mark(print, bits & 256 == 256, 8, sink);
 }
 
 #[inline]
-fn put_mark<K: Sink>(print: &mut Print, is_on: bool, place: usize, sink: &mut K)
+fn emit_mark<K: Sink>(print: &mut Print, is_on: bool, place: usize, sink: &mut K)
     requires { place < 9 }
-    ensures { Gathers (K.told sink.old) (K.told sink.new) print.old print.new (flat_map next_setting_text (mark_if place is_on)) }
+    ensures { Prints (K.observed sink.old) (K.observed sink.new) print.old print.new (flat_map next_setting_text (mark_if place is_on)) }
 {
     if is_on {
         print.push(sink, b';');
@@ -116,20 +120,20 @@ fn is_reset(color: Color) -> bool
     matches!(color, Color::Reset)
 }
 
-// Adds the setting of a colour in front, which the terminal's own needs none of.
-fn put_front<K: Sink>(print: &mut Print, color: Color, sink: &mut K)
-    ensures { Gathers (K.told sink.old) (K.told sink.new) print.old print.new (flat_map next_setting_text (front_of color)) }
+// Adds the setting of a foreground colour. The terminal's own needs none.
+fn emit_foreground<K: Sink>(print: &mut Print, color: Color, sink: &mut K)
+    ensures { Prints (K.observed sink.old) (K.observed sink.new) print.old print.new (flat_map next_setting_text (foreground_of color)) }
 {
     if !is_reset(color) {
         print.push(sink, b';');
-        put_front_text(print, color, sink);
+        emit_foreground_text(print, color, sink);
     }
 }
 
-/// Adds the number of a colour in front.
-#[tactic(auto, unfolding(tui_tty::specs::Spelling::front_text))]
-pub(crate) fn put_front_text<K: Sink>(print: &mut Print, color: Color, sink: &mut K)
-    ensures { Gathers (K.told sink.old) (K.told sink.new) print.old print.new (front_text color) }
+/// Adds the parameters of a foreground colour.
+#[tactic(auto, unfolding(tui_terminal_model::specs::Encoding::foreground_text))]
+pub(crate) fn emit_foreground_text<K: Sink>(print: &mut Print, color: Color, sink: &mut K)
+    ensures { Prints (K.observed sink.old) (K.observed sink.new) print.old print.new (foreground_text color) }
 {
     match color {
         Color::Reset => print.text(sink, "39"),
@@ -149,36 +153,42 @@ pub(crate) fn put_front_text<K: Sink>(print: &mut Print, color: Color, sink: &mu
         Color::LightMagenta => print.text(sink, "95"),
         Color::LightCyan => print.text(sink, "96"),
         Color::White => print.text(sink, "97"),
-        Color::Rgb(red, green, blue) => put_rgb(print, "38;2;", red, green, blue, sink),
-        Color::Indexed(n) => put_indexed(print, "38;5;", n, sink),
+        Color::Rgb(red, green, blue) => emit_rgb(
+            print,
+            "38;2;",
+            Channels { red, green, blue },
+            sink,
+        ),
+        Color::Indexed(n) => emit_indexed(print, "38;5;", n, sink),
     }
 }
 
-// Adds the setting of a colour behind, which the terminal's own needs none of.
-fn put_back<K: Sink>(print: &mut Print, color: Color, sink: &mut K)
-    ensures { Gathers (K.told sink.old) (K.told sink.new) print.old print.new (flat_map next_setting_text (back_of color)) }
+// Adds the setting of a background colour. The terminal's own needs none.
+fn emit_background<K: Sink>(print: &mut Print, color: Color, sink: &mut K)
+    ensures { Prints (K.observed sink.old) (K.observed sink.new) print.old print.new (flat_map next_setting_text (background_of color)) }
 {
     if !is_reset(color) {
         print.push(sink, b';');
-        put_back_text(print, color, sink);
+        emit_background_text(print, color, sink);
     }
 }
 
-// A colour behind that has no name is set by a sequence of its own, so that none has more than 16 parameters.
-fn put_behind<K: Sink>(print: &mut Print, color: Color, sink: &mut K)
-    ensures { Gathers (K.told sink.old) (K.told sink.new) print.old print.new (flat_map spelling (then_back color)) }
+// A background colour without a name has a sequence of its own, so that no sequence has more
+// than 16 parameters.
+fn emit_unnamed_background<K: Sink>(print: &mut Print, color: Color, sink: &mut K)
+    ensures { Prints (K.observed sink.old) (K.observed sink.new) print.old print.new (flat_map encoding (then_background color)) }
 {
     if !has_name(color) {
         print.text(sink, "\x1b[");
-        put_back_text(print, color, sink);
+        emit_background_text(print, color, sink);
         print.push(sink, b'm');
     }
 }
 
-/// Adds the number of a colour behind.
-#[tactic(auto, unfolding(tui_tty::specs::Spelling::back_text))]
-pub(crate) fn put_back_text<K: Sink>(print: &mut Print, color: Color, sink: &mut K)
-    ensures { Gathers (K.told sink.old) (K.told sink.new) print.old print.new (back_text color) }
+/// Adds the parameters of a background colour.
+#[tactic(auto, unfolding(tui_terminal_model::specs::Encoding::background_text))]
+pub(crate) fn emit_background_text<K: Sink>(print: &mut Print, color: Color, sink: &mut K)
+    ensures { Prints (K.observed sink.old) (K.observed sink.new) print.old print.new (background_text color) }
 {
     match color {
         Color::Reset => print.text(sink, "49"),
@@ -198,25 +208,30 @@ pub(crate) fn put_back_text<K: Sink>(print: &mut Print, color: Color, sink: &mut
         Color::LightMagenta => print.text(sink, "105"),
         Color::LightCyan => print.text(sink, "106"),
         Color::White => print.text(sink, "107"),
-        Color::Rgb(red, green, blue) => put_rgb(print, "48;2;", red, green, blue, sink),
-        Color::Indexed(n) => put_indexed(print, "48;5;", n, sink),
+        Color::Rgb(red, green, blue) => emit_rgb(
+            print,
+            "48;2;",
+            Channels { red, green, blue },
+            sink,
+        ),
+        Color::Indexed(n) => emit_indexed(print, "48;5;", n, sink),
     }
 }
 
-fn put_rgb<K: Sink>(print: &mut Print, kind: &str, red: u8, green: u8, blue: u8, sink: &mut K)
-    ensures { Gathers (K.told sink.old) (K.told sink.new) print.old print.new
-        (kind.now ++ (decimal red ++ (codes ";" ++ (decimal green ++ (codes ";" ++ decimal blue))))) }
+fn emit_rgb<K: Sink>(print: &mut Print, kind: &str, channels: Channels, sink: &mut K)
+    ensures { Prints (K.observed sink.old) (K.observed sink.new) print.old print.new
+        (kind.now ++ (decimal channels.red ++ (codes ";" ++ (decimal channels.green ++ (codes ";" ++ decimal channels.blue))))) }
 {
     print.text(sink, kind);
-    print.number(sink, red as usize);
+    print.number(sink, channels.red as usize);
     print.push(sink, b';');
-    print.number(sink, green as usize);
+    print.number(sink, channels.green as usize);
     print.push(sink, b';');
-    print.number(sink, blue as usize);
+    print.number(sink, channels.blue as usize);
 }
 
-fn put_indexed<K: Sink>(print: &mut Print, kind: &str, n: u8, sink: &mut K)
-    ensures { Gathers (K.told sink.old) (K.told sink.new) print.old print.new (kind.now ++ decimal n) }
+fn emit_indexed<K: Sink>(print: &mut Print, kind: &str, n: u8, sink: &mut K)
+    ensures { Prints (K.observed sink.old) (K.observed sink.new) print.old print.new (kind.now ++ decimal n) }
 {
     print.text(sink, kind);
     print.number(sink, n as usize);

@@ -2,62 +2,79 @@
 
 ghost use Rattle.std.specs.Prelude.{◌≡◌, ◌+◌, ◌<◌, ◌≤◌, [], ◌∷◌, flat_map, if◌then◌else◌, length, slice_index_or, true};
 ghost use Rattle.tui_cells.specs.Cell.{blank, space};
-ghost use Rattle.tui_outside.specs.Gathers.{Gathers};
+ghost use Rattle.tui_io.specs.Prints.{Prints};
 ghost use Rattle.tui_terminal.specs.Seeing.{look_in};
-ghost use Rattle.tui_terminal.specs.Sent.{at_behind, is_before, is_pen, is_there, placed_at, placed_if};
+ghost use Rattle.tui_terminal.specs.Sent.{at_reached, is_before, is_pen, is_there, placed_at, placed_if};
 ghost use Rattle.tui_text.specs.Visible.{step_of};
-ghost use Rattle.tui_tty.specs.Pens.{paints_of, pen_of};
-ghost use Rattle.tui_tty.specs.Spelling.{spelling};
-ghost use Rattle.tui_tty.specs.Symbols.{is_trusted};
-ghost use Rattle.tui_tty.specs.Terminal.{across, place};
-ghost use Rattle.tui_tty_laws.specs.Sending.{at_after, moves, next_at, paints, repaints, send, send_one};
+ghost use Rattle.tui_terminal_model.specs.Pens.{paints_of, pen_of};
+ghost use Rattle.tui_terminal_model.specs.Encoding.{encoding};
+ghost use Rattle.tui_terminal_model.specs.Symbols.{has_known_width};
+ghost use Rattle.tui_terminal_model.specs.Terminal.{across, place};
+ghost use Rattle.tui_terminal_laws.specs.Sending.{at_after, moves, next_at, paints, repaints, send, send_one};
 
-use crate::adding::put_repaint;
-use crate::pens::put_pen;
+use crate::adding::emit_repaint;
+use crate::encoding::{emit_across, emit_place};
+use crate::pens::emit_pen;
 use crate::seeing::Seen;
-use crate::spelling::{put_across, put_place};
+use crate::target::RowTarget;
 use tui_cells::{Attributes, Cell};
-use tui_outside::{Print, Sink};
-use tui_tty::{Depth, Output};
-use tui_tty_laws::At;
+use tui_io::{Print, Sink};
+use tui_terminal_laws::At;
+use tui_terminal_model::Depth;
 
-/// Adds what sends a cell in a column, if it is wanted, and answers what is known of the terminal then.
+/// A symbol in a column.
+#[derive(Clone, Copy)]
+pub(crate) struct Piece<'c> {
+    pub column: usize,
+    pub symbol: &'c str,
+    pub attributes: Attributes,
+    /// The width of the symbol.
+    pub columns: usize,
+    /// Whether that is a known width.
+    pub known_width: bool,
+}
+
+/// A place in a row, how many columns the symbol of its cell takes, and whether the cell is wanted.
+#[derive(Clone, Copy)]
+pub(crate) struct Spot {
+    pub place: usize,
+    pub columns: usize,
+    pub wanted: bool,
+}
+
+/// Adds the bytes that send what shows at a place in a row, if it is wanted. Returns what is known of the
+/// terminal then.
 #[inline(always)]
-pub(crate) fn put_if<K: Sink>(
+pub(crate) fn emit_if<K: Sink>(
     print: &mut Print,
-    output: Output,
-    y: usize,
+    target: RowTarget,
     at: At,
-    column: usize,
-    wanted: bool,
+    spot: Spot,
     seen: Seen<'_>,
     sink: &mut K,
 ) -> At
-    requires { (column + seen.columns ≤ 65535) × (y < 65536)
-        × (seen.columns ≡ step_of seen.symbol.now) × (seen.trusted ≡ is_trusted output.trust seen.symbol.now) }
-    ensures next { result ≡ at_after output.trust at (placed_if wanted column (look_in seen.entry)) }
-    ensures put { Gathers (K.told sink.old) (K.told sink.new) print.old print.new
-        (flat_map spelling (send output y at (placed_if wanted column (look_in seen.entry)))) }
+    requires { (target.left + spot.place + spot.columns ≤ 65535) × (target.y < 65536)
+        × (spot.columns ≡ step_of seen.symbol.now) × (seen.known_width ≡ has_known_width target.output.widths seen.symbol.now) }
+    ensures next { result ≡ at_after target.output.widths at (placed_if spot.wanted (target.left + spot.place) (look_in seen.entry)) }
+    ensures emitted { Prints (K.observed sink.old) (K.observed sink.new) print.old print.new (flat_map encoding
+        (send target.output target.y at (placed_if spot.wanted (target.left + spot.place) (look_in seen.entry)))) }
 {
-    if wanted {
-        put_piece(
-            print,
-            output,
-            y,
-            at,
-            column,
-            seen.symbol,
-            seen.attributes,
-            seen.columns,
-            seen.trusted,
-            sink,
-        )
+    if spot.wanted {
+        let piece = Piece {
+            column: target.left + spot.place,
+            symbol: seen.symbol,
+            attributes: seen.attributes,
+            columns: spot.columns,
+            known_width: seen.known_width,
+        };
+        emit_piece(print, target, at, piece, sink)
     } else {
         at
     }
 }
 
-/// How far a row was sent: the place behind the last cell that was, 0 where none was, and the one where the cursor stands then.
+/// How far a row was sent: the place after the last cell that was sent, or 0 if none was, and the
+/// place of the cursor.
 #[derive(Clone, Copy)]
 pub(crate) struct Reached {
     pub last: usize,
@@ -65,7 +82,7 @@ pub(crate) struct Reached {
 }
 
 impl Reached {
-    /// No cell was sent.
+    /// No cell has been sent.
     pub(crate) fn none() -> Reached
         ensures { result ≡ record { last = 0; after = 0 } }
     {
@@ -73,14 +90,15 @@ impl Reached {
     }
 }
 
-// What is known when a row was sent so far. It is read off the row each time, since what is carried from cell to cell would stand in memory.
+// Returns what is known of the terminal after the cells so far. It is computed from the row each time: if it
+// were carried from cell to cell, it would be kept in memory.
 #[inline(always)]
-fn at_behind(left: usize, row: &[Cell], reached: Reached) -> At
+fn at_reached(left: usize, row: &[Cell], reached: Reached) -> At
     requires { (reached.last ≤ length row.now) × (left + reached.after ≤ 65535) }
-    ensures { result ≡ at_behind left row.now reached.last reached.after }
+    ensures { result ≡ at_reached left row.now reached.last reached.after }
 {
     if reached.last == 0 {
-        return At::nowhere();
+        return At::nothing_known();
     }
     At {
         column: left + reached.after,
@@ -90,91 +108,78 @@ fn at_behind(left: usize, row: &[Cell], reached: Reached) -> At
     }
 }
 
-/// Adds what sends the cell of a row at a place, with whose symbol a terminal is trusted, if it is wanted, and answers how far the row was sent then.
-/// `columns` is how many it takes.
+/// Adds the bytes that send the cell at a place in a row, if it is wanted. Its symbol must have a known width
+/// and take `spot.columns` columns. Returns how far the row was sent then.
 #[inline(always)]
-pub(crate) fn put_cell_if<K: Sink>(
+pub(crate) fn emit_cell_if<K: Sink>(
     print: &mut Print,
-    output: Output,
-    y: usize,
-    left: usize,
+    target: RowTarget,
     row: &[Cell],
     reached: Reached,
-    place: usize,
-    columns: usize,
-    wanted: bool,
+    spot: Spot,
     sink: &mut K,
 ) -> Reached
-    requires within { (left + length row.now ≤ 65535) × (y < 65536) × (place + columns ≤ length row.now) × (reached.last ≤ place)
-        × (reached.after ≤ length row.now) }
-    requires cell { (columns ≡ step_of (slice_index_or row.now place blank).symbol)
-        × (is_trusted output.trust (slice_index_or row.now place blank).symbol ≡ true) }
-    ensures is { result ≡ (if wanted then record { last = place + 1; after = place + columns } else reached) }
-    ensures next { at_behind left row.now result.last result.after
-        ≡ at_after output.trust (at_behind left row.now reached.last reached.after) (placed_if wanted (left + place) (slice_index_or row.now place blank)) }
-    ensures put { Gathers (K.told sink.old) (K.told sink.new) print.old print.new (flat_map spelling
-        (send output y (at_behind left row.now reached.last reached.after) (placed_if wanted (left + place) (slice_index_or row.now place blank)))) }
+    requires within { (target.left + length row.now ≤ 65535) × (target.y < 65536) × (spot.place + spot.columns ≤ length row.now)
+        × (reached.last ≤ spot.place) × (reached.after ≤ length row.now) }
+    requires cell { (spot.columns ≡ step_of (slice_index_or row.now spot.place blank).symbol)
+        × (has_known_width target.output.widths (slice_index_or row.now spot.place blank).symbol ≡ true) }
+    ensures is { result ≡ (if spot.wanted then record { last = spot.place + 1; after = spot.place + spot.columns } else reached) }
+    ensures next { at_reached target.left row.now result.last result.after
+        ≡ at_after target.output.widths (at_reached target.left row.now reached.last reached.after)
+        (placed_if spot.wanted (target.left + spot.place) (slice_index_or row.now spot.place blank)) }
+    ensures emitted { Prints (K.observed sink.old) (K.observed sink.new) print.old print.new (flat_map encoding
+        (send target.output target.y (at_reached target.left row.now reached.last reached.after)
+        (placed_if spot.wanted (target.left + spot.place) (slice_index_or row.now spot.place blank)))) }
 {
-    if !wanted {
+    if !spot.wanted {
         return reached;
     }
-    let cell = &row[place];
-    let at = at_behind(left, row, reached);
-    let symbol = cell.symbol();
-    let attributes = cell.attributes();
-    put_piece(
-        print,
-        output,
-        y,
-        at,
-        left + place,
-        symbol,
-        attributes,
-        columns,
-        true,
-        sink,
-    );
+    let cell = &row[spot.place];
+    let at = at_reached(target.left, row, reached);
+    let piece = Piece {
+        column: target.left + spot.place,
+        symbol: cell.symbol(),
+        attributes: cell.attributes(),
+        columns: spot.columns,
+        known_width: true,
+    };
+    emit_piece(print, target, at, piece, sink);
     Reached {
-        last: place + 1,
-        after: place + columns,
+        last: spot.place + 1,
+        after: spot.place + spot.columns,
     }
 }
 
-/// Adds what sends a symbol with attributes in a column, and answers what is known then. `columns` is how many it takes, `trusted` whether a
-/// terminal is trusted with it.
+/// Adds the bytes that send a symbol in a column. Returns what is known of the terminal then.
 #[inline(always)]
-pub(crate) fn put_piece<K: Sink>(
+pub(crate) fn emit_piece<K: Sink>(
     print: &mut Print,
-    output: Output,
-    y: usize,
+    target: RowTarget,
     at: At,
-    column: usize,
-    symbol: &str,
-    attributes: Attributes,
-    columns: usize,
-    trusted: bool,
+    piece: Piece<'_>,
     sink: &mut K,
 ) -> At
-    requires { (column + columns ≤ 65535) × (y < 65536) × (columns ≡ step_of symbol.now) × (trusted ≡ is_trusted output.trust symbol.now) }
-    ensures next { result ≡ next_at output.trust (placed_at column symbol.now attributes) }
-    ensures put { Gathers (K.told sink.old) (K.told sink.new) print.old print.new
-        (flat_map spelling (send_one output.depth y at (placed_at column symbol.now attributes))) }
+    requires { (piece.column + piece.columns ≤ 65535) × (target.y < 65536)
+        × (piece.columns ≡ step_of piece.symbol.now) × (piece.known_width ≡ has_known_width target.output.widths piece.symbol.now) }
+    ensures next { result ≡ next_at target.output.widths (placed_at piece.entry.column piece.entry.symbol.now piece.entry.attributes) }
+    ensures emitted { Prints (K.observed sink.old) (K.observed sink.new) print.old print.new (flat_map encoding
+        (send_one target.output.depth target.y at (placed_at piece.entry.column piece.entry.symbol.now piece.entry.attributes))) }
 {
-    put_moves(print, y, at, column, sink);
-    put_paints(print, output.depth, at, attributes, sink);
-    put_symbol(print, symbol, sink);
+    emit_moves(print, target.y, at, piece.column, sink);
+    emit_paints(print, target.output.depth, at, piece.attributes, sink);
+    emit_symbol(print, piece.symbol, sink);
     At {
-        column: column + columns,
-        placed: trusted,
-        pen: attributes,
+        column: piece.column + piece.columns,
+        placed: piece.known_width,
+        pen: piece.attributes,
         painted: true,
     }
 }
 
-// A single byte needs no copy.
+// A single byte is added without a copy.
 #[inline(always)]
-fn put_symbol<K: Sink>(print: &mut Print, symbol: &str, sink: &mut K)
-    ensures { Gathers (K.told sink.old) (K.told sink.new) print.old print.new symbol.now }
+fn emit_symbol<K: Sink>(print: &mut Print, symbol: &str, sink: &mut K)
+    ensures { Prints (K.observed sink.old) (K.observed sink.new) print.old print.new symbol.now }
 {
     match symbol.as_bytes() {
         [byte] => print.push(sink, *byte),
@@ -182,30 +187,33 @@ fn put_symbol<K: Sink>(print: &mut Print, symbol: &str, sink: &mut K)
     }
 }
 
-// Moves the cursor, unless it is known to stand there. What is known is handed on in parts, so that it need not stand in memory.
+// Moves the cursor, unless it is known to be there. The parts of `at` are passed on one by one, so that it
+// need not be in memory.
 #[inline(always)]
-fn put_moves<K: Sink>(print: &mut Print, y: usize, at: At, column: usize, sink: &mut K)
+fn emit_moves<K: Sink>(print: &mut Print, y: usize, at: At, column: usize, sink: &mut K)
     requires { (column < 65536) × (y < 65536) }
-    ensures { Gathers (K.told sink.old) (K.told sink.new) print.old print.new
-        (flat_map spelling (moves y at (placed_at column space at.pen))) }
+    ensures { Prints (K.observed sink.old) (K.observed sink.new) print.old print.new
+        (flat_map encoding (moves y at (placed_at column space at.pen))) }
 {
     if !is_there(at, column) {
         let before = is_before(at, column);
-        put_moves_on(print, y, before, column, sink);
+        emit_moves_on(print, y, before, column, sink);
     }
 }
 
-// Moves the cursor from elsewhere: within the row, if it is known to stand before that.
+// Moves the cursor from elsewhere: within the row, if it is known to be further left.
+// Most cells follow the one before, so this is `cold`: then the loops keep more of their state in registers.
+#[cold]
 #[inline(never)]
-fn put_moves_on<K: Sink>(print: &mut Print, y: usize, before: bool, column: usize, sink: &mut K)
+fn emit_moves_on<K: Sink>(print: &mut Print, y: usize, before: bool, column: usize, sink: &mut K)
     requires { (column < 65536) × (y < 65536) }
-    ensures { Gathers (K.told sink.old) (K.told sink.new) print.old print.new
-        (flat_map spelling (if before then across column ∷ [] else place column y ∷ [])) }
+    ensures { Prints (K.observed sink.old) (K.observed sink.new) print.old print.new
+        (flat_map encoding (if before then across column ∷ [] else place column y ∷ [])) }
 {
     if before {
-        put_across(print, column, sink);
+        emit_across(print, column, sink);
     } else {
-        put_place(print, column, y, sink);
+        emit_place(print, column, y, sink);
     }
 }
 
@@ -223,42 +231,25 @@ fn is_there(at: At, column: usize) -> bool
     at.placed && at.column == column
 }
 
-// Sets the pen, unless it is known to be this one. Handed on in parts too.
+// Sets the pen, unless it is known to be this one. The parts of `at` are passed on one by one here too. Most cells
+// have the pen of the one before, so the functions that set a pen are `cold`.
 #[inline(always)]
-fn put_paints<K: Sink>(
+fn emit_paints<K: Sink>(
     print: &mut Print,
     depth: Depth,
     at: At,
     attributes: Attributes,
     sink: &mut K,
 )
-    ensures { Gathers (K.told sink.old) (K.told sink.new) print.old print.new
-        (flat_map spelling (paints depth at (placed_at 0 space attributes))) }
+    ensures { Prints (K.observed sink.old) (K.observed sink.new) print.old print.new
+        (flat_map encoding (paints depth at (placed_at 0 space attributes))) }
 {
     if !is_pen(at, attributes) {
-        let painted = at.painted;
-        let pen = at.pen;
-        put_paints_on(print, depth, painted, pen, attributes, sink);
-    }
-}
-
-// Sets the pen from another one, if that is known.
-#[inline(never)]
-fn put_paints_on<K: Sink>(
-    print: &mut Print,
-    depth: Depth,
-    painted: bool,
-    pen: Attributes,
-    attributes: Attributes,
-    sink: &mut K,
-)
-    ensures { Gathers (K.told sink.old) (K.told sink.new) print.old print.new
-        (flat_map spelling (if painted then repaints (pen_of depth pen) (pen_of depth attributes) else paints_of (pen_of depth attributes))) }
-{
-    if painted {
-        put_repaint(print, depth, pen, attributes, sink);
-    } else {
-        put_pen(print, depth, attributes, sink);
+        if at.painted {
+            emit_repaint(print, depth, at.pen, attributes, sink);
+        } else {
+            emit_pen(print, depth, attributes, sink);
+        }
     }
 }
 

@@ -1,104 +1,91 @@
-//! The rows of a buffer one under another, in colours.
+//! The rows of a buffer one below the other, in colours.
 
 ghost use Rattle.std.specs.Prelude.{◌≡◌, ◌↔◌, ◌<◌, ◌++◌, IsTrue, List, flat_map, length, ℕ};
-ghost use Rattle.tui_outside.specs.Causes.{Writes};
-ghost use Rattle.tui_outside.specs.Gathers.{Gathers};
-ghost use Rattle.tui_terminal.specs.Seeing.{cover_of};
+ghost use Rattle.tui_io.specs.Causes.{Writes};
+ghost use Rattle.tui_io.specs.Prints.{Prints};
+ghost use Rattle.tui_terminal.specs.Seeing.{shown_in};
 ghost use Rattle.tui_terminal.specs.StyledCells.{StyledCell, has_same_marks, is_sent_same, styled_line};
-ghost use Rattle.tui_tty.specs.Pens.{pen_of};
-ghost use Rattle.tui_tty.specs.Pieces.{next_cover, pieces, shown, shown_row, uncovered};
-ghost use Rattle.tui_tty.specs.Spelling.{spelling};
-ghost use Rattle.tui_tty.specs.Styled.{AreStyledRows, Becomes, StyledRow};
-ghost use Rattle.tui_tty.specs.Terminal.{Command, rest};
-ghost use Rattle.tui_tty.specs.declared.trust.Trust.TheVariants.{Common};
+ghost use Rattle.tui_terminal_model.specs.Pens.{pen_of};
+ghost use Rattle.tui_terminal_model.specs.Pieces.{pieces, shown_row, uncovered};
+ghost use Rattle.tui_terminal_model.specs.Encoding.{encoding};
+ghost use Rattle.tui_terminal_model.specs.Styled.{AreStyledRows, Becomes, StyledRow};
+ghost use Rattle.tui_terminal_model.specs.Terminal.{Command, rest};
+ghost use Rattle.tui_terminal_model.specs.declared.widths.KnownWidths.TheVariants.{Common};
 
 use crate::adding::marks_stay;
-use crate::pens::{at_depth, put_pen};
-use crate::seeing::{Under, see};
+use crate::pens::{at_depth, emit_pen};
+use crate::seeing::{Seen, Under, see};
 use tui_cells::{Attributes, Buffer, Cell};
-use tui_outside::{Print, Sink, WriteFault};
-use tui_tty::{Depth, Trust};
+use tui_io::{Print, Sink, WriteFault};
+use tui_terminal_model::{Depth, KnownWidths};
 
-/// What is known within a row: what the next cells lie under, and the attributes that the pen was set by.
-#[derive(Clone, Copy)]
-struct Place {
-    under: Under,
-    pen: Attributes,
-}
-
-/// Writes the rows of a buffer one under another, for a pipe, a log or `less -R`: each cell that shows, with what sets the pen where it changes,
-/// and behind each row a newline, with the pen at rest. No cursor is moved. A symbol that may not be sent is blanks in its columns and colours.
-/// `WriteFault`: the sink has taken the first bytes, but not all of them. Takes no memory.
+/// Writes the rows of a buffer one below the other, for a pipe, a log or `less -R`. Each visible cell is
+/// written, with the sequences that set the pen where it changes. After each row there is a newline, at which
+/// the pen is the default one. The cursor is not moved.
+///
+/// A symbol that may not be sent is written as spaces, in its columns and colours. Fails with `WriteFault` if
+/// a write fails; the sink has then taken a proper prefix of the output. Never allocates.
 pub fn write_styled_rows<K: Sink>(
     buf: &Buffer,
     depth: Depth,
     sink: &mut K,
 ) -> Result<(), WriteFault>
-    ensures text { (text : List ℕ) × AreStyledRows depth buf.now text × Writes (K.told sink.old) (K.told sink.new) result text }
+    ensures text { (text : List ℕ) × AreStyledRows depth buf.now text × Writes (K.observed sink.old) (K.observed sink.new) result text }
 {
     let mut print = Print::new();
-    put_styled_rows(&mut print, depth, buf, sink);
+    emit_styled_rows(&mut print, depth, buf, sink);
     print.end(sink)
 }
 
-fn put_styled_rows<K: Sink>(print: &mut Print, depth: Depth, buf: &Buffer, sink: &mut K)
-    ensures { (text : List ℕ) × AreStyledRows depth buf.now text × Gathers (K.told sink.old) (K.told sink.new) print.old print.new text }
+fn emit_styled_rows<K: Sink>(print: &mut Print, depth: Depth, buf: &Buffer, sink: &mut K)
+    ensures { (text : List ℕ) × AreStyledRows depth buf.now text × Prints (K.observed sink.old) (K.observed sink.new) print.old print.new text }
 {
     'rows: for row in 0..buf.height() {
-        put_styled_row(print, depth, buf.row_at(row), sink);
+        emit_styled_row(print, depth, buf.row_at(row), sink);
     }
 }
 
-fn put_styled_row<K: Sink>(print: &mut Print, depth: Depth, row: &[Cell], sink: &mut K)
+fn emit_styled_row<K: Sink>(print: &mut Print, depth: Depth, row: &[Cell], sink: &mut K)
     requires { length row.now < 65536 }
     ensures { (cs : List Command) × StyledRow depth rest (pieces 0 (shown_row Common uncovered row.now)) cs
-        × Gathers (K.told sink.old) (K.told sink.new) print.old print.new (styled_line cs) }
+        × Prints (K.observed sink.old) (K.observed sink.new) print.old print.new (styled_line cs) }
 {
-    let mut place = Place {
-        under: Under::none(),
-        pen: Attributes::at_rest(),
-    };
+    // What covers the next cells, and the attributes of the pen.
+    let mut under = Under::none();
+    let mut pen = Attributes::unstyled();
     'columns: for column in 0..row.len() {
-        place = put_styled_cell(print, depth, place, row.len() - column, &row[column], sink);
+        let cell = &row[column];
+        let seen = see(KnownWidths::Common, under, row.len() - column, cell);
+        pen = emit_seen(print, depth, pen, seen, sink);
+        under = seen.under;
     }
-    put_change(print, depth, place.pen, Attributes::at_rest(), sink);
+    emit_change(print, depth, pen, Attributes::unstyled(), sink);
     print.push(sink, b'\n');
 }
 
-// Adds what shows in a column, if anything begins there.
-fn put_styled_cell<K: Sink>(
+// Adds what shows in a column, if anything begins there. Returns the attributes of the pen then.
+fn emit_seen<K: Sink>(
     print: &mut Print,
     depth: Depth,
-    place: Place,
-    room: usize,
-    cell: &Cell,
+    pen: Attributes,
+    seen: Seen<'_>,
     sink: &mut K,
-) -> Place
-    requires { (0 < room) × (room < 65536) }
-    ensures put { (cs : List Command)
-        × StyledCell depth (pen_of depth place.pen) (shown Common (cover_of place.under) room cell.now) (pen_of depth result.pen) cs
-        × Gathers (K.told sink.old) (K.told sink.new) print.old print.new (flat_map spelling cs) }
-    ensures under { cover_of result.under ≡ next_cover Common (cover_of place.under) room cell.now }
+) -> Attributes
+    ensures { (cs : List Command)
+        × StyledCell depth (pen_of depth pen) (shown_in seen.entry) (pen_of depth result) cs
+        × Prints (K.observed sink.old) (K.observed sink.new) print.old print.new (flat_map encoding cs) }
 {
-    let seen = see(Trust::Common, place.under, room, cell);
-    let under = seen.under;
     if seen.shows {
-        put_change(print, depth, place.pen, seen.attributes, sink);
+        emit_change(print, depth, pen, seen.attributes, sink);
         print.text(sink, seen.symbol);
-        Place {
-            under,
-            pen: seen.attributes,
-        }
+        seen.attributes
     } else {
-        Place {
-            under,
-            pen: place.pen,
-        }
+        pen
     }
 }
 
 // Sets the pen, unless it is that one already.
-fn put_change<K: Sink>(
+fn emit_change<K: Sink>(
     print: &mut Print,
     depth: Depth,
     from: Attributes,
@@ -106,15 +93,15 @@ fn put_change<K: Sink>(
     sink: &mut K,
 )
     ensures { (cs : List Command) × Becomes (pen_of depth from) (pen_of depth to) cs
-        × Gathers (K.told sink.old) (K.told sink.new) print.old print.new (flat_map spelling cs) }
+        × Prints (K.observed sink.old) (K.observed sink.new) print.old print.new (flat_map encoding cs) }
 {
     if is_same_pen(depth, from, to) {
         return;
     }
-    put_pen(print, depth, to, sink);
+    emit_pen(print, depth, to, sink);
 }
 
-// Whether two cells are drawn by one pen.
+// Whether two attributes are drawn with the same pen.
 fn is_same_pen(depth: Depth, one: Attributes, other: Attributes) -> bool
     ensures { IsTrue result ↔ (pen_of depth one ≡ pen_of depth other) }
 {
@@ -127,7 +114,8 @@ fn is_same_at(depth: Depth, one: Attributes, other: Attributes) -> bool
     is_sent_same(at_depth(depth, one), at_depth(depth, other))
 }
 
-// Whether attributes set one pen where their colours are as they are sent. Bits that are no mark set nothing.
+// Whether attributes set the same pen, if their colours are already converted to the depth. Bits that are no
+// marks are ignored.
 fn is_sent_same(one: Attributes, other: Attributes) -> bool
     ensures { result ≡ is_sent_same one other }
 {

@@ -1,11 +1,11 @@
-//! Which symbols are sent, and which of them a terminal is trusted with.
+//! Which symbols are sent, and which have a known width.
 
 ghost use Rattle.std.specs.Prelude.{◌≡◌, ◌<◌, ◌&&◌, ◌||◌, [], ◌∷◌, nat_eq, nat_le, true};
 ghost use Rattle.std.specs.Cmp.Lexicographic.{pointwise};
 ghost use Rattle.tui_terminal.specs.Narrow.{is_narrow};
 ghost use Rattle.tui_text.specs.Visible.{step_of};
-ghost use Rattle.tui_tty.specs.Symbols.{
-  ascii_trusted,
+ghost use Rattle.tui_terminal_model.specs.Symbols.{
+  ascii_ranges,
   has_columns,
   is_among,
   is_ascii,
@@ -16,55 +16,56 @@ ghost use Rattle.tui_tty.specs.Symbols.{
   is_quiet_byte,
   is_skin_tone,
   is_tail,
-  is_trusted,
+  has_known_width,
   joins_next,
-  three_byte_trusted,
-  two_byte_trusted,
+  three_byte_ranges,
+  two_byte_ranges,
 };
-ghost use Rattle.tui_tty.specs.Terminal.{reach, reach_of};
+ghost use Rattle.tui_terminal_model.specs.Terminal.{reach, reach_of};
 
+use tui_terminal_model::KnownWidths;
 use tui_text::symbol_columns;
-use tui_tty::Trust;
 use unicode_width::UnicodeWidthChar;
 
-/// How many columns a symbol takes, and whether a terminal is trusted with it.
+/// The columns of a symbol, and whether that is a known width.
 #[derive(Clone, Copy)]
 pub(crate) struct Known {
     pub columns: usize,
-    pub trusted: bool,
+    pub known_width: bool,
 }
 
-/// What is known of a symbol.
+/// Looks up a symbol.
 #[inline]
-pub(crate) fn known_of(trust: Trust, symbol: &str) -> Known
+pub(crate) fn known_of(widths: KnownWidths, symbol: &str) -> Known
     ensures columns { result.columns ≡ step_of symbol.now }
-    ensures trusted { result.trusted ≡ is_trusted trust symbol.now }
+    ensures known_width { result.known_width ≡ has_known_width widths symbol.now }
 {
     Known {
         columns: symbol_columns(symbol),
-        trusted: is_trusted(trust, symbol),
+        known_width: has_known_width(widths, symbol),
     }
 }
 
-/// Whether a symbol of this many columns may be sent, where this many are left in the row. A trusted one holds no control character.
+/// Whether a symbol of this many columns may be sent, with `room` columns left in the row. A symbol of known
+/// width must hold no control character.
 #[inline]
-pub(crate) fn is_sendable(symbol: &str, room: usize, columns: usize, trusted: bool) -> bool
-    requires { (room < 65536) × (trusted ≡ true → is_quiet symbol.now ≡ true) }
+pub(crate) fn is_sendable(symbol: &str, room: usize, columns: usize, known_width: bool) -> bool
+    requires { (room < 65536) × (known_width ≡ true → is_quiet symbol.now ≡ true) }
     ensures { result ≡ ((is_quiet symbol.now && nat_le columns room)
-        && (trusted || ((is_led symbol.now && is_ended symbol.now) && nat_le (reach symbol.now) room))) }
+        && (known_width || ((is_led symbol.now && is_ended symbol.now) && nat_le (reach symbol.now) room))) }
 {
-    is_allowed(symbol, room, trusted) && columns <= room
+    is_allowed(symbol, room, known_width) && columns <= room
 }
 
 #[inline]
-fn is_allowed(symbol: &str, room: usize, trusted: bool) -> bool
+fn is_allowed(symbol: &str, room: usize, known_width: bool) -> bool
     requires { room < 65536 }
-    ensures { result ≡ (trusted || (is_quiet symbol.now && ((is_led symbol.now && is_ended symbol.now) && nat_le (reach symbol.now) room))) }
+    ensures { result ≡ (known_width || (is_quiet symbol.now && ((is_led symbol.now && is_ended symbol.now) && nat_le (reach symbol.now) room))) }
 {
-    trusted || is_harmless(symbol, room)
+    known_width || is_harmless(symbol, room)
 }
 
-// Whether a symbol that a terminal is not trusted with begins no command and spoils nothing beside it.
+// Whether a symbol of uncertain width begins no command and affects nothing beside it.
 #[inline(never)]
 fn is_harmless(symbol: &str, room: usize) -> bool
     requires { room < 65536 }
@@ -73,42 +74,42 @@ fn is_harmless(symbol: &str, room: usize) -> bool
     is_quiet(symbol) && (is_led(symbol) && is_ended(symbol) && is_within_reach(symbol, room))
 }
 
-/// Whether a terminal is trusted with a symbol that takes one column. Most are printable bytes.
+/// Whether a symbol has a known width and takes one column. Most such symbols are printable bytes.
 #[inline(always)]
-pub(crate) fn is_narrow(trust: Trust, symbol: &str) -> bool
-    ensures { result ≡ is_narrow trust symbol.now }
+pub(crate) fn is_narrow(widths: KnownWidths, symbol: &str) -> bool
+    ensures { result ≡ is_narrow widths symbol.now }
 {
-    is_ascii(symbol) || is_known_narrow(trust, symbol)
+    is_ascii(symbol) || is_narrow_slow(widths, symbol)
 }
 
 #[inline(never)]
-fn is_known_narrow(trust: Trust, symbol: &str) -> bool
-    ensures { result ≡ is_narrow trust symbol.now }
+fn is_narrow_slow(widths: KnownWidths, symbol: &str) -> bool
+    ensures { result ≡ is_narrow widths symbol.now }
 {
-    is_known_trusted(trust, symbol) && symbol_columns(symbol) == 1
+    has_known_width_slow(widths, symbol) && symbol_columns(symbol) == 1
 }
 
-/// Whether a terminal is trusted with a symbol.
+/// Whether a symbol has a known width.
 #[inline(always)]
-pub(crate) fn is_trusted(trust: Trust, symbol: &str) -> bool
-    ensures { result ≡ is_trusted trust symbol.now }
+pub(crate) fn has_known_width(widths: KnownWidths, symbol: &str) -> bool
+    ensures { result ≡ has_known_width widths symbol.now }
 {
-    is_ascii(symbol) || is_known_trusted(trust, symbol)
+    is_ascii(symbol) || has_known_width_slow(widths, symbol)
 }
 
 #[inline(never)]
-fn is_known_trusted(trust: Trust, symbol: &str) -> bool
-    ensures { result ≡ is_trusted trust symbol.now }
+fn has_known_width_slow(widths: KnownWidths, symbol: &str) -> bool
+    ensures { result ≡ has_known_width widths symbol.now }
 {
-    match trust {
-        Trust::Common => is_common(symbol),
-        Trust::Ascii => is_ascii(symbol),
+    match widths {
+        KnownWidths::Common => is_common(symbol),
+        KnownWidths::Ascii => is_ascii(symbol),
     }
 }
 
-/// Whether a symbol is one printable byte, with which each terminal is trusted.
+/// Whether a symbol is one printable byte. Its width is known to every terminal.
 #[inline]
-#[tactic(auto, unfolding(tui_tty::specs::Symbols::is_ascii))]
+#[tactic(auto, unfolding(tui_terminal_model::specs::Symbols::is_ascii))]
 pub(crate) fn is_ascii(symbol: &str) -> bool
     ensures { result ≡ is_ascii symbol.now }
 {
@@ -118,7 +119,7 @@ pub(crate) fn is_ascii(symbol: &str) -> bool
     }
 }
 
-#[tactic(auto, unfolding(tui_tty::specs::Symbols::is_common))]
+#[tactic(auto, unfolding(tui_terminal_model::specs::Symbols::is_common))]
 fn is_common(symbol: &str) -> bool
     ensures { result ≡ is_common symbol.now }
 {
@@ -132,19 +133,19 @@ fn is_common(symbol: &str) -> bool
 
 #[inline]
 fn is_printable(byte: u8) -> bool
-    ensures { result ≡ is_among ascii_trusted byte }
+    ensures { result ≡ is_among ascii_ranges byte }
 {
     is_within(byte as u32, 0x20, 0x7e)
 }
 
-#[tactic(auto, unfolding(tui_tty::specs::Symbols::is_common))]
+#[tactic(auto, unfolding(tui_terminal_model::specs::Symbols::is_common))]
 fn is_common_two(a: u8, b: u8) -> bool
     ensures { result ≡ is_common (a ∷ b ∷ []) }
 {
-    is_tail(b) && 0xc0 <= a && is_two_trusted(64 * (a as u32 - 0xc0) + (b as u32 - 0x80))
+    is_tail(b) && 0xc0 <= a && is_in_two_byte_ranges(64 * (a as u32 - 0xc0) + (b as u32 - 0x80))
 }
 
-#[tactic(auto, unfolding(tui_tty::specs::Symbols::is_common))]
+#[tactic(auto, unfolding(tui_terminal_model::specs::Symbols::is_common))]
 fn is_common_three(a: u8, b: u8, c: u8) -> bool
     ensures { result ≡ is_common (a ∷ b ∷ c ∷ []) }
 {
@@ -162,8 +163,8 @@ fn is_tail(byte: u8) -> bool
 }
 
 // Latin, Greek and Cyrillic.
-fn is_two_trusted(code: u32) -> bool
-    ensures { result ≡ is_among two_byte_trusted code }
+fn is_in_two_byte_ranges(code: u32) -> bool
+    ensures { result ≡ is_among two_byte_ranges code }
 {
     is_within(code, 0xa1, 0xa8)
         | is_within(code, 0xaa, 0xac)
@@ -178,17 +179,17 @@ fn is_two_trusted(code: u32) -> bool
         | is_within(code, 0x48a, 0x52f)
 }
 
-// Most texts of such characters are of ideographs, so these are asked for first.
+// Most text of such characters is ideographs, so these are checked first.
 #[inline]
 fn is_three(code: u32) -> bool
-    ensures { result ≡ is_among three_byte_trusted code }
+    ensures { result ≡ is_among three_byte_ranges code }
 {
-    is_within(code, 0x4e00, 0x9fd5) || is_three_trusted(code)
+    is_within(code, 0x4e00, 0x9fd5) || is_in_three_byte_ranges(code)
 }
 
 // Dashes, arrows, lines, blocks, Braille, kana, ideographs, Hangul and fullwidth forms.
-fn is_three_trusted(code: u32) -> bool
-    ensures { result ≡ is_among three_byte_trusted code }
+fn is_in_three_byte_ranges(code: u32) -> bool
+    ensures { result ≡ is_among three_byte_ranges code }
 {
     is_within(code, 0x2010, 0x2027)
         | is_within(code, 0x2190, 0x2193)
@@ -240,7 +241,8 @@ fn is_within(code: u32, low: u32, high: u32) -> bool
     low <= code && code <= high
 }
 
-// Whether a symbol holds no control character, so that it begins no command. Most that are asked for have three bytes.
+// Whether a symbol holds no control character, so that it begins no command. Most symbols that are checked
+// have three bytes.
 fn is_quiet(symbol: &str) -> bool
     ensures { result ≡ is_quiet symbol.now }
 {
@@ -251,7 +253,7 @@ fn is_quiet(symbol: &str) -> bool
 }
 
 #[inline]
-#[tactic(auto, unfolding(tui_tty::specs::Symbols::is_quiet))]
+#[tactic(auto, unfolding(tui_terminal_model::specs::Symbols::is_quiet))]
 fn is_quiet_three(a: u8, b: u8, c: u8) -> bool
     ensures { result ≡ is_quiet (a ∷ b ∷ c ∷ []) }
 {
@@ -281,7 +283,7 @@ fn is_quiet_byte(after: bool, b: u8) -> bool
 }
 
 // Whether the first character takes a column by itself.
-#[tactic(auto, unfolding(tui_tty::specs::Symbols::is_led))]
+#[tactic(auto, unfolding(tui_terminal_model::specs::Symbols::is_led))]
 fn is_led(symbol: &str) -> bool
     ensures { result ≡ is_led symbol.now }
 {
@@ -297,7 +299,7 @@ fn takes_column(c: char) -> bool
     c.width().unwrap_or(0) > 0 && !is_skin_tone(c)
 }
 
-// Whether a character joins an emoji before it, though it has columns of its own.
+// Whether a character is a skin tone, which joins an emoji before it, though it has columns of its own.
 fn is_skin_tone(c: char) -> bool
     ensures { result ≡ is_skin_tone c }
 {
@@ -337,7 +339,7 @@ fn reach_of(c: char) -> usize
     }
 }
 
-/// Whether two symbols are the same. A comparison of texts is a call, which a single byte needs not.
+/// Whether two symbols are the same. Comparing strings is a call, which single bytes don't need.
 #[inline]
 pub(crate) fn is_same_text(one: &str, other: &str) -> bool
     ensures { result ≡ pointwise nat_eq one.now other.now }

@@ -1,43 +1,52 @@
-//! Whole screens, and their changes.
+//! Writing whole screens and their changes.
 
 ghost use Rattle.std.specs.Prelude.{◌≡◌, ◌+◌, ◌<◌, ◌≤◌, ◌&&◌, length, nat_lt, slice_index_or, ℕ, List, [], ◌∷◌, false, flat_map, map, true, if◌then◌else◌};
 ghost use Rattle.tui_cells.specs.Buffer.{IsScreen};
-ghost use Rattle.tui_outside.specs.Causes.{Writes};
-ghost use Rattle.tui_outside.specs.Gathers.{Gathers};
-ghost use Rattle.tui_tty.specs.Calls.{IsChange, IsFull, grave, mend, mending};
-ghost use Rattle.tui_tty.specs.Sends.{closing, cursor_commands};
-ghost use Rattle.tui_tty.specs.Shows.{IsPlace};
-ghost use Rattle.tui_tty.specs.Spelling.{spelling};
-ghost use Rattle.tui_tty.specs.Symbols.{is_trusted};
-ghost use Rattle.tui_tty.specs.Terminal.{held, place, turn, visible};
-ghost use Rattle.tui_tty_laws.specs.Sending.{change, full, nowhere, row_anew, row_changes, rows_sent, send, send_rows};
+ghost use Rattle.tui_io.specs.Causes.{Writes};
+ghost use Rattle.tui_io.specs.Prints.{Prints};
+ghost use Rattle.tui_terminal_model.specs.Calls.{IsChange, IsFull, grave, mend, mending};
+ghost use Rattle.tui_terminal_model.specs.Sends.{closing, cursor_commands};
+ghost use Rattle.tui_terminal_model.specs.Shows.{IsCursorInside};
+ghost use Rattle.tui_terminal_model.specs.Encoding.{encoding};
+ghost use Rattle.tui_terminal_model.specs.Symbols.{has_known_width};
+ghost use Rattle.tui_terminal_model.specs.Terminal.{synchronizing, place, set_mode, visible};
+ghost use Rattle.tui_terminal_laws.specs.Sending.{change, full, nothing_known, row_in_full, row_changes, rows_sent, send, send_rows};
 
-use crate::rows::{put_anew, put_changes};
-use crate::spelling::{put_held, put_place, put_tame, put_visible};
-use crate::symbols::is_trusted;
+use crate::encoding::{emit_place, emit_reset_modes, emit_synchronizing, emit_visible};
+use crate::rows::{emit_all, emit_changes};
+use crate::symbols::has_known_width;
+use crate::target::RowTarget;
 use tui_cells::{Buffer, Position, Rect};
-use tui_outside::{Print, Sink, WriteFault};
-use tui_tty::{Cursor, Output, Trust};
+use tui_io::{Print, Sink, WriteFault};
+use tui_terminal_model::{Cursor, KnownWidths, Output};
 
-/// The symbol of which `mending` in the definitions speaks.
+/// The symbol `grave` of the definition `mending`.
 const GRAVE: &str = "À";
 
-/// Writes what makes any terminal on whose screen the buffer's area lies show the buffer, whatever it showed before, as far as it is a
-/// terminal of that `output`: each symbol that it is trusted with stands right, and each of a row whose symbols it all knows. A symbol that
-/// may not be sent, as one with a control character, is blanks in its columns. The cursor's position lies in the area. `WriteFault`: the sink
-/// has taken the first bytes, but not all of them, and a full screen mends the terminal. Takes no memory.
+/// Writes the buffer in full. Any terminal that has the buffer's area and fits `output` then shows the
+/// buffer, whatever it showed before. Every cell whose symbol has a known width is right. So is every cell of
+/// a row whose symbols the terminal all knows.
+///
+/// A symbol that may not be sent, such as one with a control character, shows as blanks in its columns. The
+/// cursor's position must lie in the area.
+///
+/// Fails with `WriteFault` if a write fails. The sink has then taken a proper prefix of the output, and a
+/// full screen repairs the terminal. Never allocates.
 pub fn write_full<K: Sink>(buf: &Buffer, output: Output, sink: &mut K) -> Result<(), WriteFault>
-    requires { IsPlace output.cursor buf.now }
-    ensures text { (text : List ℕ) × IsFull output buf.now text × Writes (K.told sink.old) (K.told sink.new) result text }
+    requires { IsCursorInside output.cursor buf.now }
+    ensures text { (text : List ℕ) × IsFull output buf.now text × Writes (K.observed sink.old) (K.observed sink.new) result text }
 {
     let mut print = Print::new();
-    put_full(&mut print, buf, output, sink);
+    emit_full(&mut print, buf, output, sink);
     print.end(sink)
 }
 
-/// Writes what makes a terminal that shows the old buffer show the new one, which has the same area: the cells that have changed, and of a
-/// row in which a symbol comes or goes that the terminal isn't trusted with, all. Where nothing has changed, not one byte, but for the cursor
-/// and what holds the output. `WriteFault` as for `write_full`. Takes no memory.
+/// Writes what changes a terminal that shows the old buffer into one that shows the new buffer, which has the
+/// same area. Only changed cells are sent. A row in which a symbol of uncertain width appears or disappears
+/// is sent in full.
+///
+/// If nothing has changed, nothing is sent for the cells; the cursor and synchronized output are sent as
+/// `output` says. Fails with `WriteFault` as `write_full` does. Never allocates.
 pub fn write_changes<K: Sink>(
     old: &Buffer,
     new: &Buffer,
@@ -45,38 +54,38 @@ pub fn write_changes<K: Sink>(
     sink: &mut K,
 ) -> Result<(), WriteFault>
     requires area { old.now.area ≡ new.now.area }
-    requires cursor { IsPlace output.cursor new.now }
-    ensures text { (text : List ℕ) × IsChange output old.now new.now text × Writes (K.told sink.old) (K.told sink.new) result text }
+    requires cursor { IsCursorInside output.cursor new.now }
+    ensures text { (text : List ℕ) × IsChange output old.now new.now text × Writes (K.observed sink.old) (K.observed sink.new) result text }
 {
     let mut print = Print::new();
-    put_change(&mut print, old, new, output, sink);
+    emit_change(&mut print, old, new, output, sink);
     print.end(sink)
 }
 
-fn put_full<K: Sink>(print: &mut Print, buf: &Buffer, output: Output, sink: &mut K)
-    ensures put { Gathers (K.told sink.old) (K.told sink.new) print.old print.new (flat_map spelling (full output buf.now)) }
+fn emit_full<K: Sink>(print: &mut Print, buf: &Buffer, output: Output, sink: &mut K)
+    ensures emitted { Prints (K.observed sink.old) (K.observed sink.new) print.old print.new (flat_map encoding (full output buf.now)) }
     ensures shape { IsScreen buf.now }
 {
-    put_tame(print, sink);
-    put_mending(print, output.trust, buf.area(), sink);
-    put_hold(print, output.hold, true, sink);
-    put_rows(print, output, buf, sink);
-    put_closing(print, output, sink);
+    emit_reset_modes(print, sink);
+    emit_mending(print, output.widths, buf.area(), sink);
+    emit_synchronizing_if(print, output.synchronized, true, sink);
+    emit_rows(print, output, buf, sink);
+    emit_closing(print, output, sink);
 }
 
-// Some terminals keep the first part of a character that was cut short until a text beyond ASCII comes.
-fn put_mending<K: Sink>(print: &mut Print, trust: Trust, area: Rect, sink: &mut K)
-    ensures { Gathers (K.told sink.old) (K.told sink.new) print.old print.new (flat_map spelling (mending trust area)) }
+// Some terminals keep the first bytes of a character that was cut short until a non-ASCII text comes.
+fn emit_mending<K: Sink>(print: &mut Print, widths: KnownWidths, area: Rect, sink: &mut K)
+    ensures { Prints (K.observed sink.old) (K.observed sink.new) print.old print.new (flat_map encoding (mending widths area)) }
 {
-    if is_mended(trust, area) {
-        put_mend(print, area, sink);
+    if is_mended(widths, area) {
+        emit_mend(print, area, sink);
     }
 }
 
-fn is_mended(trust: Trust, area: Rect) -> bool
-    ensures { result ≡ (is_trusted trust grave && (nat_lt 0 area.width && nat_lt 0 area.height)) }
+fn is_mended(widths: KnownWidths, area: Rect) -> bool
+    ensures { result ≡ (has_known_width widths grave && (nat_lt 0 area.width && nat_lt 0 area.height)) }
 {
-    is_trusted(trust, GRAVE) && is_some(area)
+    has_known_width(widths, GRAVE) && is_some(area)
 }
 
 fn is_some(area: Rect) -> bool
@@ -85,44 +94,42 @@ fn is_some(area: Rect) -> bool
     0 < area.width && 0 < area.height
 }
 
-fn put_mend<K: Sink>(print: &mut Print, area: Rect, sink: &mut K)
-    ensures { Gathers (K.told sink.old) (K.told sink.new) print.old print.new (flat_map spelling (mend area)) }
+fn emit_mend<K: Sink>(print: &mut Print, area: Rect, sink: &mut K)
+    ensures { Prints (K.observed sink.old) (K.observed sink.new) print.old print.new (flat_map encoding (mend area)) }
 {
-    put_place(print, area.x as usize, area.y as usize, sink);
+    emit_place(print, area.x as usize, area.y as usize, sink);
     print.text(sink, "\x1b[0m");
     print.text(sink, GRAVE);
 }
 
-fn put_change<K: Sink>(print: &mut Print, old: &Buffer, new: &Buffer, output: Output, sink: &mut K)
+fn emit_change<K: Sink>(print: &mut Print, old: &Buffer, new: &Buffer, output: Output, sink: &mut K)
     requires { old.now.area ≡ new.now.area }
-    ensures put { Gathers (K.told sink.old) (K.told sink.new) print.old print.new (flat_map spelling (change output old.now new.now)) }
+    ensures emitted { Prints (K.observed sink.old) (K.observed sink.new) print.old print.new (flat_map encoding (change output old.now new.now)) }
     ensures shape { IsScreen old.now × IsScreen new.now }
 {
-    put_hold(print, output.hold, true, sink);
-    put_new_rows(print, output, old, new, sink);
-    put_closing(print, output, sink);
+    emit_synchronizing_if(print, output.synchronized, true, sink);
+    emit_new_rows(print, output, old, new, sink);
+    emit_closing(print, output, sink);
 }
 
-fn put_rows<K: Sink>(print: &mut Print, output: Output, buf: &Buffer, sink: &mut K)
-    ensures put { Gathers (K.told sink.old) (K.told sink.new) print.old print.new
-        (flat_map spelling (send_rows output buf.now.area.y (map (row_anew output.trust buf.now.area.x) buf.now.rows))) }
+fn emit_rows<K: Sink>(print: &mut Print, output: Output, buf: &Buffer, sink: &mut K)
+    ensures emitted { Prints (K.observed sink.old) (K.observed sink.new) print.old print.new
+        (flat_map encoding (send_rows output buf.now.area.y (map (row_in_full output.widths buf.now.area.x) buf.now.rows))) }
     ensures shape { IsScreen buf.now }
 {
     let area = buf.area();
     'rows: for row in 0..buf.height() {
         let cells = buf.row_at(row);
-        put_anew(
-            print,
+        let target = RowTarget {
             output,
-            area.y as usize + row,
-            area.x as usize,
-            cells,
-            sink,
-        );
+            y: area.y as usize + row,
+            left: area.x as usize,
+        };
+        emit_all(print, target, cells, sink);
     }
 }
 
-fn put_new_rows<K: Sink>(
+fn emit_new_rows<K: Sink>(
     print: &mut Print,
     output: Output,
     old: &Buffer,
@@ -130,95 +137,83 @@ fn put_new_rows<K: Sink>(
     sink: &mut K,
 )
     requires { old.now.area ≡ new.now.area }
-    ensures put { Gathers (K.told sink.old) (K.told sink.new) print.old print.new
-        (flat_map spelling (send_rows output new.now.area.y (rows_sent output.trust new.now.area.x old.now.rows new.now.rows))) }
+    ensures emitted { Prints (K.observed sink.old) (K.observed sink.new) print.old print.new
+        (flat_map encoding (send_rows output new.now.area.y (rows_sent output.widths new.now.area.x old.now.rows new.now.rows))) }
     ensures shape { IsScreen old.now × IsScreen new.now }
 {
     let area = new.area();
     let height_old = old.height();
     let height = new.height();
     'rows: for row in 0..height.min(height_old) {
-        put_new_row(
-            print,
+        let target = RowTarget {
             output,
-            area.y as usize + row,
-            area.x as usize,
-            old,
-            new,
-            row,
-            sink,
-        );
+            y: area.y as usize + row,
+            left: area.x as usize,
+        };
+        emit_new_row(print, target, RowChange { old, new, row }, sink);
     }
 }
 
-// Most rows of most frames are passed over.
-fn put_new_row<K: Sink>(
-    print: &mut Print,
-    output: Output,
-    y: usize,
-    left: usize,
-    old: &Buffer,
-    new: &Buffer,
+/// A row of two buffers.
+#[derive(Clone, Copy)]
+struct RowChange<'b> {
+    old: &'b Buffer,
+    new: &'b Buffer,
     row: usize,
-    sink: &mut K,
-)
-    requires { (row < length old.now.rows) × (row < length new.now.rows)
-        × (length (slice_index_or old.now.rows row []) ≡ length (slice_index_or new.now.rows row []))
-        × (left + length (slice_index_or new.now.rows row []) ≤ 65535) × (y < 65536) }
-    ensures { Gathers (K.told sink.old) (K.told sink.new) print.old print.new
-        (flat_map spelling (send output y nowhere
-        (row_changes output.trust left (slice_index_or old.now.rows row []) (slice_index_or new.now.rows row [])))) }
+}
+
+// Most rows of most frames are unchanged.
+fn emit_new_row<K: Sink>(print: &mut Print, target: RowTarget, change: RowChange<'_>, sink: &mut K)
+    requires { (change.row < length change.old.now.rows) × (change.row < length change.new.now.rows)
+        × (length (slice_index_or change.old.now.rows change.row []) ≡ length (slice_index_or change.new.now.rows change.row []))
+        × (target.left + length (slice_index_or change.new.now.rows change.row []) ≤ 65535) × (target.y < 65536) }
+    ensures { Prints (K.observed sink.old) (K.observed sink.new) print.old print.new
+        (flat_map encoding (send target.output target.y nothing_known (row_changes target.output.widths target.left
+        (slice_index_or change.entry.old.now.rows change.entry.row []) (slice_index_or change.entry.new.now.rows change.entry.row [])))) }
 {
+    let RowChange { old, new, row } = change;
     if !old.is_row_same(new, row) {
-        put_changes(
-            print,
-            output,
-            y,
-            left,
-            old.row_at(row),
-            new.row_at(row),
-            sink,
-        );
+        emit_changes(print, target, old.row_at(row), new.row_at(row), sink);
     }
 }
 
-// What is held back until the frame is whole, if the terminal is asked to.
-fn put_hold<K: Sink>(print: &mut Print, hold: bool, on: bool, sink: &mut K)
-    ensures { Gathers (K.told sink.old) (K.told sink.new) print.old print.new
-        (flat_map spelling (if hold then turn held on ∷ [] else [])) }
+// Begins or ends synchronized output, if it is used.
+fn emit_synchronizing_if<K: Sink>(print: &mut Print, synchronized: bool, on: bool, sink: &mut K)
+    ensures { Prints (K.observed sink.old) (K.observed sink.new) print.old print.new
+        (flat_map encoding (if synchronized then set_mode synchronizing on ∷ [] else [])) }
 {
-    if hold {
-        put_held(print, on, sink);
+    if synchronized {
+        emit_synchronizing(print, on, sink);
     }
 }
 
-fn put_closing<K: Sink>(print: &mut Print, output: Output, sink: &mut K)
-    ensures { Gathers (K.told sink.old) (K.told sink.new) print.old print.new (flat_map spelling (closing output)) }
+fn emit_closing<K: Sink>(print: &mut Print, output: Output, sink: &mut K)
+    ensures { Prints (K.observed sink.old) (K.observed sink.new) print.old print.new (flat_map encoding (closing output)) }
 {
-    put_cursor(print, output.cursor, sink);
-    put_hold(print, output.hold, false, sink);
+    emit_cursor(print, output.cursor, sink);
+    emit_synchronizing_if(print, output.synchronized, false, sink);
 }
 
-fn put_cursor<K: Sink>(print: &mut Print, cursor: Cursor, sink: &mut K)
-    ensures { Gathers (K.told sink.old) (K.told sink.new) print.old print.new (flat_map spelling (cursor_commands cursor)) }
+fn emit_cursor<K: Sink>(print: &mut Print, cursor: Cursor, sink: &mut K)
+    ensures { Prints (K.observed sink.old) (K.observed sink.new) print.old print.new (flat_map encoding (cursor_commands cursor)) }
 {
     match cursor {
         Cursor::Keep => {}
-        Cursor::Hidden => put_hidden(print, sink),
-        Cursor::At(p) => put_cursor_at(print, p, sink),
+        Cursor::Hidden => emit_hidden(print, sink),
+        Cursor::At(p) => emit_cursor_at(print, p, sink),
     }
 }
 
-fn put_hidden<K: Sink>(print: &mut Print, sink: &mut K)
-    ensures { Gathers (K.told sink.old) (K.told sink.new) print.old print.new (flat_map spelling (turn visible false ∷ [])) }
+fn emit_hidden<K: Sink>(print: &mut Print, sink: &mut K)
+    ensures { Prints (K.observed sink.old) (K.observed sink.new) print.old print.new (flat_map encoding (set_mode visible false ∷ [])) }
 {
-    put_visible(print, false, sink);
+    emit_visible(print, false, sink);
 }
 
-fn put_cursor_at<K: Sink>(print: &mut Print, p: Position, sink: &mut K)
-    ensures { Gathers (K.told sink.old) (K.told sink.new) print.old print.new
-        (flat_map spelling (place p.x p.y ∷ turn visible true ∷ [])) }
+fn emit_cursor_at<K: Sink>(print: &mut Print, p: Position, sink: &mut K)
+    ensures { Prints (K.observed sink.old) (K.observed sink.new) print.old print.new
+        (flat_map encoding (place p.x p.y ∷ set_mode visible true ∷ [])) }
 {
-    put_place(print, p.x as usize, p.y as usize, sink);
-    put_visible(print, true, sink);
+    emit_place(print, p.x as usize, p.y as usize, sink);
+    emit_visible(print, true, sink);
 }

@@ -1,4 +1,4 @@
--- An element of a list that is seen by a function, and answers that hold of an Ok.
+-- Elements of mapped lists, and results that hold of an Ok.
 use Rattle.std.proofs.Common.{
   refl,
   take,
@@ -40,18 +40,18 @@ use Rattle.std.proofs.lemmas.Bool.Decides.{nat_tests}
 use Rattle.std.proofs.lemmas.List.Elements.{All-get_or}
 use Rattle.std.proofs.lemmas.List.Sums.{get_or-le-sum_by}
 
--- what holds of each element, as it is seen, holds of one
+-- what holds of each mapped element holds of the one at an index
 pub seen_at : {A B : Type 0} (f : A → B) (P : B → Type 0) (xs : List A) (i : ℕ) (x d : A) → i < length xs → x ≡ get_or xs i d → All P (map f xs) → P (f x)
 seen_at f P xs i x d lt at all =
     subst P (get_or-map f xs i d (f x) lt ∙ sym (ap f at)) (All-get_or P (map f xs) i (f x) (rw (length-map xs f) lt) all)
 
--- the elements from one on are that one and the others
+-- the mapped elements from an index on are the one there and the others
 pub seen_from : {A B : Type 0} (f : A → B) (xs : List A) (i : ℕ) (x d : A) → i < length xs → x ≡ get_or xs i d → map f (drop i xs) ≡ f x ∷ map f (drop (i + 1) xs)
 seen_from f xs i x d lt at =
     let e : drop i xs ≡ get_or xs i d ∷ drop (i + 1) xs = rw add-one (drop-cons xs i d lt) in
     ap (map f) (e ∙ ap (λ y. y ∷ drop (i + 1) xs) (sym at))
 
--- the same of elements that are seen in two steps
+-- the same for elements that are mapped twice
 pub seen_twice_from : {A B C : Type 0} (g : B → C) (f : A → B) (xs : List A) (i : ℕ) (x d : A) → i < length xs → x ≡ get_or xs i d →
     map g (map f (drop i xs)) ≡ g (f x) ∷ map g (map f (drop (i + 1) xs))
 seen_twice_from g f xs i x d lt at = ap (map g) (seen_from f xs i x d lt at)
@@ -63,7 +63,7 @@ none_from xs i le = drop_all i xs le
 positive : (m n : ℕ) → m ≤ n → nat_lt 0 m ≡ true → nat_lt 0 n ≡ true
 positive m n le e = grind (arith, nat_tests)
 
--- a sum is above 0 where a part of it is
+-- a sum is above 0 if one of its parts is
 pub some_in : {A B : Type 0} (g : B → ℕ) (f : A → B) (xs : List A) (i : ℕ) (d : A) → i < length xs → nat_lt 0 (g (f (get_or xs i d))) ≡ true →
     nat_lt 0 (sum_by g (map f xs)) ≡ true
 some_in g f xs i d lt e =
@@ -78,7 +78,7 @@ pub if_ok : {T E : Type 0} {P Q : T → Type 0} (r : Result T E) → ((x : T) �
 if_ok (Ok x) f p = f x p
 if_ok (Err e) f p = tt
 
--- what is seen of the first elements and of one more, which looks like the next one
+-- the first mapped elements and one more, whose image is that of the next one
 pub seen_more : {A B : Type 0} (f : A → B) (xs ys : List A) (i : ℕ) (x y d : A) → i < length xs → x ≡ get_or xs i d → f y ≡ f x →
     map f ys ≡ map f (take i xs) → map f (ys ++ y ∷ []) ≡ map f (take (i + 1) xs)
 seen_more f xs ys i x y d lt at like e =

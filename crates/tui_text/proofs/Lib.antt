@@ -1,4 +1,4 @@
-pub mod LightTexts
+pub mod AllocationFreeTexts
 pub mod Texts
 pub mod RowStays
 pub mod RowStrokes

@@ -25,7 +25,7 @@ use Rattle.tui_text.specs.Row.{InRow, ShownUpTo}
 use Rattle.tui_text.specs.Setting.{set_cluster, set_clusters}
 use Rattle.tui_text.specs.Span.{SpanData}
 use Rattle.tui_clusters.proofs.OneByte.{byte_width}
-use Rattle.tui_text.proofs.Runs.{kept_spelt, set_spelt}
+use Rattle.tui_text.proofs.Runs.{kept_written, set_written}
 use Rattle.tui_text.proofs.Settings.{fits, pick_true, set_none}
 
 column_in : (row : Rect) (skip place x : ℕ) → skip ≤ place → x ≡ row.x + (place - skip) → x < right_of row → row.y < bottom_of row →
@@ -36,7 +36,7 @@ shown_byte : (row : Rect) (skip place x b : ℕ) (style : Style) → width_of (b
     set_cluster x row.y style (b ∷ []) ≡ shown_glyph row skip place (glyph_in style (b ∷ []))
 shown_byte row skip place x b style wide column = rw (wide, column) refl
 
--- what is shown of bytes whose columns lie in a row is what is set of them in a room
+-- painting bytes whose columns lie in a row is setting them in a room of columns
 shown_run : (row : Rect) (skip place x room : ℕ) (style : Style) (run : List ℕ) (more : List Glyph) → list_all is_printable run ≡ true →
     skip ≤ place → x ≡ row.x + (place - skip) → length run ≤ room → x + length run ≤ right_of row → row.y < bottom_of row →
     set_clusters x row.y room style (map one_byte run) ++ shown_glyphs row skip (place + length run) more
@@ -67,7 +67,7 @@ painted_run row skip place x style run more a b e k is p = record {
 }
   where
     bytes : Painted (set_clusters x row.y (length run) style (map one_byte run)) a b
-    bytes = set_spelt x row.y (length run) (length run) style run [] (map one_byte run) a b b (sym (append-nil (map one_byte run))) e (omega arith) refl p
+    bytes = set_written x row.y (length run) (length run) style run [] (map one_byte run) a b b (sym (append-nil (map one_byte run))) e (omega arith) refl p
         (set_none (x + length run) row.y (length run - length run) style [] b refl)
 
 first_glyphs : (style : Style) (run : List ℕ) (cs all : List (List ℕ)) (more : List Glyph) → all ≡ map one_byte run ++ cs →
@@ -76,7 +76,7 @@ first_glyphs style run cs all more e =
     sym (ap (λ ts. map (glyph_in style) ts ++ more) e ∙ (ap (λ gs. gs ++ more) (map-append (glyph_in style) (map one_byte run) cs)
     ∙ append_assoc (map (glyph_in style) (map one_byte run)) (map (glyph_in style) cs) more))
 
--- a text's first bytes, and its clusters behind them
+-- a text's first bytes, and its clusters after them
 pub painted_first : (row : Rect) (skip place next : ℕ) (style : Style) (run : List ℕ) (cs all : List (List ℕ)) (a b : Screen) → all ≡ map one_byte run ++ cs →
     ((more : List Glyph) → ShownUpTo row skip place (map (glyph_in style) (map one_byte run) ++ more) next more a b) →
     (more : List Glyph) → ShownUpTo row skip place (map (glyph_in style) all ++ more) next (map (glyph_in style) cs ++ more) a b
@@ -93,15 +93,15 @@ pub run_kept : (row : Rect) (skip place x : ℕ) (style : Style) (run : List ℕ
     Painted (ascii_layers x row.y style run) a b → KeptOutside (row_part row) a b
 run_kept row skip place x style run a b k is p =
     KeptOutside-weaker (λ u v out. run_out row x (length run) u v (omega (arith, is)) (omega (arith, is, k.within)) k.low out)
-    (kept_spelt x row.y (length run) style run a b (omega arith) p)
+    (kept_written x row.y (length run) style run a b (omega arith) p)
 
--- one cluster more of a text
+-- one more cluster of a text
 pub painted_next : (row : Rect) (skip place next : ℕ) (style : Style) (c : List ℕ) (rest cs : List (List ℕ)) (a b : Screen) → cs ≡ c ∷ rest →
     ((more : List Glyph) → ShownUpTo row skip place (glyph_in style c ∷ more) next more a b) →
     (more : List Glyph) → ShownUpTo row skip place (map (glyph_in style) cs ++ more) next (map (glyph_in style) rest ++ more) a b
 painted_next row skip place next style c rest cs a b e p more = rw e (p (map (glyph_in style) rest ++ more))
 
--- a style over one that sets nothing is itself
+-- patching the empty style with a style gives that style
 or_none : {A : Type 0} (o : Option A) → option_or o None ≡ o
 or_none None = refl
 or_none (Some x) = refl
@@ -112,7 +112,7 @@ bits_alone add sub = rw (or_zero_l sub, xor_self sub, or_zero_l add) refl
 unpatched : (s : Style) → patched no_style s ≡ s
 unpatched s = rw (or_none s.fg, or_none s.bg, bits_alone s.add_modifier.bits s.sub_modifier.bits, bits_alone s.sub_modifier.bits s.add_modifier.bits) refl
 
--- one span more of a line
+-- one more span of a line
 pub painted_span : (row : Rect) (skip place next : ℕ) (s : SpanData) (ss spans : List SpanData) (a b : Screen) → spans ≡ s ∷ ss →
     ((more : List Glyph) → ShownUpTo row skip place (map (glyph_in s.style) (clusters s.content) ++ more) next more a b) →
     ShownUpTo row skip place (flat_map (span_graphemes no_style) spans) next (flat_map (span_graphemes no_style) ss) a b

@@ -4,7 +4,7 @@ use Rattle.std.specs.Option.{option_map_or}
 use Rattle.std.proofs.lemmas.Bool.{and_parts}
 use Rattle.std.proofs.lemmas.Bool.Decides.{nat_tests}
 use Rattle.tui_cells.specs.declared.rect.Rect.{Rect}
-use Rattle.tui_cells.specs.Cell.{dress, put, wipe}
+use Rattle.tui_cells.specs.Cell.{set_style, write, wipe}
 use Rattle.tui_cells.specs.declared.style.Style.{Style}
 use Rattle.tui_cells.specs.Buffer.{Screen}
 use Rattle.tui_cells.specs.Layers.{KeptOutside, Painted, StayIn, at_place, stroke}
@@ -16,7 +16,7 @@ use Rattle.tui_text.specs.Grapheme.{Glyph, glyph_width}
 use Rattle.tui_text.specs.Line.{LineData}
 use Rattle.tui_text.specs.Painting.{
   alignment_in,
-  before_it,
+  alignment_offset,
   below,
   cells_at,
   column_at,
@@ -41,15 +41,15 @@ place_out row x y a b inside out = grind (arith, nat_tests)
 cells_out : (row : Rect) (x y w a b : ℕ) → covers row x y ≡ true → covers row (x + (w - 1)) y ≡ true → covers row a b ≡ false → covers (cells_at x y w) a b ≡ false
 cells_out row x y w a b first last out = grind (arith, nat_tests)
 
-behind_out : (row : Rect) (x y w a b : ℕ) → covers row x y ≡ true → covers row (x + (w - 1)) y ≡ true → covers row a b ≡ false → covers (cells_at (x + 1) y (w - 1)) a b ≡ false
-behind_out row x y w a b first last out = grind (arith, nat_tests)
+after_out : (row : Rect) (x y w a b : ℕ) → covers row x y ≡ true → covers row (x + (w - 1)) y ≡ true → covers row a b ≡ false → covers (cells_at (x + 1) y (w - 1)) a b ≡ false
+after_out row x y w a b first last out = grind (arith, nat_tests)
 
 -- a grapheme whose first and last column lie in a row
 pub glyph_stays : (row : Rect) (x : ℕ) (g : Glyph) → covers row x row.y ≡ true → covers row (x + (glyph_width g - 1)) row.y ≡ true → StayIn (covers row) (glyph_at x row.y g)
 glyph_stays row x g first last =
-    StayIn-append (StayIn-stroke (at_place x row.y) (put g.text) (λ a b out. place_out row x row.y a b first out))
-    (StayIn-append (StayIn-stroke (covers (cells_at x row.y 1)) (dress g.style) (λ a b out. cells_out row x row.y 1 a b first (one row x row.y first) out))
-    (StayIn-stroke (covers (cells_at (x + 1) row.y (glyph_width g - 1))) wipe (λ a b out. behind_out row x row.y (glyph_width g) a b first last out)))
+    StayIn-append (StayIn-stroke (at_place x row.y) (write g.text) (λ a b out. place_out row x row.y a b first out))
+    (StayIn-append (StayIn-stroke (covers (cells_at x row.y 1)) (set_style g.style) (λ a b out. cells_out row x row.y 1 a b first (one row x row.y first) out))
+    (StayIn-stroke (covers (cells_at (x + 1) row.y (glyph_width g - 1))) wipe (λ a b out. after_out row x row.y (glyph_width g) a b first last out)))
   where
     one : (row : Rect) (x y : ℕ) → covers row x y ≡ true → covers row (x + 0) y ≡ true
     one row x y e = grind (arith, nat_tests)
@@ -75,11 +75,11 @@ or_parts true b e = e
 or_parts false b e = refl
 
 line_stays : (row : Rect) (a : Alignment) (line : LineData) (t : Bool) → (is_empty row || (saturated (line_width false line) == 0)) ≡ t →
-    StayIn (covers row) (if t then [] else stroke (covers (first_row row)) (dress line.style)
-    ++ shown_glyphs row (before_it a (saturated (line_width false line)) row.width) (before_it a row.width (saturated (line_width false line))) (line_glyphs line))
+    StayIn (covers row) (if t then [] else stroke (covers (first_row row)) (set_style line.style)
+    ++ shown_glyphs row (alignment_offset a (saturated (line_width false line)) row.width) (alignment_offset a row.width (saturated (line_width false line))) (line_glyphs line))
 line_stays row a line true e = StayIn-none
 line_stays row a line false e =
-    StayIn-append (StayIn-stroke (covers (first_row row)) (dress line.style) (λ x y out. first_out row x y (or_parts _ _ e) out)) (glyphs_stay row _ _ (line_glyphs line))
+    StayIn-append (StayIn-stroke (covers (first_row row)) (set_style line.style) (λ x y out. first_out row x y (or_parts _ _ e) out)) (glyphs_stay row _ _ (line_glyphs line))
 
 pub row_stays : (row : Rect) (a : Alignment) (line : LineData) → StayIn (covers row) (row_layers row a line)
 unfolding row_layers
@@ -89,9 +89,9 @@ part_out : (row : Rect) (x y : ℕ) → row_part row x y ≡ false → is_empty 
 part_out row x y out some = grind (arith, nat_tests)
 
 -- the style on the first row of an area changes nothing outside that row
-pub dressed_kept : (row : Rect) (style : Style) (a b : Screen) → is_empty row ≡ false → Painted (stroke (covers (first_row row)) (dress style)) a b →
+pub style_kept : (row : Rect) (style : Style) (a b : Screen) → is_empty row ≡ false → Painted (stroke (covers (first_row row)) (set_style style)) a b →
     KeptOutside (row_part row) a b
-dressed_kept row style a b some p = Painted-kept (StayIn-stroke (covers (first_row row)) (dress style) (λ x y out. part_out row x y out some)) p
+style_kept row style a b some p = Painted-kept (StayIn-stroke (covers (first_row row)) (set_style style) (λ x y out. part_out row x y out some)) p
 
 found : (t : Bool) (p x : ℕ) → (if t then Some p else None) ≡ Some x → (t ≡ true) × (p ≡ x)
 found true p x e = (refl, cc)
@@ -114,7 +114,7 @@ glyph_kept row skip place w x a b e k =
 pub line_kept : (row : Rect) (a b : Screen) → KeptOutside (row_part row) a b → KeptOutside (covers row) a b
 line_kept row a b k = KeptOutside-weaker (λ x y out. rw out refl) k
 
--- where a line has columns, it may change its whole row
+-- if a line has columns, it may change its whole row
 pub part_kept : (row : Rect) (line : LineData) (a b : Screen) → nat_lt 0 (line_width false line) ≡ true → KeptOutside (row_part row) a b →
     KeptOutside (line_part row line) a b
 unfolding line_part
@@ -131,4 +131,4 @@ lines_stay area given (l ∷ ls) =
 
 -- the strokes of a text stay in its area
 pub text_stays : (area : Rect) (text : TextData) → StayIn (covers area) (text_layers area text)
-text_stays area text = StayIn-append (StayIn-stroke (covers area) (dress text.style) (λ x y out. out)) (lines_stay area text.alignment text.lines)
+text_stays area text = StayIn-append (StayIn-stroke (covers area) (set_style text.style) (λ x y out. out)) (lines_stay area text.alignment text.lines)

@@ -25,16 +25,16 @@ pub shown_none : (row : Rect) (skip place : ℕ) (gs : List Glyph) (b : Screen) 
 unfolding shown_glyphs
 shown_none row skip place gs b e = rw e (Painted-none b)
 
--- what follows from a place that was cut
+-- cutting a place past the row changes nothing
 shown_cut : (row : Rect) (skip place most : ℕ) (gs : List Glyph) → skip + row.width ≤ most → shown_glyphs row skip (min place most) gs ≡ shown_glyphs row skip place gs
 shown_cut row skip place most gs wide = grind (arith, shown_past row skip most gs, shown_past row skip place gs)
 
--- past the row all is painted, whatever is left
+-- past the row everything is painted, whatever is left
 pub shown_whole : (row : Rect) (skip place : ℕ) (all left : List Glyph) (b : Screen) → skip + row.width ≤ place → ShownUpTo row skip place all place left b b
 shown_whole row skip place all left b far =
     record { done = λ final p. rw (shown_past row skip place all far) (rw (shown_past row skip place left far) at p) }
 
--- what is painted, and then more of what was left
+-- what is painted, followed by more of what was left
 pub shown_then : {row : Rect} {skip place next later : ℕ} {all left rest : List Glyph} {a b c : Screen} →
     ShownUpTo row skip place all next left a b → ShownUpTo row skip next left later rest b c → ShownUpTo row skip place all later rest a c
 shown_then p q = record { done = λ final r. p.done final (q.done final r) }

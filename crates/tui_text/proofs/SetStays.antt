@@ -16,7 +16,7 @@ use Rattle.tui_text.specs.Setting.{room_in, set_cluster, set_clusters, set_end, 
 use Rattle.tui_text.specs.Span.{SpanData}
 use Rattle.tui_text.proofs.RowStays.{glyph_stays}
 
--- a column of a row, with a room that ends in it
+-- a column of a row, with a room of columns that ends in the row
 pub record Inside (row : Rect) (x room : ℕ) : Type 0 where
   pub left : row.x ≤ x
   pub right : x + room ≤ right_of row
@@ -27,7 +27,7 @@ end_from : (x room w : ℕ) (fits : Bool) (end : ℕ) → nat_le w room ≡ fits
 end_from x room w true end e from to = let le : w ≤ room = grind (arith, nat_tests) in (omega arith, omega arith)
 end_from x room w false end e from to = (omega arith, omega arith)
 
--- the column after the last one used lies in the room
+-- the column after the last one used lies in the room, or just after it
 pub set_end_within : (x room : ℕ) (cs : List (List ℕ)) → (x ≤ set_end x room cs) × (set_end x room cs ≤ x + room)
 unfolding set_end
 set_end_within x room [] = (omega arith, omega arith)
@@ -35,15 +35,15 @@ set_end_within x room (c ∷ cs) =
     let next = set_end_within (x + width_of c) (room - width_of c) cs in
     end_from x room (width_of c) (nat_le (width_of c) room) (set_end (x + width_of c) (room - width_of c) cs) refl next.0 next.1
 
--- so for spans
+-- the same for spans
 pub spans_end_within : (x room : ℕ) (spans : List SpanData) → (x ≤ spans_end x room spans) × (spans_end x room spans ≤ x + room)
 unfolding spans_end
 spans_end_within x room [] = (omega arith, omega arith)
 spans_end_within x room (s ∷ ss) =
     let next = set_end x room (clusters s.content) in
     let here = set_end_within x room (clusters s.content) in
-    let behind = spans_end_within next (room - (next - x)) ss in
-    (omega (arith, here.0, behind.0), omega (arith, here.0, here.1, behind.1))
+    let after = spans_end_within next (room - (next - x)) ss in
+    (omega (arith, here.0, after.0), omega (arith, here.0, here.1, after.1))
 
 first_inside : (row : Rect) (x room w : ℕ) → Inside row x room → w ≤ room → nat_lt 0 w ≡ true → covers row x row.y ≡ true
 first_inside row x room w i le e = let p = i.left in let q = i.right in let h = i.high in grind (arith, nat_tests)
@@ -68,7 +68,7 @@ fits_stay row x room style c cs true e i rest =
     StayIn-append (one_stays row x room style c (nat_lt 0 (width_of c)) refl i le) (rest (next_inside row x room (width_of c) i le))
 fits_stay row x room style c cs false e i rest = StayIn-none
 
--- clusters that are set in a room of a row stay there
+-- clusters that are set in a room of columns of a row stay there
 pub clusters_stay : (row : Rect) (x room : ℕ) (style : Style) (cs : List (List ℕ)) → Inside row x room → StayIn (covers row) (set_clusters x row.y room style cs)
 unfolding set_clusters
 clusters_stay row x room style [] i = StayIn-none

@@ -68,18 +68,18 @@ end_none x room cs e = ap (set_end x room) e
 to_in : (a e x w y u v : ℕ) → a ≤ x → x + w ≤ e → covers (cells_at a y (e - a)) u v ≡ false → covers (cells_at x y w) u v ≡ false
 to_in a e x w y u v first last out = grind (arith, nat_tests)
 
--- columns of a room up to another one
+-- a range of columns within a larger one
 kept_to : (a e x w y : ℕ) (old new : Screen) → a ≤ x → x + w ≤ e → KeptOutside (covers (cells_at x y w)) old new →
     KeptOutside (covers (cells_at a y (e - a))) old new
 kept_to a e x w y old new first last k = KeptOutside-weaker (λ u v out. to_in a e x w y u v first last out) k
 
--- so what is set first, where the column after the last one used is the same for what is left
+-- a first run, if the column after the last one used is the same for what is left
 pub kept_run : (a x room n end y : ℕ) (cs : List (List ℕ)) (old new : Screen) → a ≤ x → set_end (x + n) (room - n) cs ≡ end →
     KeptOutside (covers (cells_at x y n)) old new → KeptOutside (covers (cells_at a y (end - a))) old new
 kept_run a x room n end y cs old new first e k =
     kept_to a end x n y old new first (omega (arith, e, (set_end_within (x + n) (room - n) cs).0)) k
 
--- what is set behind it
+-- what is set after it
 pub kept_rest : (a x room end y : ℕ) (cs : List (List ℕ)) (old new : Screen) → a ≤ x →
     KeptOutside (covers (cells_at x y (set_end x room cs - x))) old new → set_end x room cs ≡ end → KeptOutside (covers (cells_at a y (end - a))) old new
 kept_rest a x room end y cs old new first k e =
@@ -98,10 +98,10 @@ pub kept_span : (a x room end y : ℕ) (s : SpanData) (ss spans : List SpanData)
 unfolding spans_end
 kept_span a x room end y s ss spans old new first e is k =
     let next = set_end x room (clusters s.content) in
-    let behind : next ≤ spans_end x room spans = rw e (spans_end_within next (room - (next - x)) ss).0 in
-    kept_to a end x (next - x) y old new first (omega (arith, is, behind, (set_end_within x room (clusters s.content)).0)) k
+    let after : next ≤ spans_end x room spans = rw e (spans_end_within next (room - (next - x)) ss).0 in
+    kept_to a end x (next - x) y old new first (omega (arith, is, after, (set_end_within x room (clusters s.content)).0)) k
 
--- one span alone
+-- a single span
 pub one_span : (x y room : ℕ) (s : SpanData) (a b : Screen) → Painted (set_clusters x y room s.style (clusters s.content)) a b → Painted (spans_layers x y room (s ∷ [])) a b
 unfolding spans_layers
 one_span x y room s a b p = rw (append-nil (set_clusters x y room s.style (clusters s.content))) p

@@ -1,10 +1,10 @@
--- The cells of a row that show, one after another.
+-- The visible cells of a row, one after another.
 use Rattle.std.proofs.Common.{◌≡◌, ℕ, zero, suc, ◌+◌, ◌-◌, ◌<◌, ◌≤◌, List, [], ◌∷◌, length, get_or, drop, min, refl, ap, sym, ◌∙◌, add-one, arith, inl, inr}
 use Rattle.std.proofs.lemmas.Bool.{cases_lt}
 use Rattle.std.proofs.lemmas.List.{drop_all, drop-drop}
 use Rattle.std.proofs.Math.Seq.{drop-cons}
 use Rattle.tui_cells.specs.Cell.{Look}
-use Rattle.tui_text.specs.Visible.{Placed, step_of, visible_from}
+use Rattle.tui_text.specs.Visible.{PlacedCell, step_of, visible_from}
 
 pub some_step : (s : List ℕ) → 0 < step_of s
 unfolding step_of
@@ -13,7 +13,7 @@ some_step s = omega arith
 zero_more : (n : ℕ) → n ≡ n + 0
 zero_more n = omega arith
 
--- hidden cells are passed by
+-- hidden cells are skipped
 skipped : (column n : ℕ) (row : List Look) → visible_from column n row ≡ visible_from (column + n) 0 (drop n row)
 unfolding visible_from
 skipped column zero row = ap (λ k. visible_from k 0 row) (zero_more column)
@@ -33,10 +33,10 @@ here row i d lt =
     let first : drop i row ≡ get_or row i d ∷ drop (i + 1) row = rw (add-one, drop-cons row i d lt) refl in
     rw first refl
 
--- a cell that shows, and the next one, if the row has one
+-- a visible cell, and the next one, if the row has one
 pub visible_next : (row : List Look) (i step : ℕ) (d : Look) → i < length row → step ≡ min (step_of (get_or row i d).symbol) (length row - i) →
     visible_from i 0 (drop i row) ≡ record { column = i; cell = get_or row i d } ∷ visible_from (i + step) 0 (drop (i + step) row)
-visible_next row i step d lt is = here row i d lt ∙ ap (λ (rest : List Placed). record { column = i; cell = get_or row i d } ∷ rest) behind
+visible_next row i step d lt is = here row i d lt ∙ ap (λ (rest : List PlacedCell). record { column = i; cell = get_or row i d } ∷ rest) after
   where
     width : ℕ
     width = step_of (get_or row i d).symbol
@@ -50,8 +50,8 @@ visible_next row i step d lt is = here row i d lt ∙ ap (λ (rest : List Placed
     passed : visible_from (i + 1) n (drop (i + 1) row) ≡ visible_from (i + 1 + n) 0 (drop (i + 1 + n) row)
     passed = skipped (i + 1) n (drop (i + 1) row) ∙ ap (visible_from (i + 1 + n) 0) (drop-drop n (i + 1) row)
 
-    behind : visible_from (i + 1) n (drop (i + 1) row) ≡ visible_from (i + step) 0 (drop (i + step) row)
-    behind = elim (cases_lt width (length row - i)) [
+    after : visible_from (i + 1) n (drop (i + 1) row) ≡ visible_from (i + step) 0 (drop (i + step) row)
+    after = elim (cases_lt width (length row - i)) [
       | inl less ↦
           let same : i + 1 + n ≡ i + step = omega (arith, less, is, some) in
           passed ∙ ap (λ k. visible_from k 0 (drop k row)) same

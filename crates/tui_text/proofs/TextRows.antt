@@ -1,4 +1,4 @@
--- Lines one a row, one more at a time.
+-- Lines, one in each row, one more at a time.
 use Rattle.std.proofs.Common.{◌≡◌, true, List, [], ◌∷◌, Option, refl, arith}
 use Rattle.std.proofs.lemmas.Bool.Decides.{nat_tests}
 use Rattle.tui_cells.specs.declared.rect.Rect.{Rect}
@@ -23,7 +23,7 @@ unfolding lines_layers
 lines_none area given [] e = refl
 lines_none area given (l ∷ ls) e = rw (row_none area (alignment_in given l) l e) (lines_none (below area) given ls (below_empty area e))
 
--- one line more is painted
+-- one more line is painted
 pub lines_more : (area rest : Rect) (given : Option Alignment) (l : LineData) (ls lines : List LineData) (a b final : Screen) →
     lines ≡ l ∷ ls → rest ≡ below area →
     Painted (row_layers area (alignment_in given l) l) a b → Painted (lines_layers rest given ls) b final → Painted (lines_layers area given lines) a final

@@ -25,7 +25,7 @@ use Rattle.std.specs.Prelude.{
 }
 use Rattle.std.specs.Option.{option_map_or, option_or}
 use Rattle.tui_cells.specs.declared.rect.Rect.{Rect}
-use Rattle.tui_cells.specs.Cell.{dress, put, wipe}
+use Rattle.tui_cells.specs.Cell.{set_style, write, wipe}
 use Rattle.tui_cells.specs.Layers.{Layer, at_place, stroke}
 use Rattle.tui_cells.specs.Rect.{covers, is_empty, farthest_edge}
 use Rattle.tui_cells.specs.Style.{no_style}
@@ -46,22 +46,24 @@ cells_at x y width = record { x = x; y = y; width = width; height = 1 }
 abbrev pub first_row : Rect → Rect
 first_row area = cells_at area.x area.y area.width
 
--- the cells of the first row of an area that it has
+-- the cells of the first row of an area, none if the area is empty
 abbrev pub row_part : Rect → ℕ → ℕ → Bool
 row_part area x y = covers area x y && (y == area.y)
 
--- the cells that a line painted in an area may change: those of the area's first row, and none where the line has no columns
+-- the cells that a line painted in an area may change: those of the area's first row, and none if the line has no
+-- columns
 unfoldable pub line_part : Rect → LineData → ℕ → ℕ → Bool
 line_part area line x y = nat_lt 0 (line_width false line) && row_part area x y
 
--- a grapheme from a column on: its symbol, its style, and the cells behind a wide one made blank
+-- a grapheme from a column on: its symbol, its style, and the cells after the first one of a wide grapheme made blank
 abbrev pub glyph_at : ℕ → ℕ → Glyph → List Layer
 glyph_at x y g =
-    stroke (at_place x y) (put g.text)
-    ++ (stroke (covers (cells_at x y 1)) (dress g.style)
+    stroke (at_place x y) (write g.text)
+    ++ (stroke (covers (cells_at x y 1)) (set_style g.style)
     ++ stroke (covers (cells_at (x + 1) y (glyph_width g - 1))) wipe)
 
--- the column of a row that begins a place, counted from `skip` columns before the row, if a width above 0 is whole inside from there on
+-- the column of the row for a place, which is counted from `skip` columns before the row, if a width above 0 lies whole
+-- inside the row from there on
 abbrev pub column_at : Rect → ℕ → ℕ → ℕ → Option ℕ
 column_at row skip place width =
     let x = row.x + (place - skip) in
@@ -76,26 +78,26 @@ unfoldable pub shown_glyphs : Rect → ℕ → ℕ → List Glyph → List Layer
 shown_glyphs row skip place [] = []
 shown_glyphs row skip place (g ∷ gs) = shown_glyph row skip place g ++ shown_glyphs row skip (place + glyph_width g) gs
 
--- the graphemes of a line with the styles of their spans alone
+-- the graphemes of a line, in their spans' own styles
 abbrev pub line_glyphs : LineData → List Glyph
 line_glyphs line = flat_map (span_graphemes no_style) line.spans
 
--- how much of what is left of a room lies before what is placed in it, by the alignment; 0 where nothing is left
-abbrev pub before_it : Alignment → ℕ → ℕ → ℕ
-before_it Left room width = 0
-before_it Center room width = (room - width) / 2
-before_it Right room width = room - width
+-- how much of the free space, `room` minus `width`, lies before what is aligned; 0 if there is no free space
+abbrev pub alignment_offset : Alignment → ℕ → ℕ → ℕ
+alignment_offset Left room width = 0
+alignment_offset Center room width = (room - width) / 2
+alignment_offset Right room width = room - width
 
--- a line in the first row of an area: the line's style on the row, then the graphemes. A line that fits is indented; a wider
--- one loses columns at its left in the same way
+-- a line in the first row of an area: the line's style on the row, then the graphemes. A line that fits is indented. A
+-- wider one loses columns at its left in the same way.
 unfoldable pub row_layers : Rect → Alignment → LineData → List Layer
 row_layers row alignment line =
     let width = saturated (line_width false line) in
     if is_empty row || (width == 0) then []
-    else stroke (covers (first_row row)) (dress line.style)
-    ++ shown_glyphs row (before_it alignment width row.width) (before_it alignment row.width width) (line_glyphs line)
+    else stroke (covers (first_row row)) (set_style line.style)
+    ++ shown_glyphs row (alignment_offset alignment width row.width) (alignment_offset alignment row.width width) (line_glyphs line)
 
--- what is left of an area below its first row
+-- the rest of an area below its first row
 abbrev pub below : Rect → Rect
 below area = record { x = area.x; y = min (area.y + 1) farthest_edge; width = area.width; height = area.height - 1 }
 
@@ -110,4 +112,4 @@ lines_layers area given (l ∷ ls) = row_layers area (alignment_in given l) l ++
 
 -- a text in an area: its style on the area, then its lines
 abbrev pub text_layers : Rect → TextData → List Layer
-text_layers area text = stroke (covers area) (dress text.style) ++ lines_layers area text.alignment text.lines
+text_layers area text = stroke (covers area) (set_style text.style) ++ lines_layers area text.alignment text.lines

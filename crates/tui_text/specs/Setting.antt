@@ -3,7 +3,7 @@ use Rattle.std.specs.Prelude.{ℕ, ◌+◌, ◌-◌, Bool, min, nat_le, nat_lt, 
 use Rattle.tui_cells.specs.declared.position.Position.{Position}
 use Rattle.tui_cells.specs.declared.rect.Rect.{Rect}
 use Rattle.tui_cells.specs.declared.style.Style.{Style}
-use Rattle.tui_cells.specs.Cell.{IsLight}
+use Rattle.tui_cells.specs.Cell.{IsAllocationFree}
 use Rattle.tui_cells.specs.Layers.{Layer}
 use Rattle.tui_cells.specs.Rect.{covers, right_of}
 use Rattle.tui_cells.specs.Style.{patched}
@@ -22,7 +22,7 @@ corner area = record { x = area.x; y = area.y }
 abbrev pub set_cluster : ℕ → ℕ → Style → List ℕ → List Layer
 set_cluster x y style text = if nat_lt 0 (width_of text) then glyph_at x y (glyph_in style text) else []
 
--- graphemes side by side in a room, until the first that does not fit what is left of it
+-- graphemes side by side in a room of columns, until the first that does not fit in what is left
 unfoldable pub set_clusters : ℕ → ℕ → ℕ → Style → List (List ℕ) → List Layer
 set_clusters x y room style [] = []
 set_clusters x y room style (c ∷ cs) =
@@ -33,7 +33,7 @@ unfoldable pub set_end : ℕ → ℕ → List (List ℕ) → ℕ
 set_end x room [] = x
 set_end x room (c ∷ cs) = if nat_le (width_of c) room then set_end (x + width_of c) (room - width_of c) cs else x
 
--- spans one after another, each in what is left of the room
+-- spans one after another, each in the columns that are left
 unfoldable pub spans_layers : ℕ → ℕ → ℕ → List SpanData → List Layer
 spans_layers x y room [] = []
 spans_layers x y room (s ∷ ss) =
@@ -53,11 +53,12 @@ room_in clip x room = min room (right_of clip - x)
 abbrev pub set_layers : Rect → Position → List SpanData → ℕ → List Layer
 set_layers clip at spans room = if covers clip at.x at.y then spans_layers at.x at.y (room_in clip at.x room) spans else []
 
--- the column after the last one used, and the position's own where it lies outside the clip
+-- the column after the last one used, or the position's own if it lies outside the clip
 abbrev pub set_column : Rect → Position → List SpanData → ℕ → ℕ
 set_column clip at spans room = if covers clip at.x at.y then spans_end at.x (room_in clip at.x room) spans else at.x
 
--- the cells that spans set from a position of a clip on may change: those of its row from there up to the column after the last one used
+-- the cells that spans set from a position of a clip on may change: those of its row from there up to the column after
+-- the last one used
 abbrev pub set_part : Rect → Position → List SpanData → ℕ → ℕ → ℕ → Bool
 set_part clip at spans room = covers (cells_at at.x at.y (set_column clip at spans room - at.x))
 
@@ -65,14 +66,14 @@ set_part clip at spans room = covers (cells_at at.x at.y (set_column clip at spa
 abbrev pub styled_text : List ℕ → Style → List SpanData
 styled_text text style = record { content = text; style = style } ∷ []
 
--- the spans of a line, each in its style over the line's
+-- a span of a line, whose style patches the line's
 abbrev pub in_line : Style → SpanData → SpanData
 in_line style span = record { content = span.content; style = patched style span.style }
 
--- the spans of a line in their styles over the line's
+-- the spans of a line, whose styles patch the line's
 abbrev pub line_spans : LineData → List SpanData
 line_spans line = map (in_line line.style) line.spans
 
--- spans whose graphemes are kept in place, so that drawing them takes no memory
-abbrev pub AreLight : List SpanData → Type 0
-AreLight spans = All (λ s. All IsLight (clusters s.content)) spans
+-- spans whose graphemes are stored in their cells, so that drawing them does not allocate
+abbrev pub AreAllocationFree : List SpanData → Type 0
+AreAllocationFree spans = All (λ s. All IsAllocationFree (clusters s.content)) spans

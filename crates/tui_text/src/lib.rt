@@ -1,4 +1,4 @@
-//! Texts of styled spans, their lines and their graphemes.
+//! Texts of styled spans, with their lines and graphemes.
 #![tactic(auto)]
 
 pub mod alignment;
@@ -11,6 +11,7 @@ pub mod setting;
 pub mod span;
 pub mod text;
 pub mod visible;
+mod visible_text;
 mod width;
 
 pub use alignment::Alignment;
@@ -23,3 +24,4 @@ pub use span::Span;
 pub use text::Text;
 pub use tui_clusters::{cell_width, printable_byte};
 pub use visible::{VisibleCells, symbol_columns, visible_cells};
+pub use visible_text::row_text;

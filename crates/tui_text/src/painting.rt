@@ -1,4 +1,4 @@
-//! Painting of lines in rows, and of texts in areas.
+//! Painting lines in rows, and texts in areas.
 
 ghost use Rattle.std.specs.Prelude.{◌≡◌, ◌+◌, ◌-◌, ◌^◌, ◌≤◌, ◌<◌, All, IsOk, OnOk, false, map, sum_by};
 ghost use Rattle.tui_cells.specs.Layers.{KeptOutside, Painted};
@@ -6,14 +6,14 @@ ghost use Rattle.tui_cells.specs.Rect.{covers, intersection_of};
 ghost use Rattle.tui_text.specs.Line.{line_data, spans_line};
 ghost use Rattle.tui_text.specs.Painting.{
   alignment_in,
-  before_it,
+  alignment_offset,
   below,
   line_part,
   lines_layers,
   row_layers,
   text_layers,
 };
-ghost use Rattle.tui_text.specs.Setting.{AreLight};
+ghost use Rattle.tui_text.specs.Setting.{AreAllocationFree};
 ghost use Rattle.tui_text.specs.Span.{span_data};
 ghost use Rattle.tui_text.specs.Text.{text_data};
 ghost use Rattle.tui_clusters.specs.Width.{saturated};
@@ -27,9 +27,9 @@ use crate::text::Text;
 use crate::width::{has_columns, spans_width};
 use tui_cells::{Buffer, Mem, Rect, Style};
 
-/// How much of what is left of a room lies before what is placed in it.
-fn before_it(alignment: Alignment, room: usize, width: usize) -> usize
-    ensures is { result ≡ before_it alignment room width }
+/// Returns how much of the free space, `room` minus `width`, lies before what is aligned.
+fn alignment_offset(alignment: Alignment, room: usize, width: usize) -> usize
+    ensures is { result ≡ alignment_offset alignment room width }
     ensures within { result ≤ room - width }
 {
     match alignment {
@@ -39,9 +39,10 @@ fn before_it(alignment: Alignment, room: usize, width: usize) -> usize
     }
 }
 
-/// Paints spans in the first row of an area, as `paint_row` paints a line of them in a style. No line is made for it.
+/// Paints spans in the first row of an area, as `paint_row` paints a line of them in a style. No line is created for
+/// it.
 ///
-/// Spans that begin at the left are read once, and others once more for their width.
+/// Spans aligned to the left are read once. Others are read a second time, for their width.
 #[tactic(auto, unfolding(crate::specs::Painting::line_part, crate::specs::Painting::row_layers))]
 pub fn paint_spans(
     buf: &mut Buffer,
@@ -53,20 +54,21 @@ pub fn paint_spans(
     ensures ok { OnOk result (Painted (row_layers row alignment (spans_line (map span_data spans.now) style)) buf.old buf.new) }
     ensures kept { KeptOutside (covers row) buf.old buf.new }
     ensures part { KeptOutside (line_part row (spans_line (map span_data spans.now) style)) buf.old buf.new }
-    ensures light { AreLight (map span_data spans.now) → IsOk result }
+    ensures allocation_free { AreAllocationFree (map span_data spans.now) → IsOk result }
 {
     if row.is_empty() || !has_columns(spans) {
         return Ok(());
     }
-    let (skip, start) = beginning(spans, alignment, row.width);
+    let (skip, start) = skip_and_start(spans, alignment, row.width);
     buf.set_style(Rect { height: 1, ..row }, style);
     paint_glyphs(buf, row, skip, start, spans)
 }
 
-/// The columns of spans that are cut at their left, and the columns of a row before spans that fit.
-fn beginning(spans: &[Span<'_>], alignment: Alignment, room: u16) -> (usize, usize)
-    ensures skip { result.0 ≡ before_it alignment (saturated (sum_by (span_width false) (map span_data spans.now))) room }
-    ensures start { result.1 ≡ before_it alignment room (saturated (sum_by (span_width false) (map span_data spans.now))) }
+/// Returns how many columns of the spans are cut at their left, and how many columns of the row lie before spans that
+/// fit.
+fn skip_and_start(spans: &[Span<'_>], alignment: Alignment, room: u16) -> (usize, usize)
+    ensures skip { result.0 ≡ alignment_offset alignment (saturated (sum_by (span_width false) (map span_data spans.now))) room }
+    ensures start { result.1 ≡ alignment_offset alignment room (saturated (sum_by (span_width false) (map span_data spans.now))) }
     ensures within { result.0 + room < 2 ^ 64 }
 {
     match alignment {
@@ -75,29 +77,30 @@ fn beginning(spans: &[Span<'_>], alignment: Alignment, room: u16) -> (usize, usi
             let width = spans_width(spans, false);
             let room = room as usize;
             (
-                before_it(alignment, width, room),
-                before_it(alignment, room, width),
+                alignment_offset(alignment, width, room),
+                alignment_offset(alignment, room, width),
             )
         }
     }
 }
 
-/// Paints a line in the first row of an area, as `paint_line` does where the area lies in its clip and in the buffer.
+/// Paints a line in the first row of an area, as `paint_line` does if the area lies in its clip and in the buffer.
 #[tactic(auto, unfolding(crate::specs::Painting::line_part, crate::specs::Painting::row_layers))]
 pub fn paint_row(buf: &mut Buffer, row: Rect, line: &Line<'_>, alignment: Alignment) -> Mem<()>
     ensures ok { OnOk result (Painted (row_layers row alignment (line_data line.now)) buf.old buf.new) }
     ensures kept { KeptOutside (covers row) buf.old buf.new }
     ensures part { KeptOutside (line_part row (line_data line.now)) buf.old buf.new }
-    ensures light { AreLight (line_data line.now).spans → IsOk result }
+    ensures allocation_free { AreAllocationFree (line_data line.now).spans → IsOk result }
 {
     paint_spans(buf, row, line.spans(), line.line_style(), alignment)
 }
 
-/// Paints a line in the first row of its area within the clip and the buffer: its style on the row, then each grapheme that
-/// lies whole inside, in its span's style, the cells behind a wide one made blank. A line that fits is indented by its free
-/// columns: none (Left), half of them (Center) or all (Right); a wider one loses columns at its left in the same way. A line
-/// without columns changes nothing, also at NoMemory. Nothing outside that first row has changed then; graphemes of at most 8
-/// bytes take no memory.
+/// Paints a line in the first row of its area within the clip and the buffer. Sets the line's style on the row and then
+/// writes each grapheme that lies whole inside, in its span's style. The cells after the first one of a wide grapheme
+/// are made blank. A line that fits is indented by none (Left), half (Center) or all (Right) of its free columns. A
+/// wider line loses columns at its left in the same way. A line without columns changes nothing, whatever the result.
+/// Fails with `NoMemory` if memory runs out; nothing outside that first row has changed then. Graphemes of at most 8
+/// bytes do not allocate.
 pub fn paint_line(
     buf: &mut Buffer,
     clip: Rect,
@@ -109,13 +112,13 @@ pub fn paint_line(
         (Painted (row_layers (intersection_of area (intersection_of clip buf.old.area)) alignment (line_data line.now)) buf.old buf.new) }
     ensures kept { KeptOutside (covers (intersection_of area (intersection_of clip buf.old.area))) buf.old buf.new }
     ensures part { KeptOutside (line_part (intersection_of area (intersection_of clip buf.old.area)) (line_data line.now)) buf.old buf.new }
-    ensures light { AreLight (line_data line.now).spans → IsOk result }
+    ensures allocation_free { AreAllocationFree (line_data line.now).spans → IsOk result }
 {
     let part = clip.intersection(buf.area());
     paint_row(buf, area.intersection(part), line, alignment)
 }
 
-/// What is left of an area below its first row. The row itself is cut at 65535, which no area reaches.
+/// Returns the rest of an area below its first row. Its `y` is cut at 65535, which no area reaches.
 pub fn below(area: Rect) -> Rect
     ensures { result ≡ below area }
 {
@@ -127,7 +130,7 @@ pub fn below(area: Rect) -> Rect
     }
 }
 
-/// A line's own alignment, else the text's, else Left.
+/// Returns the line's own alignment, else the text's, else Left.
 fn alignment_in(given: Option<Alignment>, line: &Line<'_>) -> Alignment
     ensures { result ≡ alignment_in given (line_data line.now) }
 {
@@ -142,7 +145,7 @@ fn paint_lines(
 ) -> Mem<()>
     ensures ok { OnOk result (Painted (lines_layers area given (map line_data lines.now)) buf.old buf.new) }
     ensures kept { KeptOutside (covers area) buf.old buf.new }
-    ensures light { All (λ l. AreLight l.spans) (map line_data lines.now) → IsOk result }
+    ensures allocation_free { All (λ l. AreAllocationFree l.spans) (map line_data lines.now) → IsOk result }
 {
     let mut rest = area;
     for line in lines {
@@ -155,23 +158,24 @@ fn paint_lines(
     Ok(())
 }
 
-/// Paints a text in an area, as `paint_text` does where the area lies in its clip and in the buffer.
+/// Paints a text in an area, as `paint_text` does if the area lies in its clip and in the buffer.
 pub fn paint_rows(buf: &mut Buffer, area: Rect, text: &Text<'_>) -> Mem<()>
     ensures ok { OnOk result (Painted (text_layers area (text_data text.now)) buf.old buf.new) }
     ensures kept { KeptOutside (covers area) buf.old buf.new }
-    ensures light { All (λ l. AreLight l.spans) (text_data text.now).lines → IsOk result }
+    ensures allocation_free { All (λ l. AreAllocationFree l.spans) (text_data text.now).lines → IsOk result }
 {
     buf.set_style(area, text.text_style());
     paint_lines(buf, area, text.lines(), text.text_alignment())
 }
 
-/// Paints a text in its area within the clip and the buffer: its style on that part, then line i in row i as `paint_line` does,
-/// by the line's alignment, else the text's, else Left. Lines past the last row are left out. At NoMemory nothing outside that part has changed.
+/// Paints a text in its area within the clip and the buffer. Sets the text's style on that part and then paints line i
+/// in row i as `paint_line` does. The alignment is the line's, else the text's, else Left. Lines past the last row are
+/// left out. Fails with `NoMemory` if memory runs out; nothing outside that part has changed then.
 pub fn paint_text(buf: &mut Buffer, clip: Rect, area: Rect, text: &Text<'_>) -> Mem<()>
     ensures ok { OnOk result
         (Painted (text_layers (intersection_of area (intersection_of clip buf.old.area)) (text_data text.now)) buf.old buf.new) }
     ensures kept { KeptOutside (covers (intersection_of area (intersection_of clip buf.old.area))) buf.old buf.new }
-    ensures light { All (λ l. AreLight l.spans) (text_data text.now).lines → IsOk result }
+    ensures allocation_free { All (λ l. AreAllocationFree l.spans) (text_data text.now).lines → IsOk result }
 {
     let part = clip.intersection(buf.area());
     paint_rows(buf, area.intersection(part), text)

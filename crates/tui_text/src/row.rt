@@ -1,8 +1,8 @@
-//! Graphemes side by side in a row, with the printable bytes among them run by run.
+//! Graphemes side by side in a row. The printable bytes among them are written in runs.
 
 ghost use Rattle.std.specs.List.{list_all};
 ghost use Rattle.std.specs.Prelude.{◌≡◌, ◌+◌, ◌-◌, ◌^◌, ◌≤◌, ◌<◌, ◌∷◌, ◌++◌, All, IfOk, IsOk, List, OnOk, flat_map, length, map, true};
-ghost use Rattle.tui_cells.specs.Cell.{IsLight, wipe};
+ghost use Rattle.tui_cells.specs.Cell.{IsAllocationFree, wipe};
 ghost use Rattle.tui_cells.specs.Layers.{KeptOutside, Painted, stroke};
 ghost use Rattle.tui_cells.specs.Rect.{covers, farthest_edge};
 ghost use Rattle.tui_cells.specs.Style.{no_style};
@@ -13,7 +13,7 @@ ghost use Rattle.tui_text.specs.Graphemes.{glyph_in, span_graphemes};
 ghost use Rattle.tui_text.specs.Painting.{cells_at, column_at, glyph_at, row_part, shown_glyph, shown_glyphs};
 ghost use Rattle.tui_clusters.specs.Printable.{is_printable};
 ghost use Rattle.tui_text.specs.Row.{InRow, ShownUpTo};
-ghost use Rattle.tui_text.specs.Setting.{AreLight};
+ghost use Rattle.tui_text.specs.Setting.{AreAllocationFree};
 ghost use Rattle.tui_text.specs.Span.{span_data};
 
 use crate::grapheme::StyledGrapheme;
@@ -21,9 +21,9 @@ use crate::span::Span;
 use tui_cells::{Buffer, Mem, Position, Rect, Style};
 use tui_clusters::{Clusters, cell_width, is_plain_char, split_run};
 
-/// Makes the cells behind the first one of a grapheme blank. Mostly there is none.
+/// Makes the cells after the first one of a grapheme blank. Usually there are none.
 #[inline(always)]
-fn reset_behind(buf: &mut Buffer, x: u16, y: u16, width: u16)
+fn reset_after(buf: &mut Buffer, x: u16, y: u16, width: u16)
     requires { (0 < width) × (x + width ≤ farthest_edge) }
     ensures { Painted (stroke (covers (cells_at (x + 1) y (width - 1))) wipe) buf.old buf.new }
 {
@@ -38,9 +38,9 @@ fn reset_behind(buf: &mut Buffer, x: u16, y: u16, width: u16)
     });
 }
 
-/// Puts a grapheme of a width in its columns.
+/// Writes a grapheme into its columns.
 #[inline(always)]
-pub(crate) fn put_glyph(
+pub(crate) fn write_glyph(
     buf: &mut Buffer,
     x: u16,
     y: u16,
@@ -51,7 +51,7 @@ pub(crate) fn put_glyph(
     requires within { (0 < width) × (x + width ≤ farthest_edge) }
     ensures ok { OnOk result (Painted (glyph_at x y (glyph_of grapheme.now)) buf.old buf.new) }
     ensures kept { KeptOutside (covers (cells_at x y width)) buf.old buf.new }
-    ensures light { IsLight (glyph_of grapheme.now).text → IsOk result }
+    ensures allocation_free { IsAllocationFree (glyph_of grapheme.now).text → IsOk result }
 {
     buf.set_symbol(Position { x, y }, grapheme.symbol)?;
     let cell = Rect {
@@ -61,11 +61,11 @@ pub(crate) fn put_glyph(
         height: 1,
     };
     buf.set_style(cell, grapheme.style);
-    reset_behind(buf, x, y, width);
+    reset_after(buf, x, y, width);
     Ok(())
 }
 
-/// The column where a grapheme of a width begins, if it lies whole inside the row.
+/// Returns the column where a grapheme begins, if it lies whole inside the row.
 #[inline(always)]
 fn column_at(row: Rect, skip: usize, place: usize, width: u16) -> Option<u16>
     ensures is { result ≡ column_at row skip place width }
@@ -81,7 +81,7 @@ fn column_at(row: Rect, skip: usize, place: usize, width: u16) -> Option<u16>
     Some(row.x + from as u16)
 }
 
-/// Puts a grapheme of a width at a place, if it lies whole inside the row.
+/// Writes a grapheme at a place, if it lies whole inside the row.
 #[inline(always)]
 fn paint_glyph(
     buf: &mut Buffer,
@@ -94,15 +94,15 @@ fn paint_glyph(
     requires { width ≡ glyph_width (glyph_of grapheme.now) }
     ensures ok { OnOk result (Painted (shown_glyph row skip place (glyph_of grapheme.now)) buf.old buf.new) }
     ensures kept { KeptOutside (row_part row) buf.old buf.new }
-    ensures light { IsLight (glyph_of grapheme.now).text → IsOk result }
+    ensures allocation_free { IsAllocationFree (glyph_of grapheme.now).text → IsOk result }
 {
     match column_at(row, skip, place, width) {
         None => Ok(()),
-        Some(x) => put_glyph(buf, x, row.y, grapheme, width),
+        Some(x) => write_glyph(buf, x, row.y, grapheme, width),
     }
 }
 
-/// The columns that a row has left from a place on: none where the place lies before it.
+/// Returns how many columns the row has from a place on, or 0 if the place lies before the row.
 #[inline(always)]
 fn room_from(row: Rect, skip: usize, place: usize) -> usize
     requires { skip + row.width < 2 ^ 64 }
@@ -116,7 +116,8 @@ fn room_from(row: Rect, skip: usize, place: usize) -> usize
     room.saturating_sub(place - skip)
 }
 
-/// Paints printable bytes from a place on, whose columns lie in the row. Where other characters stand, there is mostly none.
+/// Writes printable bytes from a place on. Their columns lie in the row. In text of other characters there are usually
+/// none.
 #[inline(always)]
 fn paint_bytes(buf: &mut Buffer, row: Rect, skip: usize, place: usize, bytes: &[u8], style: Style)
     requires printable { list_all is_printable bytes.now ≡ true }
@@ -132,7 +133,7 @@ fn paint_bytes(buf: &mut Buffer, row: Rect, skip: usize, place: usize, bytes: &[
     buf.set_ascii(Position { x, y: row.y }, bytes, style);
 }
 
-/// Paints the printable bytes that come next, as many as the row has columns for, and answers the place behind them.
+/// Writes the printable bytes that come next, as many as the row has columns for. Returns the place after them.
 #[inline]
 fn paint_run(
     buf: &mut Buffer,
@@ -146,7 +147,7 @@ fn paint_run(
     ensures shown { (more : List Glyph) → ShownUpTo row skip place (map (glyph_in style) (clusters_left clusters.old) ++ more)
         result (map (glyph_in style) (clusters_left clusters.new) ++ more) buf.old buf.new }
     ensures kept { KeptOutside (row_part row) buf.old buf.new }
-    ensures light { All IsLight (clusters_left clusters.old) → All IsLight (clusters_left clusters.new) }
+    ensures allocation_free { All IsAllocationFree (clusters_left clusters.old) → All IsAllocationFree (clusters_left clusters.new) }
     ensures fewer { length (clusters_left clusters.new) ≤ length (clusters_left clusters.old) }
 {
     let run = clusters.next_run(room_from(row, skip, place));
@@ -154,7 +155,7 @@ fn paint_run(
     place + run.len()
 }
 
-/// Paints a grapheme at a place, if it lies whole inside the row, and answers the place behind it.
+/// Writes a grapheme at a place, if it lies whole inside the row. Returns the place after it.
 #[inline(always)]
 fn paint_cluster(
     buf: &mut Buffer,
@@ -167,7 +168,7 @@ fn paint_cluster(
     requires { skip + row.width < 2 ^ 64 }
     ensures shown { IfOk result (λ next. (more : List Glyph) → ShownUpTo row skip place (glyph_in style symbol.now ∷ more) next more buf.old buf.new) }
     ensures kept { KeptOutside (row_part row) buf.old buf.new }
-    ensures light { IsLight symbol.now → IsOk result }
+    ensures allocation_free { IsAllocationFree symbol.now → IsOk result }
 {
     let width = cell_width(symbol);
     paint_glyph(
@@ -181,7 +182,7 @@ fn paint_cluster(
     Ok(place.saturating_add(width as usize))
 }
 
-/// Paints a text from a place on, each grapheme that lies whole inside the row, and answers the place behind them, or any
+/// Writes a text from a place on, each grapheme that lies whole inside the row. Returns the place after them, or any
 /// place past the row.
 #[inline]
 fn paint_clusters(
@@ -196,18 +197,19 @@ fn paint_clusters(
     ensures shown { IfOk result (λ next. (more : List Glyph) →
         ShownUpTo row skip place (map (glyph_in style) (clusters text.now) ++ more) next more buf.old buf.new) }
     ensures kept { KeptOutside (row_part row) buf.old buf.new }
-    ensures light { All IsLight (clusters text.now) → IsOk result }
+    ensures allocation_free { All IsAllocationFree (clusters text.now) → IsOk result }
 {
     let (run, rest) = split_run(text, room_from(row, skip, place));
     paint_bytes(buf, row, skip, place, run, style);
-    let behind = place + run.len();
+    let after = place + run.len();
     if rest.is_empty() {
-        return Ok(behind);
+        return Ok(after);
     }
-    paint_others(buf, row, skip, behind, rest, style)
+    paint_others(buf, row, skip, after, rest, style)
 }
 
-/// The same for what does not begin with printable bytes of the row. Never inlined, so that a text of these takes few steps.
+/// The same for a text that does not begin with printable bytes of the row. Never inlined, so that a text of these
+/// takes few steps.
 #[inline(never)]
 fn paint_others(
     buf: &mut Buffer,
@@ -221,7 +223,7 @@ fn paint_others(
     ensures shown { IfOk result (λ next. (more : List Glyph) →
         ShownUpTo row skip place (map (glyph_in style) (clusters text.now) ++ more) next more buf.old buf.new) }
     ensures kept { KeptOutside (row_part row) buf.old buf.new }
-    ensures light { All IsLight (clusters text.now) → IsOk result }
+    ensures allocation_free { All IsAllocationFree (clusters text.now) → IsOk result }
 {
     if is_plain_char(text) {
         return paint_cluster(buf, row, skip, place, text, style);
@@ -229,7 +231,7 @@ fn paint_others(
     paint_mixed(buf, row, skip, place, text, style)
 }
 
-/// The same, grapheme by grapheme, with the printable bytes between them run by run.
+/// The same, grapheme by grapheme. The printable bytes between them are written in runs.
 #[inline(never)]
 fn paint_mixed(
     buf: &mut Buffer,
@@ -243,7 +245,7 @@ fn paint_mixed(
     ensures shown { IfOk result (λ next. (more : List Glyph) →
         ShownUpTo row skip start (map (glyph_in style) (clusters text.now) ++ more) next more buf.old buf.new) }
     ensures kept { KeptOutside (row_part row) buf.old buf.new }
-    ensures light { All IsLight (clusters text.now) → IsOk result }
+    ensures allocation_free { All IsAllocationFree (clusters text.now) → IsOk result }
 {
     let end = skip + row.width as usize;
     let mut clusters = Clusters::new(text);
@@ -260,7 +262,7 @@ fn paint_mixed(
     }
 }
 
-/// Paints spans side by side from a place on, each grapheme that lies whole inside the row, in the styles of the spans alone.
+/// Writes spans side by side from a place on, each grapheme that lies whole inside the row, in the spans' own styles.
 pub(crate) fn paint_glyphs(
     buf: &mut Buffer,
     row: Rect,
@@ -271,7 +273,7 @@ pub(crate) fn paint_glyphs(
     requires { skip + row.width < 2 ^ 64 }
     ensures ok { OnOk result (Painted (shown_glyphs row skip start (flat_map (span_graphemes no_style) (map span_data spans.now))) buf.old buf.new) }
     ensures kept { KeptOutside (row_part row) buf.old buf.new }
-    ensures light { AreLight (map span_data spans.now) → IsOk result }
+    ensures allocation_free { AreAllocationFree (map span_data spans.now) → IsOk result }
 {
     let end = skip + row.width as usize;
     let mut place = start;

@@ -1,4 +1,4 @@
-//! The cells of a row that show.
+//! The visible cells of a row.
 
 ghost use Rattle.std.specs.Prelude.{◌≡◌};
 ghost use Rattle.std.specs.Iterator.{item_count, YieldsFirstBy};
@@ -7,15 +7,16 @@ ghost use Rattle.tui_text.specs.Visible.{step_of, visible, visible_left};
 use tui_cells::Cell;
 use tui_clusters::cell_width;
 
-/// The cells of a row that show, from the left, each behind its column.
+/// The visible cells of a row, from the left, each with its column.
 #[derive(Drop)]
 pub struct VisibleCells<'r> {
     row: &'r [Cell],
     column: usize,
 }
 
-/// The cells of a row that show, from the left, each behind its column, which counts from 0. A symbol of several columns
-/// hides the cells behind it, which are left out; a symbol without a width counts as one column wide. Takes no memory.
+/// Returns the visible cells of a row, from the left, each as a pair of its column and the cell. Columns count from 0.
+/// A symbol that is several columns wide covers the cells to its right, which are left out. A symbol without a width
+/// counts as one column wide. Does not allocate.
 #[tactic(auto, unfolding(crate::specs::Visible::visible_left))]
 pub fn visible_cells<'r>(row: &'r [Cell]) -> VisibleCells<'r>
     ensures { visible_left result ≡ visible row.now }
@@ -43,7 +44,8 @@ impl<'r> Iterator for VisibleCells<'r> {
     }
 }
 
-/// The columns from a cell with this symbol to the next one that shows: the symbol's width, but at least 1.
+/// Returns the number of columns from a cell with this symbol to the next visible one: the symbol's width, but at least
+/// 1.
 #[tactic(auto, unfolding(crate::specs::Visible::step_of))]
 pub fn symbol_columns(symbol: &str) -> usize
     ensures { result ≡ step_of symbol.now }

@@ -1,16 +1,18 @@
-//! The program `tui_view`, which shows scenes in as many colours as the environment says that the terminal has. `rows` reads one in JSON from a file or from
-//! standard input, and writes the rows of its screen to standard output; `frames` reads one a line from standard input, and shows each on the terminal.
+//! The program `tui_view`. It shows scenes in the colour depth that the environment gives.
+//!
+//! `rows` reads a scene in JSON from a file or from standard input, and writes the rows of its screen to standard
+//! output. `frames` reads scenes from standard input, one a line, and shows each on the terminal.
 #![tactic(auto)]
 
 use std::io;
 use std::process::ExitCode;
-use tui_app::Port;
+use tui_app::IoTerminal;
 use tui_cells::{Mem, NoMemory};
-use tui_outside::{StdSink, StdSource};
+use tui_io::{StdSink, StdSource};
 use tui_program::FileSource;
-use tui_system::{depth, opened, words};
-use tui_tty::Depth;
-use tui_view_run::{ViewEnded, are_frames, exit_code, file_named, run_program, show_frames};
+use tui_system::{arguments, depth, open_file};
+use tui_terminal_model::Depth;
+use tui_view_run::{ViewEnded, exit_code, file_named, is_frames_command, run_program, show_frames};
 
 fn main(rt: HostRuntime) -> ExitCode {
     match view(&rt) {
@@ -19,30 +21,34 @@ fn main(rt: HostRuntime) -> ExitCode {
     }
 }
 
-/// Runs over what the system gives. `NoMemory` where it had none for what it says, before anything is read or written.
+/// Runs with the arguments, the environment and the files of the system. Fails with `NoMemory`, before anything is read
+/// or written, if the system was out of memory.
 fn view(rt: &HostRuntime) -> Mem<ExitCode> {
     let alloc = rt.alloc();
     let depth = depth(rt)?;
-    if are_frames(alloc, words(rt)?) {
-        let mut terminal = Port::new(StdSource::new(rt.reader()), StdSink::new(io::writer(rt)));
+    if is_frames_command(alloc, arguments(rt)?) {
+        let mut terminal = IoTerminal::new(
+            StdSource::new(rt.reader()),
+            StdSink::new(io::writer(rt)),
+        );
         Ok(exit_code(show_frames(alloc, depth, &mut terminal)))
     } else {
         Ok(view_rows(rt, depth)?.exit_code())
     }
 }
 
-/// Writes the rows of the scene that the words name, or says that they name none.
+/// Writes the rows of the scene that the arguments name, or reports wrong arguments.
 fn view_rows(rt: &HostRuntime, depth: Depth) -> Mem<ViewEnded> {
     let alloc = rt.alloc();
     let mut sink = StdSink::new(io::writer(rt));
-    match file_named(alloc, words(rt)?) {
+    match file_named(alloc, arguments(rt)?) {
         Some(file) => {
-            let mut source = FileSource::new(opened(rt, file.as_str())?);
-            Ok(run_program(alloc, depth, words(rt)?, &mut source, &mut sink))
+            let mut source = FileSource::new(open_file(rt, file.as_str())?);
+            Ok(run_program(alloc, depth, arguments(rt)?, &mut source, &mut sink))
         }
         None => {
             let mut source = StdSource::new(rt.reader());
-            Ok(run_program(alloc, depth, words(rt)?, &mut source, &mut sink))
+            Ok(run_program(alloc, depth, arguments(rt)?, &mut source, &mut sink))
         }
     }
 }

@@ -1,3 +1,3 @@
 pub mod Named
-pub mod Telling
-pub mod Words
+pub mod Messages
+pub mod Arguments

@@ -1,38 +1,39 @@
-//! The one command: its words, and what it writes.
+//! The command `rows`: its arguments, and what it writes.
 
 ghost use Rattle.std.specs.Prelude.{◌↔◌, IsTrue};
-ghost use Rattle.tui_program.specs.Endings.{AnswersWith, no_refusal, nothing};
+ghost use Rattle.tui_program.specs.Outcomes.{AnswersWith, no_refusal, nothing};
 ghost use Rattle.tui_schema.specs.Scene.{reading_data};
-ghost use Rattle.tui_view_run.specs.Rules.{AreRows};
+ghost use Rattle.tui_view_run.specs.Rules.{IsRowsCommand};
 ghost use Rattle.tui_view_run.specs.Shown.{AreRowsShown};
 
 use serde_json::Value;
 use std::alloc::Global;
-use tui_outside::{Sink, WriteFault};
-use tui_program::{Job, Leftovers, Stop, begin, is_word, put_refused_in_scene};
+use tui_io::{Sink, WriteFault};
+use tui_program::{Cleanup, Job, Stop, is_single_argument, start_with, write_refused_in_scene};
 use tui_scene::draw_new;
 use tui_schema::{BadField, Reading, read_scene};
 use tui_terminal::write_styled_rows;
-use tui_tty::Depth;
+use tui_terminal_model::Depth;
 
-/// The command of the program: `rows`, alone or with a FILE, reads a scene and writes the rows of its screen in colours.
+/// The command of the program: `rows`, alone or with a FILE. It reads a scene, and writes the rows of its screen in
+/// colour.
 #[derive(Clone, Copy, Debug, PartialEq, Eq)]
 pub struct ViewCommand;
 
-/// Whether the words are the command's.
-pub(crate) fn are_rows(words: &[String]) -> bool
-    ensures { IsTrue result ↔ AreRows words.now }
+/// Returns whether the arguments are those of the command.
+pub(crate) fn is_rows_command(arguments: &[String]) -> bool
+    ensures { IsTrue result ↔ IsRowsCommand arguments.now }
 {
-    is_word(words, "rows") || begin(words, 2, "rows")
+    is_single_argument(arguments, "rows") || start_with(arguments, 2, "rows")
 }
 
-/// What the command does with a scene, for a terminal of as many colours as `depth` says.
+/// What the command does with a scene, for a terminal of this colour depth.
 #[derive(Clone, Copy)]
-pub(crate) struct Rows {
+pub(crate) struct RowsCommand {
     pub(crate) depth: Depth,
 }
 
-impl Job for Rows {
+impl Job for RowsCommand {
     ghost use Rattle.tui_view_run.specs.Rules.{rows_job};
 
     type Refusal = BadField;
@@ -44,16 +45,16 @@ impl Job for Rows {
         alloc: Global,
         value: &Value,
         sink: &mut K,
-        leftovers: Leftovers,
+        cleanup: Cleanup,
     ) -> Result<(), Stop<BadField>> {
         let mut reading = read_scene(alloc, value)?;
-        let answer = show_rows(alloc, self.depth, &mut reading, sink, leftovers);
-        leftovers.done_with(reading);
+        let answer = show_rows(alloc, self.depth, &mut reading, sink, cleanup);
+        cleanup.dispose_of(reading);
         answer
     }
 
-    fn refuse<K: Sink>(&self, refusal: BadField, sink: &mut K) -> Result<(), WriteFault> {
-        put_refused_in_scene("item", refusal.item, refusal.field.name(), sink)
+    fn reject<K: Sink>(&self, refusal: BadField, sink: &mut K) -> Result<(), WriteFault> {
+        write_refused_in_scene("item", refusal.item, refusal.field.name(), sink)
     }
 }
 
@@ -62,12 +63,12 @@ fn show_rows<K: Sink>(
     depth: Depth,
     reading: &mut Reading<'_>,
     sink: &mut K,
-    leftovers: Leftovers,
+    cleanup: Cleanup,
 ) -> Result<(), Stop<BadField>>
-    ensures { AnswersWith (AreRowsShown depth (reading_data reading.old)) nothing no_refusal (K.told sink.old) (K.told sink.new) result }
+    ensures { AnswersWith (AreRowsShown depth (reading_data reading.old)) nothing no_refusal (K.observed sink.old) (K.observed sink.new) result }
 {
     let buffer = draw_new(alloc, reading.width, reading.height, &mut reading.scene)?;
     write_styled_rows(&buffer, depth, sink)?;
-    leftovers.done_with(buffer);
+    cleanup.dispose_of(buffer);
     Ok(())
 }

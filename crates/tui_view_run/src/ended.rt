@@ -1,50 +1,51 @@
-//! How a run of the program ends.
+//! The outcome of a run of the program.
 
 ghost use Rattle.std.specs.Prelude.{◌≡◌};
 
 use std::process::ExitCode;
-use tui_program::{Broken, Ending, Written};
+use tui_program::{Broken, Outcome, Written};
 use tui_schema::{BadField, Field};
 
-/// How a run ends. Only `Ok` has written the rows of a screen whole; the endings from `Usage` to `BadField` have written one line that says so.
+/// The outcome of a run. Only `Ok` has written the rows of a screen completely. The outcomes from `Usage` to `BadField`
+/// have written one line that says what is wrong.
 #[derive(Clone, Copy, Debug, PartialEq, Eq)]
 pub enum ViewEnded {
-    /// All was read, drawn and written.
+    /// Everything was read, drawn and written.
     Ok,
-    /// The words are not those of the command.
+    /// The arguments are not those of the command.
     Usage,
     /// The input has more than 1,048,576 bytes.
     TooLong,
-    /// The input is no JSON in UTF-8.
+    /// The input is not JSON in UTF-8.
     NotJson,
-    /// A field of the scene, or of the item of this number from 0, is missing or of the wrong kind.
+    /// A field of the scene, or of the item with this number, from 0, is missing or of the wrong kind.
     BadField { item: Option<usize>, field: Field },
-    /// A read failed; nothing is written.
+    /// A read failed. Nothing was written.
     ReadFault,
-    /// A put failed; the sink holds the first bytes of the output.
+    /// A write failed. The sink has the first bytes of the output.
     WriteFault,
-    /// The memory was not there; nothing is written.
+    /// Out of memory. Nothing was written.
     NoMemory,
 }
 
-impl From<Ending<BadField>> for ViewEnded {
-    ghost use Rattle.tui_view_run.specs.Ended.{ending_of};
+impl From<Outcome<BadField>> for ViewEnded {
+    ghost use Rattle.tui_view_run.specs.Ended.{outcome_of};
 
-    ghost from_gives = { λ ending ended. ending_of ended ≡ ending };
+    ghost from_gives = { λ outcome ended. outcome_of ended ≡ outcome };
 
-    fn from(ending: Ending<BadField>) -> ViewEnded {
-        match ending {
-            Ending::Written(Written::Output) => ViewEnded::Ok,
-            Ending::Written(Written::Usage) => ViewEnded::Usage,
-            Ending::Written(Written::TooLong) => ViewEnded::TooLong,
-            Ending::Written(Written::NotJson) => ViewEnded::NotJson,
-            Ending::Written(Written::Refused(BadField { item, field })) => ViewEnded::BadField {
+    fn from(outcome: Outcome<BadField>) -> ViewEnded {
+        match outcome {
+            Outcome::Written(Written::Output) => ViewEnded::Ok,
+            Outcome::Written(Written::Usage) => ViewEnded::Usage,
+            Outcome::Written(Written::TooLong) => ViewEnded::TooLong,
+            Outcome::Written(Written::NotJson) => ViewEnded::NotJson,
+            Outcome::Written(Written::Refused(BadField { item, field })) => ViewEnded::BadField {
                 item,
                 field,
             },
-            Ending::Broken(Broken::ReadFault) => ViewEnded::ReadFault,
-            Ending::Broken(Broken::WriteFault) => ViewEnded::WriteFault,
-            Ending::Broken(Broken::NoMemory) => ViewEnded::NoMemory,
+            Outcome::Broken(Broken::ReadFault) => ViewEnded::ReadFault,
+            Outcome::Broken(Broken::WriteFault) => ViewEnded::WriteFault,
+            Outcome::Broken(Broken::NoMemory) => ViewEnded::NoMemory,
         }
     }
 }
@@ -53,7 +54,7 @@ impl ViewEnded {
     ghost use Rattle.std.specs.Process.{exit_status};
     ghost use Rattle.tui_view_run.specs.Ended.{status_of};
 
-    /// The exit status of the program.
+    /// Returns the exit status of the program.
     pub fn status(&self) -> u8
         ensures { result ≡ status_of self.now }
     {
@@ -69,7 +70,7 @@ impl ViewEnded {
         }
     }
 
-    /// The exit status, as `main` answers it.
+    /// Returns the exit status as an `ExitCode` for `main`.
     pub fn exit_code(&self) -> ExitCode
         ensures { exit_status result ≡ status_of self.now }
     {

@@ -1,56 +1,56 @@
-//! What words of the system name.
+//! What the system's arguments name.
 
 ghost use Rattle.std.specs.Prelude.{[], ◌∷◌, ◌↔◌, String, IfSome, IsNone, IsTrue, codes, string_bytes};
 ghost use Rattle.std.specs.declared.alloc.Global.{Global};
-ghost use Rattle.tui_program.specs.Words.{AreTexts, Begin};
-ghost use Rattle.tui_view_run.specs.Rules.{AreFrames, NameFile};
+ghost use Rattle.tui_program.specs.Arguments.{AreTexts, StartWith};
+ghost use Rattle.tui_view_run.specs.Rules.{IsFramesCommand, NameFile};
 
 use arrayvec::ArrayVec;
 use std::alloc::Global;
 use std::env::Args;
 use std::io;
-use tui_program::{begin, first_words, is_word};
+use tui_program::{first_arguments, is_single_argument, start_with};
 
-/// The FILE that the words of the system name, which are `rows` and FILE then. Takes no memory.
+/// Returns FILE, if the system's arguments after the program's name are `rows` and FILE. Does not allocate.
 pub fn file_named(alloc: Global, args: io::Result<Args>) -> Option<String>
     ensures some { IfSome result (NameFile args) }
     ensures none { IsNone result → (file : String Global) → NameFile args file → ⊥ }
 {
     match args {
-        Ok(all) => file_in(first_words(alloc, all)),
+        Ok(all) => file_in(first_arguments(alloc, all)),
         Err(_) => None,
     }
 }
 
-/// Whether the words of the system are `frames` alone. Takes no memory.
-pub fn are_frames(alloc: Global, args: io::Result<Args>) -> bool
-    ensures { IsTrue result ↔ AreFrames args }
+/// Returns whether `frames` is the only one of the system's arguments after the program's name. Does not allocate.
+pub fn is_frames_command(alloc: Global, args: io::Result<Args>) -> bool
+    ensures { IsTrue result ↔ IsFramesCommand args }
 {
     match args {
         Ok(all) => {
-            let words = first_words(alloc, all);
-            is_word(words.as_slice(), "frames")
+            let arguments = first_arguments(alloc, all);
+            is_single_argument(arguments.as_slice(), "frames")
         }
         Err(_) => false,
     }
 }
 
-fn file_in(words: ArrayVec<String, 4, Global>) -> Option<String>
-    ensures some { IfSome result (λ file. AreTexts (codes "rows" ∷ string_bytes file ∷ []) words.items) }
-    ensures none { IsNone result → Begin (codes "rows") 2 words.items → ⊥ }
+fn file_in(arguments: ArrayVec<String, 4, Global>) -> Option<String>
+    ensures some { IfSome result (λ file. AreTexts (codes "rows" ∷ string_bytes file ∷ []) arguments.items) }
+    ensures none { IsNone result → StartWith (codes "rows") 2 arguments.items → ⊥ }
 {
-    if begin(words.as_slice(), 2, "rows") {
-        last(words)
+    if start_with(arguments.as_slice(), 2, "rows") {
+        last(arguments)
     } else {
         None
     }
 }
 
-fn last(words: ArrayVec<String, 4, Global>) -> Option<String>
-    requires { Begin (codes "rows") 2 words.items }
-    ensures some { IfSome result (λ file. AreTexts (codes "rows" ∷ string_bytes file ∷ []) words.items) }
+fn last(arguments: ArrayVec<String, 4, Global>) -> Option<String>
+    requires { StartWith (codes "rows") 2 arguments.items }
+    ensures some { IfSome result (λ file. AreTexts (codes "rows" ∷ string_bytes file ∷ []) arguments.items) }
     ensures none { IsNone result → ⊥ }
 {
-    let mut words = words;
-    words.pop()
+    let mut arguments = arguments;
+    arguments.pop()
 }

@@ -1,4 +1,4 @@
-//! The command `frames`: scenes that come line by line, on a terminal.
+//! The command `frames`: scenes that are read line by line and shown on a terminal.
 
 ghost use Rattle.std.specs.Prelude.{◌≡◌, IsAscii, OnOk};
 ghost use Rattle.serde_json.specs.View.{view};
@@ -8,7 +8,7 @@ ghost use Rattle.tui_cells.specs.Layers.{Painted};
 ghost use Rattle.tui_cells.specs.Rect.{area_of};
 ghost use Rattle.tui_display.specs.Run.{IsDisplayRun};
 ghost use Rattle.tui_schema.specs.Scene.{reading_data};
-ghost use Rattle.tui_view_run.specs.Frames.{IsFrame, IsFrameOf, IsSceneShown, IsTold, frames_output, refusal_line, told_layers};
+ghost use Rattle.tui_view_run.specs.Frames.{IsFrame, IsFrameOf, IsSceneShown, ShowsRefusal, frames_output, refusal_line, message_layers};
 
 use serde_json::Value;
 use std::alloc::Global;
@@ -16,43 +16,43 @@ use std::mem;
 use tui_app::Terminal;
 use tui_cells::{Buffer, Mem, NoMemory, Position, Rect, Style};
 use tui_display::{DisplayEnd, Painter, show_lines};
+use tui_io::MemSink;
 use tui_json::InputError;
-use tui_outside::MemSink;
-use tui_program::put_refused_in_scene;
+use tui_program::write_refused_in_scene;
 use tui_scene::draw;
 use tui_schema::{BadField, Reading, read_scene};
-use tui_tty::{Cursor, Depth, Output, Trust};
+use tui_terminal_model::{Cursor, Depth, KnownWidths, Output};
 
-/// More bytes than a line that refuses a field has.
+/// More bytes than the line that rejects a field has.
 const ROOM: usize = 128;
 
-/// Scenes in JSON (docs/SCENE.md), one a line: a line calls for the screen of its scene. One that is no scene calls for the screen that is shown, with
-/// the line that refuses it in the last row, cut at the row's end.
+/// A painter for scenes in JSON (docs/SCENE.md), one a line. The next screen is that of the scene. If the line is no
+/// scene, the next screen is the current one with the reason in its last row. The reason is cut at the end of the row.
 #[derive(Clone, Copy, Debug, PartialEq, Eq)]
 pub struct Frames;
 
 impl Painter for Frames {
     ghost calls_for = { λ _. IsFrame };
 
-    /// Takes the memory of the value, of the scene, and where its size is another than that of the buffer, of a buffer.
+    /// Allocates the value, the scene and, if the buffer has another size than the scene, a new buffer.
     fn paint(&self, alloc: Global, line: &[u8], shown: &Buffer, next: &mut Buffer) -> Mem<()> {
         match Value::from_slice(alloc, line) {
             Ok(value) => paint_value(alloc, &value, shown, next),
             Err(error) if error.is_memory() => Err(NoMemory),
-            Err(_) => tell(alloc, b"refused: not JSON", shown, next),
+            Err(_) => show_message(alloc, b"refused: not JSON", shown, next),
         }
     }
 }
 
-/// Shows on a terminal of as many colours as `depth` says the scene of each line that it gives, as `show_lines` does.
+/// Shows on the terminal, in this colour depth, the scene of each line that is read, as `show_lines` does.
 pub fn show_frames<T: Terminal>(alloc: Global, depth: Depth, terminal: &mut T) -> DisplayEnd
-    ensures { IsDisplayRun IsFrame (frames_output depth) (T.told terminal.old) (T.told terminal.new) result }
+    ensures { IsDisplayRun IsFrame (frames_output depth) (T.observed terminal.old) (T.observed terminal.new) result }
 {
     let output = Output {
         depth,
-        trust: Trust::Common,
+        widths: KnownWidths::Common,
         cursor: Cursor::Hidden,
-        hold: false,
+        synchronized: false,
     };
     show_lines(alloc, &Frames, output, terminal)
 }
@@ -65,7 +65,7 @@ fn paint_value(alloc: Global, value: &Value, shown: &Buffer, next: &mut Buffer) 
             let mut reading = reading;
             paint_scene(alloc, &mut reading, next)
         }
-        Err(InputError::Refused(refusal)) => tell_refusal(alloc, refusal, shown, next),
+        Err(InputError::Refused(refusal)) => show_refusal(alloc, refusal, shown, next),
         Err(InputError::NoMemory) => Err(NoMemory),
     }
 }
@@ -76,7 +76,7 @@ fn paint_scene(alloc: Global, reading: &mut Reading<'_>, next: &mut Buffer) -> M
     make_blank(alloc, reading.width, reading.height, next)?;
     match draw(alloc, &mut reading.scene, next) {
         Ok(()) => {
-            // Rows are sent by their shape, which the height tells.
+            // The contract of `height` says that the rows have the size of the area. The proof needs that.
             let _height = next.height();
             Ok(())
         }
@@ -84,7 +84,7 @@ fn paint_scene(alloc: Global, reading: &mut Reading<'_>, next: &mut Buffer) -> M
     }
 }
 
-/// Makes a buffer blank, and where it has another size, anew.
+/// Makes a buffer blank, and replaces it if it has another size.
 fn make_blank(alloc: Global, width: u16, height: u16, buf: &mut Buffer) -> Mem<()>
     ensures { OnOk result (IsFilled (area_of 0 0 width height) blank buf.new) }
 {
@@ -93,12 +93,12 @@ fn make_blank(alloc: Global, width: u16, height: u16, buf: &mut Buffer) -> Mem<(
         buf.reset(area);
         Ok(())
     } else {
-        renew(alloc, area, buf)
+        replace_with_blank(alloc, area, buf)
     }
 }
 
-/// Puts a blank buffer of an area in place of another.
-fn renew(alloc: Global, area: Rect, buf: &mut Buffer) -> Mem<()>
+/// Replaces a buffer by a blank one with this area.
+fn replace_with_blank(alloc: Global, area: Rect, buf: &mut Buffer) -> Mem<()>
     ensures { OnOk result (IsFilled (area_of area.x area.y area.width area.height) blank buf.new) }
 {
     let blanks = Buffer::empty(alloc, area)?;
@@ -106,18 +106,19 @@ fn renew(alloc: Global, area: Rect, buf: &mut Buffer) -> Mem<()>
     Ok(())
 }
 
-fn tell_refusal(alloc: Global, refusal: BadField, shown: &Buffer, next: &mut Buffer) -> Mem<()>
-    ensures { OnOk result (IsTold refusal shown.now next.new) }
+fn show_refusal(alloc: Global, refusal: BadField, shown: &Buffer, next: &mut Buffer) -> Mem<()>
+    ensures { OnOk result (ShowsRefusal refusal shown.now next.new) }
 {
     let mut line = MemSink::new(alloc, ROOM, Vec::new(alloc))?;
-    match put_refused_in_scene("item", refusal.item, refusal.field.name(), &mut line) {
-        Ok(()) => tell_line(alloc, refusal, line.bytes(), shown, next),
+    match write_refused_in_scene("item", refusal.item, refusal.field.name(), &mut line) {
+        Ok(()) => show_refusal_line(alloc, refusal, line.bytes(), shown, next),
         Err(_) => Err(NoMemory),
     }
 }
 
-// A line of a refusal ends in a newline, which is not told. That it is ASCII, being a name and a number, is tested here, not shown of each name.
-fn tell_line(
+// The line of a rejection ends in a newline, which is not shown. It is a name and a number, and so ASCII. That is
+// tested here, since it isn't proved for every name.
+fn show_refusal_line(
     alloc: Global,
     refusal: BadField,
     line: &[u8],
@@ -125,29 +126,29 @@ fn tell_line(
     next: &mut Buffer,
 ) -> Mem<()>
     requires { line.now ≡ refusal_line refusal }
-    ensures { OnOk result (IsTold refusal shown.now next.new) }
+    ensures { OnOk result (ShowsRefusal refusal shown.now next.new) }
 {
     let text = &line[..line.len().saturating_sub(1)];
     if text.is_ascii() {
-        tell(alloc, text, shown, next)
+        show_message(alloc, text, shown, next)
     } else {
         Err(NoMemory)
     }
 }
 
-/// Shows what is shown, with a text in the last row.
-fn tell(alloc: Global, text: &[u8], shown: &Buffer, next: &mut Buffer) -> Mem<()>
+/// Shows the current screen with a text in its last row.
+fn show_message(alloc: Global, text: &[u8], shown: &Buffer, next: &mut Buffer) -> Mem<()>
     requires { IsAscii text.now }
-    ensures { OnOk result (Painted (told_layers shown.now.area text.now) shown.now next.new) }
+    ensures { OnOk result (Painted (message_layers shown.now.area text.now) shown.now next.new) }
 {
     copy(alloc, shown, next)?;
-    tell_in(text, next);
+    draw_message(text, next);
     Ok(())
 }
 
-fn tell_in(text: &[u8], buf: &mut Buffer)
+fn draw_message(text: &[u8], buf: &mut Buffer)
     requires { IsAscii text.now }
-    ensures { Painted (told_layers buf.old.area text.now) buf.old buf.new }
+    ensures { Painted (message_layers buf.old.area text.now) buf.old buf.new }
 {
     let area = buf.area();
     let row = area.rows_from(area.height.saturating_sub(1), 1);
@@ -158,19 +159,19 @@ fn tell_in(text: &[u8], buf: &mut Buffer)
 fn copy(alloc: Global, shown: &Buffer, next: &mut Buffer) -> Mem<()>
     ensures { OnOk result (next.new ≡ shown.now) }
 {
-    fit(alloc, shown, next)?;
+    match_area(alloc, shown, next)?;
     next.copy_from(shown)
 }
 
-/// Gives a buffer the area of the one that is shown.
-fn fit(alloc: Global, shown: &Buffer, next: &mut Buffer) -> Mem<()>
+/// Gives a buffer the area of the current screen.
+fn match_area(alloc: Global, shown: &Buffer, next: &mut Buffer) -> Mem<()>
     ensures { OnOk result (next.new.area ≡ shown.now.area) }
 {
-    // The height tells that the area is not cut.
+    // The contract of `height` says that the area is not cut. The proof needs that.
     let _height = shown.height();
     if next.area() == shown.area() {
         Ok(())
     } else {
-        renew(alloc, shown.area(), next)
+        replace_with_blank(alloc, shown.area(), next)
     }
 }

@@ -1,8 +1,8 @@
-//! Laws of frames, each a function that does nothing.
+//! Laws of frames. Each is a function that does nothing.
 
-ghost use Rattle.tui_view_run.specs.Frames.{TellsOnTheLast};
+ghost use Rattle.tui_view_run.specs.Frames.{MessagesReplace};
 
-/// What is told behind another line that was told stands on the screen that was shown before both.
-pub fn telling_law()
-    ensures { TellsOnTheLast }
+/// A message that is shown after another one replaces it on the screen before both.
+pub fn message_law()
+    ensures { MessagesReplace }
 {}

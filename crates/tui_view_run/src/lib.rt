@@ -1,20 +1,20 @@
-//! The commands `rows`, which writes the rows of a scene in colours, and `frames`, which shows scenes on a terminal as they come: from the words and the
-//! bytes that are read to the bytes that are written.
+//! The commands `rows` and `frames`, from the arguments and the input to the output. `rows` writes the rows of a scene
+//! in colour. `frames` shows scenes on a terminal as they are read.
 #![tactic(auto)]
 
 mod command;
+mod display_end;
 mod ended;
 mod file;
 mod frames;
 mod laws;
 mod plain;
 mod program;
-mod stopped;
 
 pub use command::ViewCommand;
+pub use display_end::exit_code;
 pub use ended::ViewEnded;
-pub use file::{are_frames, file_named};
+pub use file::{file_named, is_frames_command};
 pub use frames::{Frames, show_frames};
-pub use laws::telling_law;
+pub use laws::message_law;
 pub use program::{run_program, view};
-pub use stopped::exit_code;

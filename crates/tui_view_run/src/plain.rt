@@ -1,4 +1,4 @@
-//! Plain values of the program, which `==` tells apart and a clone leaves as they are.
+//! Values of the program that `==` compares exactly, and whose clones are equal to them.
 
 ghost use Rattle.std.proofs.Common.{rules};
 ghost use Rattle.tui_view_run.specs.Same.{same_ended};
@@ -6,21 +6,21 @@ ghost use Rattle.tui_view_run.specs.Same.{same_ended};
 use crate::command::ViewCommand;
 use crate::ended::ViewEnded;
 use crate::frames::Frames;
-use tui_program::Plain;
+use tui_program::PlainValue;
 
-impl Plain for ViewCommand {
+impl PlainValue for ViewCommand {
     ghost same = { Prim.search rules };
 
     ghost cloned = { Prim.search rules };
 }
 
-impl Plain for Frames {
+impl PlainValue for Frames {
     ghost same = { Prim.search rules };
 
     ghost cloned = { Prim.search rules };
 }
 
-impl Plain for ViewEnded {
+impl PlainValue for ViewEnded {
     ghost same = { same_ended };
 
     ghost cloned = { Prim.search rules };

@@ -1,45 +1,54 @@
-//! A whole run, from the words and the bytes that are read to the bytes that are written.
+//! A whole run, from the arguments and the input to the output.
 
 ghost use Rattle.std.specs.Prelude.{◌≡◌, List, String, map, string_bytes, [], ◌∷◌};
 ghost use Rattle.std.specs.declared.alloc.Global.{Global};
 ghost use Rattle.tui_program.specs.Transcript.{transcript_of};
 ghost use Rattle.tui_program.specs.Runs.{IsRun, IsRunFrom};
-ghost use Rattle.tui_view_run.specs.Ended.{ending_of};
+ghost use Rattle.tui_view_run.specs.Ended.{outcome_of};
 ghost use Rattle.tui_view_run.specs.Rules.{view_rules};
 
-use crate::command::{Rows, are_rows};
+use crate::command::{RowsCommand, is_rows_command};
 use crate::ended::ViewEnded;
 use std::alloc::Global;
 use std::env::Args;
 use std::io;
 use std::io::ErrorKind;
-use tui_outside::{Sink, Source, put_all};
-use tui_program::{Broken, Ending, Leftovers, Written, first_words, run_json};
+use tui_io::{Sink, Source, write_all};
+use tui_program::{Broken, Cleanup, Outcome, Written, first_arguments, run_json};
 use tui_schema::BadField;
-use tui_tty::Depth;
+use tui_terminal_model::Depth;
 
-/// Reads a scene in JSON (docs/SCENE.md) from the source, draws it, and writes the rows of its screen to the sink, one under another, in as
-/// many colours as `depth` says. The words are `rows`, alone or with a FILE; the source is what they name.
+/// Reads a scene in JSON (docs/SCENE.md) from the source and draws it. Writes the rows of its screen to the sink, from
+/// the top, in this colour depth. The arguments are `rows`, alone or with a FILE; the source is what they name.
 ///
-/// It ends `Ok` only where the source was read to its end within 1,048,576 bytes, these bytes are JSON that the schema accepts, no read and no put
-/// failed, and the sink holds what it held and then, for the buffer that a run over the scene's widgets reaches from a blank one, each row with what
-/// sets the pen, and a newline behind it with the pen at rest. Every other ending has its cause; see `ViewEnded`.
+/// The outcome is `Ok` only if all of this holds:
+///
+/// - the source was read to its end, within 1,048,576 bytes;
+/// - these bytes are JSON that the schema accepts;
+/// - no read and no write failed;
+/// - the sink has what it had before, followed by the rows of the screen: the buffer that results from drawing the
+///   scene's widgets on a blank one. Each row has the sequences that set the pen, and after it a newline, with the pen
+///   reset.
+///
+/// Every other outcome has its cause; see `ViewEnded`.
 pub fn view<S: Source, K: Sink>(
     alloc: Global,
     depth: Depth,
-    words: &[String],
+    arguments: &[String],
     source: &mut S,
     sink: &mut K,
 ) -> ViewEnded
-    ensures { IsRun (view_rules depth) words.now
-        (transcript_of (S.told source.old) (S.told source.new) (K.told sink.old) (K.told sink.new)) (ending_of result) }
+    ensures { IsRun (view_rules depth) arguments.now
+        (transcript_of (S.observed source.old) (S.observed source.new) (K.observed sink.old) (K.observed sink.new)) (outcome_of result) }
 {
-    run_words(alloc, depth, words, source, sink, Leftovers::Dropped).into()
+    run_command(alloc, depth, arguments, source, sink, Cleanup::Dropped).into()
 }
 
-/// Runs as `view` does, with the words that the system gives; where it refuses a word, with one empty word, so that it ends with `Usage`; where it
-/// says that memory was wanting for them, nothing is read and nothing written. It is the last that a process does: the memory of what it read and
-/// drew is left to the system.
+/// Runs as `view` does, with the system's arguments. If the system reports an invalid argument, runs with a single
+/// empty argument, so that the outcome is `Usage`. If it reports that it is out of memory, nothing is read and nothing
+/// is written.
+///
+/// Call this only as the last action of a process: the memory of the run is leaked.
 pub fn run_program<S: Source, K: Sink>(
     alloc: Global,
     depth: Depth,
@@ -48,7 +57,7 @@ pub fn run_program<S: Source, K: Sink>(
     sink: &mut K,
 ) -> ViewEnded
     ensures { IsRunFrom (view_rules depth) args
-        (transcript_of (S.told source.old) (S.told source.new) (K.told sink.old) (K.told sink.new)) (ending_of result) }
+        (transcript_of (S.observed source.old) (S.observed source.new) (K.observed sink.old) (K.observed sink.new)) (outcome_of result) }
 {
     run_args(alloc, depth, args, source, sink).into()
 }
@@ -59,56 +68,56 @@ fn run_args<S: Source, K: Sink>(
     args: io::Result<Args>,
     source: &mut S,
     sink: &mut K,
-) -> Ending<BadField>
+) -> Outcome<BadField>
     ensures { IsRunFrom (view_rules depth) args
-        (transcript_of (S.told source.old) (S.told source.new) (K.told sink.old) (K.told sink.new)) result }
+        (transcript_of (S.observed source.old) (S.observed source.new) (K.observed sink.old) (K.observed sink.new)) result }
 {
     match args {
         Ok(all) => {
-            let words = first_words(alloc, all);
-            run_words(
+            let arguments = first_arguments(alloc, all);
+            run_command(
                 alloc,
                 depth,
-                words.as_slice(),
+                arguments.as_slice(),
                 source,
                 sink,
-                Leftovers::Left,
+                Cleanup::Left,
             )
         }
-        Err(error) if error.kind() == ErrorKind::OutOfMemory => Ending::Broken(Broken::NoMemory),
-        Err(_) => run_refused_word(alloc, depth, source, sink),
+        Err(error) if error.kind() == ErrorKind::OutOfMemory => Outcome::Broken(Broken::NoMemory),
+        Err(_) => run_rejected_argument(alloc, depth, source, sink),
     }
 }
 
-/// Runs with one empty word, for which no memory is wanted.
-fn run_refused_word<S: Source, K: Sink>(
+/// Runs with one empty argument, which doesn't allocate.
+fn run_rejected_argument<S: Source, K: Sink>(
     alloc: Global,
     depth: Depth,
     source: &mut S,
     sink: &mut K,
-) -> Ending<BadField>
-    ensures { (words : List (String Global)) × (map string_bytes words ≡ [] ∷ []) × IsRun (view_rules depth) words
-        (transcript_of (S.told source.old) (S.told source.new) (K.told sink.old) (K.told sink.new)) result }
+) -> Outcome<BadField>
+    ensures { (arguments : List (String Global)) × (map string_bytes arguments ≡ [] ∷ []) × IsRun (view_rules depth) arguments
+        (transcript_of (S.observed source.old) (S.observed source.new) (K.observed sink.old) (K.observed sink.new)) result }
 {
-    let words = [String::new(alloc)];
-    run_words(alloc, depth, &words, source, sink, Leftovers::Left)
+    let arguments = [String::new(alloc)];
+    run_command(alloc, depth, &arguments, source, sink, Cleanup::Left)
 }
 
-/// Runs the command, if the words are its own. Where they are not, nothing is read, and the line of the usage is written.
-fn run_words<S: Source, K: Sink>(
+/// Runs the command, if the arguments are its own. Otherwise reads nothing, and writes the usage line.
+fn run_command<S: Source, K: Sink>(
     alloc: Global,
     depth: Depth,
-    words: &[String],
+    arguments: &[String],
     source: &mut S,
     sink: &mut K,
-    leftovers: Leftovers,
-) -> Ending<BadField>
-    ensures { IsRun (view_rules depth) words.now
-        (transcript_of (S.told source.old) (S.told source.new) (K.told sink.old) (K.told sink.new)) result }
+    cleanup: Cleanup,
+) -> Outcome<BadField>
+    ensures { IsRun (view_rules depth) arguments.now
+        (transcript_of (S.observed source.old) (S.observed source.new) (K.observed sink.old) (K.observed sink.new)) result }
 {
-    if are_rows(words) {
-        run_json(&Rows { depth }, alloc, source, sink, leftovers)
+    if is_rows_command(arguments) {
+        run_json(&RowsCommand { depth }, alloc, source, sink, cleanup)
     } else {
-        Written::Usage.if_put(put_all(sink, b"refused: usage\n"))
+        Written::Usage.if_written(write_all(sink, b"refused: usage\n"))
     }
 }

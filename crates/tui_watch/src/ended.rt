@@ -3,20 +3,20 @@
 use std::process::ExitCode;
 use tui_app::AppEnd;
 
-/// How a run ends. `Usage` has written one line that says so, and the terminal was not entered.
+/// How a run ends. `Usage` has written one line that says so, without entering the terminal.
 #[derive(Clone, Copy, Debug, PartialEq, Eq)]
 pub(crate) enum WatchEnded {
     /// The user quit.
     Quit,
-    /// No byte is left of the keys.
+    /// The input has ended.
     Ended,
-    /// The words are not those of a command.
+    /// The arguments are not valid.
     Usage,
-    /// A read of the keys failed, or the session had as many of them as one may have.
+    /// Reading the keys failed, or the session has made the most reads that it may make.
     ReadFault,
-    /// A put failed.
+    /// A write failed.
     WriteFault,
-    /// The memory was not there.
+    /// Memory ran out.
     NoMemory,
 }
 
@@ -33,7 +33,7 @@ impl From<AppEnd> for WatchEnded {
 }
 
 impl WatchEnded {
-    /// The exit status, as `main` answers it.
+    /// Returns the exit status as `main` returns it.
     pub(crate) fn exit_code(&self) -> ExitCode {
         ExitCode::from(match self {
             WatchEnded::Quit | WatchEnded::Ended => 0,

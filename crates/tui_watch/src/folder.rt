@@ -1,14 +1,14 @@
-//! A folder of the system as a machine.
+//! A folder of the file system as a machine.
 
 use std::alloc::Global;
 use std::fs;
 use tui_cells::{Mem, NoMemory};
-use tui_outside::{ReadEnd, read_all};
+use tui_io::{ReadEnd, read_all};
 use tui_program::FileSource;
-use tui_system::{opened, unless_memory};
+use tui_system::{open_file, or_out_of_memory};
 use tui_watch_lib::Machine;
 
-/// A folder of the system; without a name /proc.
+/// A folder of the file system; /proc if it has no name.
 #[derive(Drop)]
 pub(crate) struct Folder {
     pub(crate) rt: HostRuntime,
@@ -23,9 +23,10 @@ impl Folder {
         }
     }
 
-    // Whether a path is that of a file: what may be waited for, as a FIFO, is not opened.
+    // Returns whether a path is that of a regular file. Others, such as FIFOs, are not opened, since opening one might
+    // block.
     fn is_file(&self, path: &str) -> Mem<bool> {
-        match unless_memory(fs::metadata(&self.rt, path))? {
+        match or_out_of_memory(fs::metadata(&self.rt, path))? {
             Ok(metadata) => Ok(metadata.is_file()),
             Err(_) => Ok(false),
         }
@@ -33,14 +34,14 @@ impl Folder {
 }
 
 impl Machine for Folder {
-    /// A file of more than 1,048,576 bytes counts as one that cannot be read.
+    /// Treats a file of more than 1,048,576 bytes as one that can't be read.
     fn text(&self, alloc: Global, path: &str) -> Mem<String> {
         let folder = self.name();
         let path = format!(in alloc; "{folder}/{path}")?;
         if !self.is_file(path.as_str())? {
             return Ok(String::new(alloc));
         }
-        let mut source = FileSource::new(opened(&self.rt, path.as_str())?);
+        let mut source = FileSource::new(open_file(&self.rt, path.as_str())?);
         match read_all(alloc, &mut source) {
             Ok(bytes) => Ok(String::from_utf8_lossy(alloc, &bytes)?),
             Err(ReadEnd::NoMemory) => Err(NoMemory),
@@ -50,11 +51,11 @@ impl Machine for Folder {
 
     fn numbers(&self, alloc: Global) -> Mem<Vec<u32>> {
         let mut numbers = Vec::new(alloc);
-        let Ok(entries) = unless_memory(fs::read_dir(&self.rt, self.name()))? else {
+        let Ok(entries) = or_out_of_memory(fs::read_dir(&self.rt, self.name()))? else {
             return Ok(numbers);
         };
         for entry in entries {
-            if let Ok(entry) = unless_memory(entry)? {
+            if let Ok(entry) = or_out_of_memory(entry)? {
                 if let Ok(number) = entry.file_name().parse::<u32>() {
                     numbers.push(number)?;
                 }

@@ -1,4 +1,4 @@
-//! The program `tui_watch`: a dashboard of the machine, on the terminal that `./live` gives it.
+//! The program `tui_watch`: a dashboard of the machine, on the terminal that `./live` provides.
 #![tactic(auto)]
 
 mod ended;
@@ -10,11 +10,11 @@ use std::alloc::Global;
 use std::env::Args;
 use std::io;
 use std::process::ExitCode;
-use tui_app::{Port, Terminal, run};
+use tui_app::{IoTerminal, Terminal, run};
 use tui_cells::{Mem, NoMemory};
-use tui_outside::{Sink, StdSink, StdSource, WriteFault, put_all};
-use tui_program::first_words;
-use tui_system::{Setting, setting, words};
+use tui_io::{Sink, StdSink, StdSource, WriteFault, write_all};
+use tui_program::first_arguments;
+use tui_system::{Setting, arguments, setting};
 use tui_watch_lib::Watch;
 
 fn main(rt: HostRuntime) -> ExitCode {
@@ -24,34 +24,35 @@ fn main(rt: HostRuntime) -> ExitCode {
     }
 }
 
-/// Runs over what the system gives. `NoMemory` where it had none for what it says, before anything is read or written.
+/// Runs the program with what the system gives. Fails with `NoMemory` if the system has no memory for that, before
+/// anything is read or written.
 fn run_watch(rt: HostRuntime) -> Mem<WatchEnded> {
     let alloc = rt.alloc();
     let setting = setting(&rt)?;
-    let folder = folder_of(alloc, words(&rt)?);
-    let mut terminal = Port::new(StdSource::new(rt.reader()), StdSink::new(io::writer(&rt)));
+    let folder = folder_of(alloc, arguments(&rt)?);
+    let mut terminal = IoTerminal::new(StdSource::new(rt.reader()), StdSink::new(io::writer(&rt)));
     match folder {
         Ok(name) => Ok(watch(alloc, setting, Folder { rt, name }, &mut terminal)),
-        Err(Usage) => Ok(refuse_usage(&mut terminal)),
+        Err(Usage) => Ok(reject_usage(&mut terminal)),
     }
 }
 
-/// The words are not those of a command.
+/// The arguments are not valid.
 struct Usage;
 
-/// The name of the folder, which may be left out.
+/// Returns the name of the folder, which may be left out.
 fn folder_of(alloc: Global, args: io::Result<Args>) -> Result<Option<String>, Usage> {
     let Ok(all) = args else {
         return Err(Usage);
     };
-    let mut words = first_words(alloc, all);
-    if words.len() > 1 {
+    let mut arguments = first_arguments(alloc, all);
+    if arguments.len() > 1 {
         return Err(Usage);
     }
-    Ok(words.pop())
+    Ok(arguments.pop())
 }
 
-/// Shows a machine until the user quits.
+/// Shows the dashboard until the user quits.
 fn watch<T: Terminal>(
     alloc: Global,
     setting: Setting,
@@ -72,9 +73,9 @@ fn watch<T: Terminal>(
     }
 }
 
-/// Writes that the words are not those of a command.
-fn refuse_usage<K: Sink>(sink: &mut K) -> WatchEnded {
-    match put_all(sink, b"refused: usage\n") {
+/// Writes the line that says that the arguments are not valid.
+fn reject_usage<K: Sink>(sink: &mut K) -> WatchEnded {
+    match write_all(sink, b"refused: usage\n") {
         Ok(()) => WatchEnded::Usage,
         Err(WriteFault) => WatchEnded::WriteFault,
     }

@@ -5,14 +5,22 @@ ghost use Rattle.std.specs.Prelude.{◌≡◌, OnOk};
 use crate::load::Load;
 use crate::memory::Memory;
 use crate::processors::Processors;
-use crate::reading::Reading;
+use crate::reading::MachineReading;
 use std::alloc::Global;
 use tui_bars::Gauge;
 use tui_cells::{Buffer, Color, Mem, Position, Rect, Style, Widget};
 use tui_layout::{Fraction, Segment};
 use tui_text::{Span, set_stringn};
 
-/// The rows of an area that a part has.
+// What a gauge shows: its label, how much of the whole is used, and the color of the used part.
+#[derive(Clone, Copy)]
+struct Meter<'a> {
+    label: &'a str,
+    share: Fraction,
+    color: Color,
+}
+
+/// Returns the rows of an area that a segment covers.
 pub(crate) fn rows_of(area: Rect, part: Option<&Segment>) -> Rect {
     match part {
         Some(part) => area.rows_from(part.start, part.width),
@@ -20,7 +28,7 @@ pub(crate) fn rows_of(area: Rect, part: Option<&Segment>) -> Rect {
     }
 }
 
-/// Draws a text into the first row of an area.
+/// Draws text into the first row of an area.
 pub(crate) fn draw_text(text: &str, area: Rect, buf: &mut Buffer) -> Mem<()>
     ensures area { OnOk result (buf.new.area ≡ buf.old.area) }
 {
@@ -32,10 +40,10 @@ pub(crate) fn draw_text(text: &str, area: Rect, buf: &mut Buffer) -> Mem<()>
     Ok(())
 }
 
-/// Draws the load, for how long the machine is up, and what keys do.
+/// Draws the load, the uptime, and what the keys do.
 pub(crate) fn draw_headline(
     alloc: Global,
-    reading: &Reading,
+    reading: &MachineReading,
     paused: bool,
     area: Rect,
     buf: &mut Buffer,
@@ -65,7 +73,7 @@ fn load_text(alloc: Global, load: Option<Load>) -> Mem<String> {
     }
 }
 
-// A number of hundredths.
+// Formats a number of hundredths.
 fn decimal(alloc: Global, hundredths: u64) -> Mem<String> {
     let whole = hundredths / 100;
     let part = hundredths % 100;
@@ -84,30 +92,39 @@ fn uptime_text(alloc: Global, uptime: Option<u64>) -> Mem<String> {
     }
 }
 
-/// Draws a gauge a row: the processors since the reading before, the memory and the swap.
-pub(crate) fn draw_meters(alloc: Global, reading: &Reading, area: Rect, buf: &mut Buffer) -> Mem<()>
+/// Draws three gauges, one a row: the use of the processors since the last reading, the memory and the swap.
+pub(crate) fn draw_meters(
+    alloc: Global,
+    reading: &MachineReading,
+    area: Rect,
+    buf: &mut Buffer,
+) -> Mem<()>
     ensures area { OnOk result (buf.new.area ≡ buf.old.area) }
 {
-    draw_processors(alloc, reading.passed, area.rows_from(0, 1), buf)?;
+    draw_processors(alloc, reading.elapsed, area.rows_from(0, 1), buf)?;
     draw_memory(alloc, reading.memory, area.rows_from(1, 1), buf)?;
     draw_swap(alloc, reading.memory, area.rows_from(2, 1), buf)
 }
 
 fn draw_processors(
     alloc: Global,
-    passed: Option<Processors>,
+    elapsed: Option<Processors>,
     area: Rect,
     buf: &mut Buffer,
 ) -> Mem<()>
     ensures area { OnOk result (buf.new.area ≡ buf.old.area) }
 {
-    match passed {
-        Some(passed) => {
-            let count = passed.count;
-            let percent = passed.per_mille() / 10;
+    match elapsed {
+        Some(elapsed) => {
+            let count = elapsed.count;
+            let percent = elapsed.per_mille() / 10;
             let label = format!(in alloc; "{count} processors {percent}%")?;
-            let share = Fraction::new(passed.busy, passed.all());
-            draw_gauge(alloc, label.as_str(), share, Color::Green, area, buf)
+            let meter = Meter {
+                label: label.as_str(),
+                share: Fraction::new(elapsed.busy, elapsed.all()),
+                color: Color::Green,
+            };
+            draw_gauge(alloc, meter, area, buf)
         }
         None => draw_text("no stat", area, buf),
     }
@@ -119,8 +136,12 @@ fn draw_memory(alloc: Global, memory: Option<Memory>, area: Rect, buf: &mut Buff
     match memory {
         Some(memory) => {
             let label = share_text(alloc, "memory", memory.used(), memory.total)?;
-            let share = Fraction::new(memory.used(), memory.total);
-            draw_gauge(alloc, label.as_str(), share, Color::Cyan, area, buf)
+            let meter = Meter {
+                label: label.as_str(),
+                share: Fraction::new(memory.used(), memory.total),
+                color: Color::Cyan,
+            };
+            draw_gauge(alloc, meter, area, buf)
         }
         None => draw_text("no meminfo", area, buf),
     }
@@ -132,14 +153,18 @@ fn draw_swap(alloc: Global, memory: Option<Memory>, area: Rect, buf: &mut Buffer
     match memory {
         Some(memory) => {
             let label = share_text(alloc, "swap", memory.swap_used(), memory.swap_total)?;
-            let share = Fraction::new(memory.swap_used(), memory.swap_total);
-            draw_gauge(alloc, label.as_str(), share, Color::Yellow, area, buf)
+            let meter = Meter {
+                label: label.as_str(),
+                share: Fraction::new(memory.swap_used(), memory.swap_total),
+                color: Color::Yellow,
+            };
+            draw_gauge(alloc, meter, area, buf)
         }
         None => draw_text("no meminfo", area, buf),
     }
 }
 
-// What is used of all, in GiB.
+// Formats how much is used of the whole, in GiB.
 fn share_text(alloc: Global, name: &str, used: u64, all: u64) -> Mem<String> {
     let used = tenths_text(alloc, gibibyte_tenths(used))?;
     let all = tenths_text(alloc, gibibyte_tenths(all))?;
@@ -150,30 +175,23 @@ fn gibibyte_tenths(kilobytes: u64) -> u64 {
     kilobytes.saturating_mul(10) / 1_048_576
 }
 
-/// A number of tenths.
+/// Formats a number of tenths.
 pub(crate) fn tenths_text(alloc: Global, tenths: u64) -> Mem<String> {
     let whole = tenths / 10;
     let part = tenths % 10;
     Ok(format!(in alloc; "{whole}.{part}")?)
 }
 
-// A gauge with a label; the label alone where there is nothing to have a share of.
-fn draw_gauge(
-    alloc: Global,
-    label: &str,
-    share: Fraction,
-    color: Color,
-    area: Rect,
-    buf: &mut Buffer,
-) -> Mem<()>
+// Draws the gauge of a meter; its label alone if the whole is 0.
+fn draw_gauge(alloc: Global, meter: Meter<'_>, area: Rect, buf: &mut Buffer) -> Mem<()>
     ensures area { OnOk result (buf.new.area ≡ buf.old.area) }
 {
-    match Gauge::default().ratio(share) {
+    match Gauge::default().ratio(meter.share) {
         Ok(gauge) => gauge
-            .label(Span::raw(label))
+            .label(Span::raw(meter.label))
             .use_unicode(true)
-            .gauge_style(Style::new().fg(color))
+            .gauge_style(Style::new().fg(meter.color))
             .render(alloc, area, buf),
-        Err(_) => draw_text(label, area, buf),
+        Err(_) => draw_text(meter.label, area, buf),
     }
 }

@@ -19,5 +19,5 @@ pub use machine::Machine;
 pub use memory::Memory;
 pub use process::{Process, Stat};
 pub use processors::Processors;
-pub use reading::Reading;
+pub use reading::MachineReading;
 pub use watch::Watch;

@@ -2,7 +2,8 @@
 
 use crate::numbers::hundredths;
 
-/// How many tasks ran or waited to run on average, in hundredths, in the last minute, five minutes and fifteen minutes.
+/// How many tasks ran or waited to run on average over the last minute, five minutes and fifteen minutes, in
+/// hundredths.
 #[derive(Clone, Copy, Debug, PartialEq, Eq)]
 pub struct Load {
     pub one: u64,
@@ -11,7 +12,7 @@ pub struct Load {
 }
 
 impl Load {
-    /// What `loadavg` says; None where it begins otherwise than by three numbers with two digits behind the point.
+    /// Parses `loadavg`. Returns None if it doesn't begin with three numbers with two digits after the point.
     pub fn parse(text: &str) -> Option<Load> {
         let mut words = text.split_ascii_whitespace();
         let one = hundredths(words.next()?)?;

@@ -4,7 +4,7 @@ ghost use Rattle.std.specs.Prelude.{◌≡◌, ◌-◌};
 
 use crate::numbers::{number_after, per_mille};
 
-/// Memory in kB (1024 bytes): all of it, what programs can still have, and the same of swap.
+/// Memory in kB (1024 bytes): the total, what is available to programs, the total of swap, and what is free of it.
 #[derive(Clone, Copy, Debug, PartialEq, Eq)]
 pub struct Memory {
     pub total: u64,
@@ -14,7 +14,7 @@ pub struct Memory {
 }
 
 impl Memory {
-    /// What `meminfo` says; None where one of the four has no line or no number.
+    /// Parses `meminfo`. Returns None if one of the four lines is missing or has no number.
     pub fn parse(text: &str) -> Option<Memory> {
         Some(Memory {
             total: number_after(text, "MemTotal:")?,
@@ -24,21 +24,21 @@ impl Memory {
         })
     }
 
-    /// What is used of the memory.
+    /// Returns how much memory is used.
     pub fn used(&self) -> u64
         ensures { result ≡ self.now.total - self.now.available }
     {
         self.total.saturating_sub(self.available)
     }
 
-    /// What is used of the swap.
+    /// Returns how much swap is used.
     pub fn swap_used(&self) -> u64
         ensures { result ≡ self.now.swap_total - self.now.swap_free }
     {
         self.swap_total.saturating_sub(self.swap_free)
     }
 
-    /// The thousandths of the memory that are used.
+    /// Returns the used memory in thousandths of the total.
     pub fn per_mille(&self) -> u64 {
         per_mille(self.used(), self.total)
     }

@@ -6,8 +6,8 @@ use crate::processors::Processors;
 use std::alloc::Global;
 use tui_cells::Mem;
 
-/// A process: its number and name, a letter for what it does, the ticks that it has had of processors, how many of them since the reading before,
-/// and its memory in kB.
+/// A process: its number, its name, and a letter for its state. `ticks` counts the processor ticks that it has used,
+/// and `used` those since the last reading. `kilobytes` is its memory in kB.
 #[derive(Drop)]
 pub struct Process {
     pub number: u32,
@@ -18,8 +18,8 @@ pub struct Process {
     pub kilobytes: u64,
 }
 
-/// What `PID/stat` says: the name in brackets, behind it the state, and as eleventh and twelfth word behind that the ticks in programs and in the
-/// system.
+/// What `PID/stat` holds: the name in parentheses, and then the state. The eleventh and twelfth word after the state
+/// are the ticks in user and in system mode; `ticks` is their sum.
 #[derive(Clone, Copy)]
 pub struct Stat<'a> {
     pub name: &'a str,
@@ -28,7 +28,8 @@ pub struct Stat<'a> {
 }
 
 impl<'a> Stat<'a> {
-    /// None where a part is missing. A name may have brackets and blanks itself, so it goes up to the last bracket.
+    /// Parses `PID/stat`. Returns None if a word is missing. The name ends at the last closing parenthesis, since it
+    /// may contain parentheses and spaces itself.
     pub fn parse(text: &'a str) -> Option<Stat<'a>> {
         let (head, tail) = text.rsplit_once(')')?;
         let (_, name) = head.split_once('(')?;
@@ -45,8 +46,8 @@ impl<'a> Stat<'a> {
 }
 
 impl Process {
-    /// The process of a number; None where its `stat` is missing or odd, as it is of one that has ended. One whose `status` says none has no memory
-    /// of its own.
+    /// Reads the process of a number. Returns None if its `stat` is missing or malformed, as it is for a process that
+    /// has ended. A process whose `status` has no `VmRSS` line has no memory of its own.
     pub(crate) fn read<M: Machine>(
         alloc: Global,
         machine: &M,
@@ -69,13 +70,14 @@ impl Process {
 }
 
 impl Process {
-    /// The thousandths of one processor that it has had since the reading before, where the ticks since then are told.
-    pub(crate) fn per_mille(&self, passed: Option<Processors>) -> Option<u64> {
-        let passed = passed?;
+    /// Returns the share of one processor that it has used since the last reading, in thousandths. Returns None if the
+    /// ticks since then are unknown.
+    pub(crate) fn per_mille(&self, elapsed: Option<Processors>) -> Option<u64> {
+        let elapsed = elapsed?;
         let of_all = self.used.saturating_mul(1000);
         of_all
-            .saturating_mul(passed.count)
-            .checked_div(passed.all())
+            .saturating_mul(elapsed.count)
+            .checked_div(elapsed.all())
     }
 }
 
@@ -84,7 +86,7 @@ fn text_of<M: Machine>(alloc: Global, machine: &M, number: u32, file: &str) -> M
     machine.text(alloc, name.as_str())
 }
 
-// A text in which U+FFFD stands for each control character.
+// Replaces each control character of a text by U+FFFD.
 fn shown(alloc: Global, text: &str) -> Mem<String> {
     let mut shown = String::new(alloc);
     for letter in text.chars() {

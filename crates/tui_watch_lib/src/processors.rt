@@ -4,7 +4,7 @@ ghost use Rattle.std.specs.Prelude.{◌≤◌};
 
 use crate::numbers::per_mille;
 
-/// How many processors there are, and the ticks of all of them together: those in which they worked, and the others.
+/// How many processors there are, and the ticks of all of them together: the busy ones and the idle ones.
 #[derive(Clone, Copy, Debug, PartialEq, Eq)]
 pub struct Processors {
     pub count: u64,
@@ -12,11 +12,12 @@ pub struct Processors {
     pub idle: u64,
 }
 
-/// The ticks behind `cpu `: user, nice, system, idle, iowait, irq, softirq and steal. What comes then is in them already.
+/// The number of tick counts after `cpu ` that are read: user, nice, system, idle, iowait, irq, softirq and steal. The
+/// counts that follow are already included in these.
 const TIMES: usize = 8;
 
 impl Processors {
-    /// What `stat` says; None where its first line is not that of all processors with at least four numbers.
+    /// Parses `stat`. Returns None if its first line isn't the one of all processors, with at least four numbers.
     pub fn parse(text: &str) -> Option<Processors> {
         let mut lines = text.lines();
         let (busy, idle) = times_in(lines.next()?.strip_prefix("cpu ")?)?;
@@ -27,19 +28,19 @@ impl Processors {
         })
     }
 
-    /// All ticks.
+    /// Returns the ticks altogether.
     pub fn all(&self) -> u64
         ensures { self.now.busy ≤ result }
     {
         self.busy.saturating_add(self.idle)
     }
 
-    /// The thousandths of all ticks in which they worked.
+    /// Returns the busy ticks in thousandths of all ticks.
     pub fn per_mille(&self) -> u64 {
         per_mille(self.busy, self.all())
     }
 
-    /// What was before any tick.
+    /// Returns the counts before any tick.
     pub fn none() -> Processors {
         Processors {
             count: 0,
@@ -49,7 +50,7 @@ impl Processors {
     }
 }
 
-// The ticks of work, and those without.
+// Returns the busy ticks and the idle ticks of a line.
 fn times_in(line: &str) -> Option<(u64, u64)> {
     let mut busy = 0u64;
     let mut idle = 0u64;

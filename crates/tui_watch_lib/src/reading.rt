@@ -1,4 +1,4 @@
-//! What is read of a machine at a tick.
+//! What is read from a machine at a tick.
 
 use crate::load::Load;
 use crate::machine::Machine;
@@ -10,38 +10,39 @@ use std::alloc::Global;
 use std::cmp::Reverse;
 use tui_cells::Mem;
 
-/// What a machine told at a tick: nothing of what was missing or odd. `uptime` is in seconds.
+/// What was read from a machine at a tick. What was missing or malformed is None. `uptime` is in seconds.
 #[derive(Drop)]
-pub struct Reading {
+pub struct MachineReading {
     pub load: Option<Load>,
     pub memory: Option<Memory>,
     pub processors: Option<Processors>,
     pub uptime: Option<u64>,
     pub processes: Vec<Process>,
-    /// The ticks since the reading before.
-    pub passed: Option<Processors>,
+    /// The ticks since the last reading.
+    pub elapsed: Option<Processors>,
 }
 
-impl Reading {
-    /// The reading before the first, which has nothing: what has passed since then has passed since the machine began.
-    pub(crate) fn none(alloc: Global) -> Reading {
-        Reading {
+impl MachineReading {
+    /// Returns the empty reading before the first one. The first reading then counts its ticks from the start of the
+    /// machine.
+    pub(crate) fn none(alloc: Global) -> MachineReading {
+        MachineReading {
             load: None,
             memory: None,
             processors: None,
             uptime: None,
             processes: Vec::new(alloc),
-            passed: None,
+            elapsed: None,
         }
     }
 
-    /// What a machine tells now, with what has passed since the reading before. The processes are in the order of their use of processors since then,
-    /// then of their memory, the greatest first, and then of their numbers.
+    /// Reads the machine, and counts the ticks since the reading before. The processes that used most processor time
+    /// since then come first. Then those with most memory do, and then those with the lowest numbers.
     pub(crate) fn take<M: Machine>(
         alloc: Global,
         machine: &M,
-        before: &mut Reading,
-    ) -> Mem<Reading> {
+        before: &mut MachineReading,
+    ) -> Mem<MachineReading> {
         let load = machine.text(alloc, "loadavg")?;
         let memory = machine.text(alloc, "meminfo")?;
         let stat = machine.text(alloc, "stat")?;
@@ -50,18 +51,18 @@ impl Reading {
         let mut processes = read_processes(alloc, machine)?;
         count_use(&mut processes, &mut before.processes);
         sort_by_use(&mut processes);
-        Ok(Reading {
+        Ok(MachineReading {
             load: Load::parse(load.as_str()),
             memory: Memory::parse(memory.as_str()),
             processors,
             uptime: seconds_in(uptime.as_str()),
             processes,
-            passed: passed(processors, before.processors),
+            elapsed: elapsed(processors, before.processors),
         })
     }
 }
 
-// The seconds of `uptime`, whose first word has a fraction.
+// Returns the whole seconds of `uptime`, whose first word has a fraction.
 fn seconds_in(text: &str) -> Option<u64> {
     let (whole, _) = text.split_once('.')?;
     first_number(whole)
@@ -78,7 +79,7 @@ fn read_processes<M: Machine>(alloc: Global, machine: &M) -> Mem<Vec<Process>> {
     Ok(processes)
 }
 
-// Of a process that was there before only what it has had since then is counted.
+// Counts for each process the ticks that it has used since the reading before, if it was in that.
 fn count_use(processes: &mut Vec<Process>, before: &mut Vec<Process>) {
     before.sort_unstable_by_key(|process| process.number);
     for process in processes.iter_mut() {
@@ -104,7 +105,7 @@ fn sort_by_use(processes: &mut Vec<Process>) {
     });
 }
 
-fn passed(now: Option<Processors>, before: Option<Processors>) -> Option<Processors> {
+fn elapsed(now: Option<Processors>, before: Option<Processors>) -> Option<Processors> {
     let now = now?;
     let before = before.unwrap_or(Processors::none());
     Some(Processors {

@@ -3,7 +3,7 @@
 ghost use Rattle.std.specs.Prelude.{◌≡◌, OnOk};
 
 use crate::history::History;
-use crate::reading::Reading;
+use crate::reading::MachineReading;
 use std::alloc::Global;
 use tui_bars::{RenderDirection, Sparkline, SparklineBar};
 use tui_cells::{Buffer, Color, Mem, Rect, Style, Widget};
@@ -19,15 +19,25 @@ pub(crate) struct Trends {
     pub(crate) memory: History,
 }
 
+// A history and how it is drawn: its title, the title if the newest value was not available, and the value at which a
+// column is full.
+#[derive(Clone, Copy)]
+struct Trend<'a> {
+    history: &'a History,
+    title: &'static str,
+    missing: &'static str,
+    most: u64,
+}
+
 impl Trends {
-    /// Adds what a reading says.
-    pub(crate) fn push(&mut self, reading: &Reading) {
+    /// Adds the values of a reading.
+    pub(crate) fn push(&mut self, reading: &MachineReading) {
         self.load.push(match reading.load {
             Some(load) => Some(load.one),
             None => None,
         });
-        self.processors.push(match reading.passed {
-            Some(passed) => Some(passed.per_mille()),
+        self.processors.push(match reading.elapsed {
+            Some(elapsed) => Some(elapsed.per_mille()),
             None => None,
         });
         self.memory.push(match reading.memory {
@@ -37,8 +47,8 @@ impl Trends {
     }
 }
 
-/// Draws them side by side. The newest point is at the right. A load of 1, or the greatest of its points if that is more, fills a column, and all of
-/// the processors and the memory.
+/// Draws the histories side by side, the newest point at the right. The column of the load is full at 1, or at the
+/// greatest load if that is more. The columns of the processors and of the memory are full at 1000 thousandths.
 pub(crate) fn draw_trends(alloc: Global, trends: &Trends, area: Rect, buf: &mut Buffer) -> Mem<()>
     ensures area { OnOk result (buf.new.area ≡ buf.old.area) }
 {
@@ -47,24 +57,36 @@ pub(crate) fn draw_trends(alloc: Global, trends: &Trends, area: Rect, buf: &mut 
     let load = columns_of(area, parts.get(0));
     let processors = columns_of(area, parts.get(1));
     let memory = columns_of(area, parts.get(2));
-    let most = trends.load.greatest(100);
-    draw_trend(alloc, &trends.load, ("load", "no loadavg"), most, load, buf)?;
-    draw_trend(
-        alloc,
-        &trends.processors,
-        ("processors", "no stat"),
-        1000,
-        processors,
-        buf,
-    )?;
-    draw_trend(
-        alloc,
-        &trends.memory,
-        ("memory", "no meminfo"),
-        1000,
-        memory,
-        buf,
-    )
+    draw_trend(alloc, load_trend(trends), load, buf)?;
+    draw_trend(alloc, processors_trend(trends), processors, buf)?;
+    draw_trend(alloc, memory_trend(trends), memory, buf)
+}
+
+fn load_trend(trends: &Trends) -> Trend<'_> {
+    Trend {
+        history: &trends.load,
+        title: "load",
+        missing: "no loadavg",
+        most: trends.load.greatest(100),
+    }
+}
+
+fn processors_trend(trends: &Trends) -> Trend<'_> {
+    Trend {
+        history: &trends.processors,
+        title: "processors",
+        missing: "no stat",
+        most: 1000,
+    }
+}
+
+fn memory_trend(trends: &Trends) -> Trend<'_> {
+    Trend {
+        history: &trends.memory,
+        title: "memory",
+        missing: "no meminfo",
+        most: 1000,
+    }
 }
 
 fn columns_of(area: Rect, part: Option<&Segment>) -> Rect {
@@ -74,31 +96,24 @@ fn columns_of(area: Rect, part: Option<&Segment>) -> Rect {
     }
 }
 
-// The points under a title, which is the second one where the newest was not told.
-fn draw_trend(
-    alloc: Global,
-    history: &History,
-    titles: (&'static str, &'static str),
-    most: u64,
-    area: Rect,
-    buf: &mut Buffer,
-) -> Mem<()>
+// Draws a trend under its title.
+fn draw_trend(alloc: Global, trend: Trend<'_>, area: Rect, buf: &mut Buffer) -> Mem<()>
     ensures area { OnOk result (buf.new.area ≡ buf.old.area) }
 {
     let mut bars = Vec::new(alloc);
-    for point in history.points().iter() {
+    for point in trend.history.points().iter() {
         bars.push(SparklineBar::from(*point))?;
     }
-    let title = if history.newest().is_some() {
-        titles.0
+    let title = if trend.history.newest().is_some() {
+        trend.title
     } else {
-        titles.1
+        trend.missing
     };
     let mut block = Block::new(alloc).borders(Borders::TOP);
     block.title(Line::raw(alloc, title)?)?;
     Sparkline::new(alloc)
         .data(bars)
-        .max(most)
+        .max(trend.most)
         .direction(RenderDirection::RightToLeft)
         .style(Style::new().fg(Color::Green))
         .block(block)

@@ -6,7 +6,7 @@ ghost use Rattle.tui_watch_lib.specs.Watch.{flow_of, paused_after, reads};
 use crate::drawing::{draw_headline, draw_meters, rows_of};
 use crate::history::History;
 use crate::machine::Machine;
-use crate::reading::Reading;
+use crate::reading::MachineReading;
 use crate::table::draw_processes;
 use crate::trends::{Trends, draw_trends};
 use std::alloc::Global;
@@ -16,7 +16,8 @@ use tui_cells::{Buffer, Mem, Position};
 use tui_keys::Event;
 use tui_layout::{Constraint, Flex, split};
 
-/// The rows of the headline, the gauges, the sparklines and the processes. Where there are fewer, the first of them are shown.
+/// The heights of the headline, the gauges, the sparklines and the processes. On a screen with fewer rows the first of
+/// these are shown.
 const ROWS: [Constraint; 4] = [
     Constraint::Length(1),
     Constraint::Length(3),
@@ -29,33 +30,33 @@ const ROWS: [Constraint; 4] = [
 pub struct Watch<M> {
     machine: M,
     paused: bool,
-    reading: Reading,
+    reading: MachineReading,
     trends: Trends,
 }
 
 impl<M: Machine + Drop> Watch<M> {
-    /// A dashboard of a machine, with a first reading. `NoMemory` where there is none for that.
+    /// Returns a dashboard of a machine, with a first reading. Fails with `NoMemory` if memory for that is missing.
     pub fn new(alloc: Global, machine: M) -> Mem<Watch<M>> {
         let mut watch = Watch {
             machine,
             paused: false,
-            reading: Reading::none(alloc),
+            reading: MachineReading::none(alloc),
             trends: Trends {
                 load: History::new(),
                 processors: History::new(),
                 memory: History::new(),
             },
         };
-        watch.look(alloc)?;
+        watch.refresh(alloc)?;
         Ok(watch)
     }
 
     // Reads the machine.
-    fn look(&mut self, alloc: Global) -> Mem<()>
+    fn refresh(&mut self, alloc: Global) -> Mem<()>
         ensures machine { self.new.machine ≡ self.old.machine }
         ensures paused { self.new.paused ≡ self.old.paused }
     {
-        let reading = Reading::take(alloc, &self.machine, &mut self.reading)?;
+        let reading = MachineReading::take(alloc, &self.machine, &mut self.reading)?;
         self.trends.push(&reading);
         drop(mem::replace(&mut self.reading, reading));
         Ok(())
@@ -63,20 +64,21 @@ impl<M: Machine + Drop> Watch<M> {
 }
 
 impl<M: Machine + Drop> App for Watch<M> {
-    // What is proved of it: how it goes on, whether it is paused, and that what it has measured stays, unless an event has it read the machine.
+    // What is proved of it: how the session goes on, and whether it is paused. The machine stays the same, and the
+    // measurements change only by an event that reads the machine.
     ghost behaviour = { record {
       steps = λ old event new flow. (flow ≡ flow_of event) × (new.paused ≡ paused_after old.paused event) × (new.machine ≡ old.machine)
           × (reads old.paused event ≡ false → (new.reading ≡ old.reading) × (new.trends ≡ old.trends));
       draws = λ old screen place new. ⊤;
     } };
 
-    /// A tick has the machine read, p pauses that and goes on with it, Ctrl-L draws anew, and q quits.
+    /// A tick reads the machine, `p` pauses and resumes that, Ctrl-L sends the whole screen again, and `q` quits.
     fn step(&mut self, alloc: Global, event: Event) -> Mem<Flow> {
         match event {
             Event::Char('q') => return Ok(Flow::Quit),
             Event::Ctrl('l') => return Ok(Flow::Redraw),
             Event::Char('p') => self.paused = !self.paused,
-            Event::Tick if !self.paused => self.look(alloc)?,
+            Event::Tick if !self.paused => self.refresh(alloc)?,
             _ => {}
         }
         Ok(Flow::Go)

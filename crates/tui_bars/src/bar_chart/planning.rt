@@ -1,16 +1,16 @@
-//! What all bars of a drawing share.
+//! Computing what all bars of a chart share.
 
 ghost use Rattle.std.specs.Prelude.{◌≡◌};
 ghost use Rattle.std.specs.List.{list_any};
 ghost use Rattle.tui_bars.specs.BarChart.{bar_chart_data, greatest_of, has_bar_label, has_group_label, label_width_of};
-ghost use Rattle.tui_bars.specs.ChartStrokes.{lying_plan, upright_plan};
+ghost use Rattle.tui_bars.specs.ChartStrokes.{horizontal_plan, vertical_plan};
 
 use crate::bar_chart::BarChart;
-use crate::plan::Plan;
+use crate::plan::ChartPlan;
 use tui_cells::{FARTHEST_EDGE, Rect};
 
 impl<'a> BarChart<'a> {
-    /// The value that fills a bar.
+    /// Returns the value that fills a bar, at least 1.
     fn greatest(&self) -> u64
         ensures { result ≡ greatest_of (bar_chart_data self.now) }
     {
@@ -46,7 +46,7 @@ impl<'a> BarChart<'a> {
         false
     }
 
-    /// The columns of the widest label of a bar.
+    /// Returns the width of the widest bar label in columns.
     fn label_width(&self) -> u16
         ensures { result ≡ label_width_of (bar_chart_data self.now) }
     {
@@ -57,15 +57,15 @@ impl<'a> BarChart<'a> {
         most
     }
 
-    /// The plan of a vertical chart.
-    pub(super) fn upright_plan(&self, area: Rect) -> Plan
-        ensures { result ≡ upright_plan (bar_chart_data self.now) area }
+    /// Returns the plan of a vertical chart.
+    pub(super) fn vertical_plan(&self, area: Rect) -> ChartPlan
+        ensures { result ≡ vertical_plan (bar_chart_data self.now) area }
     {
         let has_room = area.height >= 2;
         let bar_labels = has_room & self.has_bar_labels();
         let is_free = !((area.height == 2) & bar_labels);
         let group_labels = has_room & self.has_group_labels() & is_free;
-        Plan {
+        ChartPlan {
             area,
             greatest: self.greatest(),
             length: area
@@ -78,13 +78,13 @@ impl<'a> BarChart<'a> {
         }
     }
 
-    /// The plan of a horizontal chart.
-    pub(super) fn lying_plan(&self, area: Rect) -> Plan
-        ensures { result ≡ lying_plan (bar_chart_data self.now) area }
+    /// Returns the plan of a horizontal chart.
+    pub(super) fn horizontal_plan(&self, area: Rect) -> ChartPlan
+        ensures { result ≡ horizontal_plan (bar_chart_data self.now) area }
     {
         let labels = self.label_width();
         let margin = u32::from(labels) + u32::from(labels > 0);
-        Plan {
+        ChartPlan {
             area,
             greatest: self.greatest(),
             length: (area.width as u32).saturating_sub(margin) as u16,

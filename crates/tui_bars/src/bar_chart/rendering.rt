@@ -2,7 +2,7 @@
 
 ghost use Rattle.std.specs.Prelude.{◌≡◌, ◌<◌, IsOk, IsTrue, OnOk};
 ghost use Rattle.tui_bars.specs.BarChart.{bar_chart_data};
-ghost use Rattle.tui_bars.specs.ChartLight.{IsLightChart};
+ghost use Rattle.tui_bars.specs.AllocationFreeCharts.{IsAllocationFreeChart};
 ghost use Rattle.tui_bars.specs.ChartStrokes.{bar_chart_layers, directed_layers};
 ghost use Rattle.tui_bars.specs.Drawing.{bar_chart_drawing};
 ghost use Rattle.tui_bars.specs.Framed.{framed_layers};
@@ -22,11 +22,11 @@ impl<'a> BarChart<'a> {
         requires { 0 < (bar_chart_data self.now).width }
         ensures ok { OnOk result (Painted (directed_layers (bar_chart_data self.now) area (bar_chart_data self.now).direction) buf.old buf.new) }
         ensures kept { KeptOutside (covers area) buf.old buf.new }
-        ensures light { IsLightChart (bar_chart_data self.now) → IsOk result }
+        ensures allocation_free { IsAllocationFreeChart (bar_chart_data self.now) → IsOk result }
     {
         match self.direction {
             Direction::Vertical => {
-                let plan = self.upright_plan(area);
+                let plan = self.vertical_plan(area);
                 let columns = Walk {
                     plan,
                     pass: Pass::Columns,
@@ -39,7 +39,7 @@ impl<'a> BarChart<'a> {
                 self.paint_walk(alloc, buf, texts, area.x, area.width)
             }
             Direction::Horizontal => {
-                let plan = self.lying_plan(area);
+                let plan = self.horizontal_plan(area);
                 let rows = Walk {
                     plan,
                     pass: Pass::Rows,
@@ -49,12 +49,12 @@ impl<'a> BarChart<'a> {
         }
     }
 
-    /// The chart inside the block.
+    /// Draws the chart inside the block.
     #[tactic(auto, unfolding(crate::specs::ChartStrokes::bar_chart_layers))]
     fn paint_content(&self, alloc: Global, buf: &mut Buffer, area: Rect) -> Mem<()>
         ensures ok { OnOk result (Painted (bar_chart_layers (bar_chart_data self.now) area) buf.old buf.new) }
         ensures kept { KeptOutside (covers area) buf.old buf.new }
-        ensures light { IsLightChart (bar_chart_data self.now) → IsOk result }
+        ensures allocation_free { IsAllocationFreeChart (bar_chart_data self.now) → IsOk result }
     {
         if self.bar_width == 0 {
             return Ok(());
@@ -67,7 +67,7 @@ impl<'a> BarChart<'a> {
             (Painted (framed_layers (bar_chart_data self.now).block self.now.style (bar_chart_layers (bar_chart_data self.now)) clip) buf.old buf.new) }
         ensures kept { KeptOutside (footprint_if (bar_chart_data self.now).block clip) buf.old buf.new }
         ensures empty { IsTrue (is_empty clip) → IsOk result }
-        ensures light { IsLightChart (bar_chart_data self.now) → IsOk result }
+        ensures allocation_free { IsAllocationFreeChart (bar_chart_data self.now) → IsOk result }
     {
         if clip.is_empty() {
             return Ok(());

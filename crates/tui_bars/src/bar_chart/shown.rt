@@ -2,13 +2,13 @@
 
 ghost use Rattle.std.specs.Prelude.{◌≡◌, ◌<◌, ◌≤◌};
 ghost use Rattle.tui_bars.specs.BarChart.{bar_chart_data};
-ghost use Rattle.tui_bars.specs.Shown.{place_after, room_of, shown_in, space_after, step_of};
+ghost use Rattle.tui_bars.specs.Shown.{place_after, extent_of, shown_in, space_after, step_of};
 
 use crate::bar_chart::BarChart;
 use tui_cells::FARTHEST_EDGE;
 
 impl<'a> BarChart<'a> {
-    /// How many of `count` bars are shown in a space.
+    /// Returns how many of `count` bars are shown in a space.
     pub(super) fn shown_in(&self, space: u16, count: usize) -> usize
         requires { 0 < (bar_chart_data self.now).width }
         ensures is { result ≡ shown_in (bar_chart_data self.now) space count }
@@ -22,15 +22,15 @@ impl<'a> BarChart<'a> {
         count.min((space as usize + self.bar_gap as usize) / step)
     }
 
-    /// The room of this many bars.
+    /// Returns how many columns or rows `count` bars take, with the gaps between them.
     fn room(&self, count: usize) -> u128
-        ensures { result ≡ room_of (bar_chart_data self.now) count }
+        ensures { result ≡ extent_of (bar_chart_data self.now) count }
     {
         let gaps = count.saturating_sub(1) as u128;
         count as u128 * self.bar_width as u128 + gaps * self.bar_gap as u128
     }
 
-    /// The space that a group leaves for the next one.
+    /// Returns the space that is left for the next group, 0 if the bars did not all fit.
     pub(super) fn space_after(&self, space: u16, count: usize) -> u16
         ensures { result ≡ space_after (bar_chart_data self.now) space count }
     {
@@ -41,7 +41,7 @@ impl<'a> BarChart<'a> {
         (space as u128).saturating_sub(used + self.group_gap as u128 + self.bar_gap as u128) as u16
     }
 
-    /// The place of the next group.
+    /// Returns the column or row of the next group.
     pub(super) fn place_after(&self, place: u16, shown: usize) -> u16
         ensures { result ≡ place_after (bar_chart_data self.now) place shown }
     {
@@ -50,7 +50,7 @@ impl<'a> BarChart<'a> {
         end.saturating_add(self.group_gap)
     }
 
-    /// The place of the next bar.
+    /// Returns the column or row of the next bar.
     pub(super) fn step(&self, place: u16) -> u16
         ensures { result ≡ step_of (bar_chart_data self.now) place }
     {

@@ -1,10 +1,10 @@
-//! Walks over groups and their bars.
+//! Passes over groups and their bars.
 
 ghost use Rattle.std.specs.Prelude.{◌≡◌, ◌<◌, ◌≤◌, [], All, IsOk, OnOk, flat_map, length, if◌then◌else◌, ◌==◌};
 ghost use Rattle.tui_bars.specs.BarChart.{bar_chart_data, bar_data};
-ghost use Rattle.tui_bars.specs.ChartLight.{IsLightBar, IsLightGroup, direction_of};
+ghost use Rattle.tui_bars.specs.AllocationFreeCharts.{IsAllocationFreeBar, IsAllocationFreeGroup, direction_of};
 ghost use Rattle.tui_bars.specs.ChartStrokes.{bar_layers, group_layers, walk_layers};
-ghost use Rattle.tui_bars.specs.Levels.{AreLightLevels};
+ghost use Rattle.tui_bars.specs.Levels.{AreAllocationFreeLevels};
 ghost use Rattle.tui_bars.specs.Shown.{bars_of, shown_data};
 ghost use Rattle.tui_cells.specs.Layers.{KeptOutside, Painted};
 ghost use Rattle.tui_cells.specs.Rect.{covers};
@@ -17,7 +17,7 @@ use std::alloc::Global;
 use tui_cells::{Buffer, Mem};
 
 impl<'a> BarChart<'a> {
-    /// One bar.
+    /// Draws one bar in a pass.
     #[tactic(auto, unfolding(crate::specs::ChartStrokes::bar_layers))]
     fn paint_bar(
         &self,
@@ -30,7 +30,7 @@ impl<'a> BarChart<'a> {
         ensures ok { OnOk result (Painted (bar_layers (bar_chart_data self.now) walk.plan walk.pass
             (record { at = at; bar = bar_data bar.now })) buf.old buf.new) }
         ensures kept { KeptOutside (covers walk.plan.area) buf.old buf.new }
-        ensures light { AreLightLevels (bar_chart_data self.now).symbols → IsLightBar (direction_of walk.pass) (bar_data bar.now) → IsOk result }
+        ensures allocation_free { AreAllocationFreeLevels (bar_chart_data self.now).symbols → IsAllocationFreeBar (direction_of walk.pass) (bar_data bar.now) → IsOk result }
     {
         match walk.pass {
             Pass::Columns => self.paint_column(alloc, buf, walk.plan, at, bar),
@@ -39,7 +39,7 @@ impl<'a> BarChart<'a> {
         }
     }
 
-    /// The bars of a group that are shown.
+    /// Draws the bars of a group that are shown.
     fn paint_bars(
         &self,
         alloc: Global,
@@ -51,8 +51,8 @@ impl<'a> BarChart<'a> {
         ensures ok { OnOk result (Painted (flat_map (bar_layers (bar_chart_data self.now) walk.plan walk.pass)
             (bars_of (bar_chart_data self.now) (shown_data shown.entry))) buf.old buf.new) }
         ensures kept { KeptOutside (covers walk.plan.area) buf.old buf.new }
-        ensures light { AreLightLevels (bar_chart_data self.now).symbols
-            → All (IsLightBar (direction_of walk.pass)) (shown_data shown.entry).group.bars → IsOk result }
+        ensures allocation_free { AreAllocationFreeLevels (bar_chart_data self.now).symbols
+            → All (IsAllocationFreeBar (direction_of walk.pass)) (shown_data shown.entry).group.bars → IsOk result }
     {
         let mut place = shown.at;
         'bars: for j in 0..shown.count {
@@ -63,7 +63,7 @@ impl<'a> BarChart<'a> {
         Ok(())
     }
 
-    /// A group of which some bars are shown.
+    /// Draws a group of which at least one bar is shown.
     #[tactic(auto, unfolding(crate::specs::ChartStrokes::group_layers))]
     fn paint_group(
         &self,
@@ -75,8 +75,8 @@ impl<'a> BarChart<'a> {
         requires { shown.count ≤ length (shown_data shown).group.bars }
         ensures ok { OnOk result (Painted (group_layers (bar_chart_data self.now) walk.plan walk.pass (shown_data shown.entry)) buf.old buf.new) }
         ensures kept { KeptOutside (covers walk.plan.area) buf.old buf.new }
-        ensures light { AreLightLevels (bar_chart_data self.now).symbols
-            → IsLightGroup (direction_of walk.pass) (shown_data shown.entry).group → IsOk result }
+        ensures allocation_free { AreAllocationFreeLevels (bar_chart_data self.now).symbols
+            → IsAllocationFreeGroup (direction_of walk.pass) (shown_data shown.entry).group → IsOk result }
     {
         match walk.pass {
             Pass::Columns => self.paint_bars(alloc, buf, walk, shown),
@@ -91,7 +91,7 @@ impl<'a> BarChart<'a> {
         }
     }
 
-    /// The same, if a bar is shown.
+    /// Draws a group if any of its bars is shown.
     fn paint_shown(
         &self,
         alloc: Global,
@@ -103,8 +103,8 @@ impl<'a> BarChart<'a> {
         ensures ok { OnOk result (Painted (if shown.entry.count == 0 then []
             else group_layers (bar_chart_data self.now) walk.plan walk.pass (shown_data shown.entry)) buf.old buf.new) }
         ensures kept { KeptOutside (covers walk.plan.area) buf.old buf.new }
-        ensures light { AreLightLevels (bar_chart_data self.now).symbols
-            → IsLightGroup (direction_of walk.pass) (shown_data shown.entry).group → IsOk result }
+        ensures allocation_free { AreAllocationFreeLevels (bar_chart_data self.now).symbols
+            → IsAllocationFreeGroup (direction_of walk.pass) (shown_data shown.entry).group → IsOk result }
     {
         if shown.count == 0 {
             return Ok(());
@@ -112,7 +112,7 @@ impl<'a> BarChart<'a> {
         self.paint_group(alloc, buf, walk, shown)
     }
 
-    /// The groups that are shown from a place on in a space.
+    /// Draws the groups that are shown in `room` columns or rows from `first` on.
     pub(super) fn paint_walk(
         &self,
         alloc: Global,
@@ -124,8 +124,8 @@ impl<'a> BarChart<'a> {
         requires { 0 < (bar_chart_data self.now).width }
         ensures ok { OnOk result (Painted (walk_layers (bar_chart_data self.now) walk.plan walk.pass first room) buf.old buf.new) }
         ensures kept { KeptOutside (covers walk.plan.area) buf.old buf.new }
-        ensures light { AreLightLevels (bar_chart_data self.now).symbols
-            → All (IsLightGroup (direction_of walk.pass)) (bar_chart_data self.now).groups → IsOk result }
+        ensures allocation_free { AreAllocationFreeLevels (bar_chart_data self.now).symbols
+            → All (IsAllocationFreeGroup (direction_of walk.pass)) (bar_chart_data self.now).groups → IsOk result }
     {
         let mut at = first;
         let mut space = room;

@@ -1,10 +1,10 @@
 //! How a gauge is drawn.
 
 ghost use Rattle.std.specs.Prelude.{◌≡◌, ◌≤◌, [], ◌∷◌, IsOk, IsTrue, OnOk};
-ghost use Rattle.tui_bars.specs.Drawing.{IsLightGauge, gauge_drawing};
+ghost use Rattle.tui_bars.specs.Drawing.{IsAllocationFreeGauge, gauge_drawing};
 ghost use Rattle.tui_bars.specs.Framed.{framed_layers};
 ghost use Rattle.tui_bars.specs.Gauge.{
-  IsLightLabel,
+  IsAllocationFreeLabel,
   eighth,
   filled_area,
   filled_style,
@@ -16,17 +16,17 @@ ghost use Rattle.tui_bars.specs.Gauge.{
   labelled_layers,
   tip_area,
   tip_layers,
-  turned_style,
+  swapped_style,
 };
 ghost use Rattle.tui_bars.specs.Percent.{fill_of};
-ghost use Rattle.tui_cells.specs.Cell.{IsLight};
+ghost use Rattle.tui_cells.specs.Cell.{IsAllocationFree};
 ghost use Rattle.tui_cells.specs.Layers.{KeptOutside, Painted};
 ghost use Rattle.tui_cells.specs.Rect.{covers, is_empty};
 ghost use Rattle.tui_frames.specs.Footprint.{footprint_if};
-ghost use Rattle.tui_text.specs.Setting.{AreLight};
+ghost use Rattle.tui_text.specs.Setting.{AreAllocationFree};
 ghost use Rattle.tui_text.specs.Span.{span_data};
 
-use crate::areas::put_in;
+use crate::areas::fill_clipped;
 use crate::gauge::Gauge;
 use crate::percent::{eighths_of, percent_text, rounded_columns, whole_columns};
 use std::alloc::Global;
@@ -34,11 +34,11 @@ use tui_cells::{Buffer, Color, Mem, Position, Rect, Style, Widget, block};
 use tui_frames::paint_frame;
 use tui_text::{Span, set_span_in};
 
-/// The symbol of this many eighths of a cell, from the left.
+/// Returns the symbol of a cell of which this many eighths are filled from the left.
 #[tactic(auto, unfolding(crate::specs::Gauge::eighth))]
 fn eighth(eighths: u8) -> &'static str
     ensures is { result.now ≡ eighth eighths }
-    ensures light { IsLight result.now }
+    ensures allocation_free { IsAllocationFree result.now }
 {
     match eighths {
         0 => " ",
@@ -53,7 +53,7 @@ fn eighth(eighths: u8) -> &'static str
     }
 }
 
-/// The style of filled cells.
+/// Returns the style of filled cells.
 fn filled_style(style: Style) -> Style
     ensures { result ≡ filled_style style }
 {
@@ -62,16 +62,16 @@ fn filled_style(style: Style) -> Style
         .bg(style.bg.unwrap_or(Color::Reset))
 }
 
-/// The same with the colours turned round.
-fn turned_style(style: Style) -> Style
-    ensures { result ≡ turned_style style }
+/// Returns the style of filled cells with foreground and background swapped.
+fn swapped_style(style: Style) -> Style
+    ensures { result ≡ swapped_style style }
 {
     Style::new()
         .fg(style.bg.unwrap_or(Color::Reset))
         .bg(style.fg.unwrap_or(Color::Reset))
 }
 
-/// The first columns of an area.
+/// Returns the first `fill` columns of an area.
 fn filled_area(area: Rect, fill: u16) -> Rect
     ensures { result ≡ filled_area area fill }
 {
@@ -81,7 +81,7 @@ fn filled_area(area: Rect, fill: u16) -> Rect
     }
 }
 
-/// The column after them.
+/// Returns the column after the first `fill` ones.
 fn tip_area(area: Rect, fill: u16) -> Rect
     ensures { result ≡ tip_area area fill }
 {
@@ -99,7 +99,7 @@ fn label_width(area: Rect, label: &Span<'_>) -> u16
     label.width().min(area.width as usize) as u16
 }
 
-/// Where a label of this many columns begins.
+/// Returns where a label of `width` columns starts.
 fn label_place(area: Rect, width: u16) -> Position
     requires { width ≤ area.width }
     ensures { result ≡ label_place area width }
@@ -110,7 +110,7 @@ fn label_place(area: Rect, width: u16) -> Position
     }
 }
 
-/// The filled cells under a label of this many columns, and in the column after it.
+/// Returns the filled cells under a label of `width` columns and in the column after it.
 fn label_area(area: Rect, fill: u16, width: u16) -> Rect
     requires { width ≤ area.width }
     ensures { result ≡ label_area area fill width }
@@ -126,21 +126,21 @@ fn label_area(area: Rect, fill: u16, width: u16) -> Rect
 }
 
 impl<'a> Gauge<'a> {
-    /// The column that is filled in part.
+    /// Draws the partly filled column.
     #[tactic(auto, unfolding(crate::specs::Gauge::tip_layers))]
     fn paint_tip(&self, alloc: Global, buf: &mut Buffer, area: Rect, fill: u16) -> Mem<()>
         ensures ok { OnOk result (Painted (tip_layers (gauge_data self.now) area fill) buf.old buf.new) }
         ensures kept { KeptOutside (covers area) buf.old buf.new }
-        ensures light { IsOk result }
+        ensures allocation_free { IsOk result }
     {
         if !self.use_unicode || self.share.num >= self.share.den {
             return Ok(());
         }
         let symbol = eighth(eighths_of(area.width, self.share));
-        put_in(alloc, buf, area, tip_area(area, fill), symbol, Style::new())
+        fill_clipped(alloc, buf, area, tip_area(area, fill), symbol, Style::new())
     }
 
-    /// The columns of a width that are filled: whole ones alone where a part of the next one is drawn, else rounded.
+    /// Returns how many columns are filled: only whole ones if the next one is drawn in part, otherwise rounded.
     fn fill(&self, width: u16) -> u16
         ensures { result ≡ fill_of (gauge_data self.now).use_unicode width (gauge_data self.now).num (gauge_data self.now).den }
     {
@@ -151,7 +151,7 @@ impl<'a> Gauge<'a> {
         }
     }
 
-    /// The gauge with a label.
+    /// Draws the gauge with a label.
     fn paint_labelled(
         &self,
         alloc: Global,
@@ -161,16 +161,16 @@ impl<'a> Gauge<'a> {
     ) -> Mem<()>
         ensures ok { OnOk result (Painted (labelled_layers (gauge_data self.now) (span_data label.now) area) buf.old buf.new) }
         ensures kept { KeptOutside (covers area) buf.old buf.new }
-        ensures light { AreLight (span_data label.now ∷ []) → IsOk result }
+        ensures allocation_free { AreAllocationFree (span_data label.now ∷ []) → IsOk result }
     {
         let fill = self.fill(area.width);
         let width = label_width(area, label);
         let under = label_area(area, fill, width);
         let place = label_place(area, width);
         let filled = filled_style(self.gauge_style);
-        let turned = turned_style(self.gauge_style);
+        let swapped = swapped_style(self.gauge_style);
         buf.set_style(area, self.gauge_style);
-        put_in(
+        fill_clipped(
             alloc,
             buf,
             area,
@@ -178,17 +178,17 @@ impl<'a> Gauge<'a> {
             block::FULL,
             filled,
         )?;
-        put_in(alloc, buf, area, under, " ", turned)?;
+        fill_clipped(alloc, buf, area, under, " ", swapped)?;
         self.paint_tip(alloc, buf, area, fill)?;
         set_span_in(buf, area, place, label, usize::from(width))?;
         Ok(())
     }
 
-    /// The gauge inside the block.
+    /// Draws the gauge inside the block.
     fn paint_content(&self, alloc: Global, buf: &mut Buffer, area: Rect) -> Mem<()>
         ensures ok { OnOk result (Painted (gauge_layers (gauge_data self.now) area) buf.old buf.new) }
         ensures kept { KeptOutside (covers area) buf.old buf.new }
-        ensures light { IsLightLabel (gauge_data self.now).label → IsOk result }
+        ensures allocation_free { IsAllocationFreeLabel (gauge_data self.now).label → IsOk result }
     {
         match &self.label {
             Some(label) => self.paint_labelled(alloc, buf, area, label),
@@ -204,7 +204,7 @@ impl<'a> Gauge<'a> {
             (Painted (framed_layers (gauge_data self.now).block self.now.style (gauge_layers (gauge_data self.now)) clip) buf.old buf.new) }
         ensures kept { KeptOutside (footprint_if (gauge_data self.now).block clip) buf.old buf.new }
         ensures empty { IsTrue (is_empty clip) → IsOk result }
-        ensures light { IsLightGauge (gauge_data self.now) → IsOk result }
+        ensures allocation_free { IsAllocationFreeGauge (gauge_data self.now) → IsOk result }
     {
         if clip.is_empty() {
             return Ok(());

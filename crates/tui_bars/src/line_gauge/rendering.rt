@@ -1,16 +1,16 @@
 //! How a line gauge is drawn.
 
 ghost use Rattle.std.specs.Prelude.{◌≡◌, IfOk, IsOk, IsTrue, OnOk};
-ghost use Rattle.tui_bars.specs.Drawing.{IsLightLineGauge, line_gauge_drawing};
+ghost use Rattle.tui_bars.specs.Drawing.{IsAllocationFreeLineGauge, line_gauge_drawing};
 ghost use Rattle.tui_bars.specs.Framed.{framed_layers};
-ghost use Rattle.tui_bars.specs.LineGauge.{IsLightLine, bar_layers, label_end, label_layers, line_gauge_data, line_gauge_layers};
-ghost use Rattle.tui_cells.specs.Cell.{IsLight};
+ghost use Rattle.tui_bars.specs.LineGauge.{IsAllocationFreeLine, bar_layers, label_end, label_layers, line_gauge_data, line_gauge_layers};
+ghost use Rattle.tui_cells.specs.Cell.{IsAllocationFree};
 ghost use Rattle.tui_cells.specs.Layers.{KeptOutside, Painted};
 ghost use Rattle.tui_cells.specs.Rect.{covers, is_empty};
 ghost use Rattle.tui_frames.specs.Footprint.{footprint_if};
 ghost use Rattle.tui_text.specs.Painting.{cells_at};
 
-use crate::areas::put_in;
+use crate::areas::fill_clipped;
 use crate::line_gauge::LineGauge;
 use crate::percent::{percent_label, whole_columns};
 use std::alloc::Global;
@@ -18,7 +18,7 @@ use tui_cells::{Buffer, Mem, Position, Rect, Style, Widget};
 use tui_frames::paint_frame;
 use tui_text::{set_line_in, set_stringn_in};
 
-/// Cells of a row from a column on.
+/// Returns `width` cells of a row from column `x` on.
 fn cells_at(x: u16, y: u16, width: u16) -> Rect
     ensures { result ≡ cells_at x y width }
 {
@@ -31,12 +31,12 @@ fn cells_at(x: u16, y: u16, width: u16) -> Rect
 }
 
 impl<'a> LineGauge<'a> {
-    /// The label, its own or the percentage; answers the column after its last one.
+    /// Writes the label, or the percentage if none is set. Returns the column after it.
     fn paint_label(&self, buf: &mut Buffer, area: Rect) -> Mem<u16>
         ensures ok { OnOk result (Painted (label_layers (line_gauge_data self.now) area) buf.old buf.new) }
         ensures end { IfOk result (λ x. x ≡ label_end (line_gauge_data self.now) area) }
         ensures kept { KeptOutside (covers area) buf.old buf.new }
-        ensures light { IsLightLine (line_gauge_data self.now).label → IsOk result }
+        ensures allocation_free { IsAllocationFreeLine (line_gauge_data self.now).label → IsOk result }
     {
         let place = Position {
             x: area.x,
@@ -52,12 +52,12 @@ impl<'a> LineGauge<'a> {
         }
     }
 
-    /// The line from a column on.
+    /// Draws the line from a column on.
     #[tactic(auto, unfolding(crate::specs::LineGauge::bar_layers))]
     fn paint_line(&self, alloc: Global, buf: &mut Buffer, area: Rect, start: u16) -> Mem<()>
         ensures ok { OnOk result (Painted (bar_layers (line_gauge_data self.now) area start) buf.old buf.new) }
         ensures kept { KeptOutside (covers area) buf.old buf.new }
-        ensures light { IsLight (line_gauge_data self.now).filled → IsLight (line_gauge_data self.now).unfilled → IsOk result }
+        ensures allocation_free { IsAllocationFree (line_gauge_data self.now).filled → IsAllocationFree (line_gauge_data self.now).unfilled → IsOk result }
     {
         let columns = area.right().saturating_sub(start);
         let count = whole_columns(columns, self.share);
@@ -67,7 +67,7 @@ impl<'a> LineGauge<'a> {
             area.y,
             columns.saturating_sub(count),
         );
-        put_in(
+        fill_clipped(
             alloc,
             buf,
             area,
@@ -75,7 +75,7 @@ impl<'a> LineGauge<'a> {
             self.filled_symbol,
             self.filled_style,
         )?;
-        put_in(
+        fill_clipped(
             alloc,
             buf,
             area,
@@ -85,11 +85,11 @@ impl<'a> LineGauge<'a> {
         )
     }
 
-    /// The line gauge inside the block.
+    /// Draws the line gauge inside the block.
     fn paint_content(&self, alloc: Global, buf: &mut Buffer, area: Rect) -> Mem<()>
         ensures ok { OnOk result (Painted (line_gauge_layers (line_gauge_data self.now) area) buf.old buf.new) }
         ensures kept { KeptOutside (covers area) buf.old buf.new }
-        ensures light { IsLightLineGauge (line_gauge_data self.now) → IsOk result }
+        ensures allocation_free { IsAllocationFreeLineGauge (line_gauge_data self.now) → IsOk result }
     {
         let end = self.paint_label(buf, area)?;
         self.paint_line(alloc, buf, area, end.saturating_add(1))
@@ -100,7 +100,7 @@ impl<'a> LineGauge<'a> {
             (Painted (framed_layers (line_gauge_data self.now).block self.now.style (line_gauge_layers (line_gauge_data self.now)) clip) buf.old buf.new) }
         ensures kept { KeptOutside (footprint_if (line_gauge_data self.now).block clip) buf.old buf.new }
         ensures empty { IsTrue (is_empty clip) → IsOk result }
-        ensures light { IsLightLineGauge (line_gauge_data self.now) → IsOk result }
+        ensures allocation_free { IsAllocationFreeLineGauge (line_gauge_data self.now) → IsOk result }
     {
         if clip.is_empty() {
             return Ok(());

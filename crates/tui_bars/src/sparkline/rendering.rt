@@ -1,15 +1,15 @@
 //! How a sparkline is drawn.
 
 ghost use Rattle.std.specs.Prelude.{◌≡◌, ◌<◌, IsOk, IsTrue, OnOk};
-ghost use Rattle.tui_bars.specs.Drawing.{IsLightSparkline, sparkline_drawing};
+ghost use Rattle.tui_bars.specs.Drawing.{IsAllocationFreeSparkline, sparkline_drawing};
 ghost use Rattle.tui_frames.specs.InBlock.{in_block_layers};
 ghost use Rattle.tui_bars.specs.Sparkline.{bar_layers, column_at, greatest_of, side, sparkline_bar_data, sparkline_data, sparkline_layers};
 ghost use Rattle.tui_cells.specs.Layers.{KeptOutside, Painted};
 ghost use Rattle.tui_cells.specs.Rect.{covers, is_empty};
 ghost use Rattle.tui_frames.specs.Footprint.{footprint_if};
 
-use crate::areas::put_in;
-use crate::levels::{StandingBar, paint_levels, ticks};
+use crate::areas::fill_clipped;
+use crate::levels::{VerticalBar, paint_levels, ticks};
 use crate::render_direction::RenderDirection;
 use crate::sparkline::Sparkline;
 use crate::sparkline_bar::SparklineBar;
@@ -18,7 +18,7 @@ use tui_cells::{Buffer, Mem, Rect, Style, Widget};
 use tui_frames::{BlockExt, paint_if_some};
 
 impl RenderDirection {
-    /// The column of bar `i`, counted from the first one.
+    /// Returns the column of bar `i`.
     fn side(self, width: u16, i: u16) -> u16
         requires { i < width }
         ensures { result ≡ side self width i }
@@ -31,7 +31,7 @@ impl RenderDirection {
 }
 
 impl<'a> Sparkline<'a> {
-    /// The value that fills a column.
+    /// Returns the value that fills a column.
     fn greatest(&self) -> u64
         ensures { result ≡ greatest_of (sparkline_data self.now) }
     {
@@ -56,7 +56,7 @@ impl<'a> Sparkline<'a> {
         }
     }
 
-    /// Bar `i` in its column.
+    /// Draws bar `i` in its column.
     fn paint_bar(
         &self,
         alloc: Global,
@@ -69,30 +69,30 @@ impl<'a> Sparkline<'a> {
         requires { i < area.width }
         ensures ok { OnOk result (Painted (bar_layers (sparkline_data self.now) area greatest i (sparkline_bar_data bar)) buf.old buf.new) }
         ensures kept { KeptOutside (covers area) buf.old buf.new }
-        ensures light { IsLightSparkline (sparkline_data self.now) → IsOk result }
+        ensures allocation_free { IsAllocationFreeSparkline (sparkline_data self.now) → IsOk result }
     {
         let column = self.column_at(area, i);
         match bar.value {
             None => {
                 let style = self.style.patch(self.absent_value_style);
-                put_in(alloc, buf, area, column, self.absent_value_symbol, style)
+                fill_clipped(alloc, buf, area, column, self.absent_value_symbol, style)
             }
             Some(value) => {
-                let standing = StandingBar {
+                let vertical = VerticalBar {
                     area: column,
                     filled: ticks(greatest, value, column.height),
                     style: self.style.patch(bar.style.unwrap_or(Style::new())),
                 };
-                paint_levels(alloc, buf, area, &self.bar_set, standing)
+                paint_levels(alloc, buf, area, &self.bar_set, vertical)
             }
         }
     }
 
-    /// The bars that have a column.
+    /// Draws the bars that have a column.
     fn paint_content(&self, alloc: Global, buf: &mut Buffer, area: Rect) -> Mem<()>
         ensures ok { OnOk result (Painted (sparkline_layers (sparkline_data self.now) area) buf.old buf.new) }
         ensures kept { KeptOutside (covers area) buf.old buf.new }
-        ensures light { IsLightSparkline (sparkline_data self.now) → IsOk result }
+        ensures allocation_free { IsAllocationFreeSparkline (sparkline_data self.now) → IsOk result }
     {
         let greatest = self.greatest();
         let count = self.bars.len().min(area.width as usize);
@@ -107,7 +107,7 @@ impl<'a> Sparkline<'a> {
         ensures ok { OnOk result (Painted (in_block_layers (sparkline_data self.now).block (sparkline_layers (sparkline_data self.now)) clip) buf.old buf.new) }
         ensures kept { KeptOutside (footprint_if (sparkline_data self.now).block clip) buf.old buf.new }
         ensures empty { IsTrue (is_empty clip) → IsOk result }
-        ensures light { IsLightSparkline (sparkline_data self.now) → IsOk result }
+        ensures allocation_free { IsAllocationFreeSparkline (sparkline_data self.now) → IsOk result }
     {
         if clip.is_empty() {
             return Ok(());

@@ -4,16 +4,16 @@ ghost use Rattle.std.specs.Prelude.{◌≡◌, ◌+◌, ◌*◌, ◌<◌, IsOk, 
 ghost use Rattle.std.specs.List.{list_all};
 ghost use Rattle.tui_calendar.specs.Drawing.{monthly_drawing};
 ghost use Rattle.tui_calendar.specs.Month.{date_data, start_of, weeks_of};
-ghost use Rattle.tui_calendar.specs.Monthly.{background, blanks, gap_style, monthly_data, slot_data, slot_of};
-ghost use Rattle.tui_calendar.specs.MonthlyStrokes.{month_layers, monthly_layers, place_layers, sheet_layers, slot_layers, under, week_layers, weekdays_layers};
+ghost use Rattle.tui_calendar.specs.Monthly.{background, blank_slot, gap_style, monthly_data, slot_data, slot_of};
+ghost use Rattle.tui_calendar.specs.MonthlyStrokes.{month_layers, monthly_layers, place_layers, sheet_layers, slot_layers, below_header, week_layers, weekdays_layers};
 ghost use Rattle.tui_cells.specs.Layers.{KeptOutside, Painted};
 ghost use Rattle.tui_cells.specs.Rect.{covers, is_empty};
 ghost use Rattle.tui_frames.specs.Footprint.{footprint_if};
-ghost use Rattle.tui_frames.specs.InBlock.{IsLightIfBlock, in_block_layers};
+ghost use Rattle.tui_frames.specs.InBlock.{IsAllocationFreeIfBlock, in_block_layers};
 ghost use Rattle.tui_clusters.specs.Printable.{is_printable};
 ghost use Rattle.tui_text.specs.Setting.{set_layers, styled_text};
 
-use super::words::{day, heading};
+use super::texts::{day, heading};
 use crate::date_styler::DateStyler;
 use crate::month::{place, start, weeks};
 use crate::monthly::Monthly;
@@ -24,7 +24,7 @@ use tui_cells::{Buffer, Mem, Position, Rect, Style, Widget};
 use tui_frames::{BlockExt, paint_if_some};
 use tui_text::{Alignment, Span, below, paint_spans, set_stringn_in};
 
-/// What stands in a place: two characters and their style.
+/// What is drawn in a place: two characters and their style.
 #[derive(Drop)]
 struct Slot {
     text: ArrayString<2>,
@@ -32,7 +32,7 @@ struct Slot {
 }
 
 impl<'a, DS: DateStyler> Monthly<'a, DS> {
-    /// A style with the background of the default one alone.
+    /// Returns a style with only the background of the default style.
     fn background(&self) -> Style
         ensures { result ≡ background self.now.default_style }
     {
@@ -42,8 +42,8 @@ impl<'a, DS: DateStyler> Monthly<'a, DS> {
         }
     }
 
-    fn blanks(&self) -> Slot
-        ensures is { slot_data result ≡ blanks (monthly_data self.now) }
+    fn blank_slot(&self) -> Slot
+        ensures is { slot_data result ≡ blank_slot (monthly_data self.now) }
         ensures printable { list_all is_printable result.text.bytes ≡ true }
     {
         let mut text = ArrayString::new();
@@ -60,7 +60,7 @@ impl<'a, DS: DateStyler> Monthly<'a, DS> {
         ensures printable { list_all is_printable result.text.bytes ≡ true }
     {
         let Some(date) = date else {
-            return self.blanks();
+            return self.blank_slot();
         };
         let plain = date.to_plain();
         if plain.month == self.display_date.to_plain().month {
@@ -70,7 +70,7 @@ impl<'a, DS: DateStyler> Monthly<'a, DS> {
             };
         }
         match self.surrounding {
-            None => self.blanks(),
+            None => self.blank_slot(),
             Some(style) => Slot {
                 text: day(plain.day),
                 style: self
@@ -81,7 +81,7 @@ impl<'a, DS: DateStyler> Monthly<'a, DS> {
         }
     }
 
-    /// The style of the blank before a day.
+    /// Returns the style of the space before a day.
     fn gap_style(&self, column: u8) -> Style
         ensures { result ≡ gap_style (monthly_data self.now) column }
     {
@@ -92,7 +92,7 @@ impl<'a, DS: DateStyler> Monthly<'a, DS> {
         }
     }
 
-    /// The slot of a place; `start` is the day of the first one.
+    /// Draws the slot of a place. `start` is the day number of the first place.
     #[tactic(auto, unfolding(crate::specs::MonthlyStrokes::place_layers))]
     fn paint_place(
         &self,
@@ -110,7 +110,7 @@ impl<'a, DS: DateStyler> Monthly<'a, DS> {
         ensures ok { OnOk result
             (Painted (place_layers (DS.date_style self.now.events) (monthly_data self.now) inner corner.x corner.y row column) buf.old buf.new) }
         ensures kept { KeptOutside (covers inner) buf.old buf.new }
-        ensures light { IsOk result }
+        ensures allocation_free { IsOk result }
     {
         let slot = self.slot(place(self.display_date, start, 7 * row + column));
         let at = Position {
@@ -134,7 +134,7 @@ impl<'a, DS: DateStyler> Monthly<'a, DS> {
         ensures ok { OnOk result
             (Painted (week_layers (DS.date_style self.now.events) (monthly_data self.now) inner corner.x corner.y row 0 7) buf.old buf.new) }
         ensures kept { KeptOutside (covers inner) buf.old buf.new }
-        ensures light { IsOk result }
+        ensures allocation_free { IsOk result }
     {
         for column in 0..7 {
             self.paint_place(buf, inner, corner, start, row, column)?;
@@ -142,11 +142,11 @@ impl<'a, DS: DateStyler> Monthly<'a, DS> {
         Ok(())
     }
 
-    /// The weeks that have a row.
+    /// Draws the weeks for which there is a row.
     fn paint_weeks(&self, buf: &mut Buffer, inner: Rect, rest: Rect) -> Mem<()>
         ensures ok { OnOk result (Painted (sheet_layers (DS.date_style self.now.events) (monthly_data self.now) inner rest) buf.old buf.new) }
         ensures kept { KeptOutside (covers inner) buf.old buf.new }
-        ensures light { IsOk result }
+        ensures allocation_free { IsOk result }
     {
         let start = start(self.display_date);
         let count = cut_weeks(weeks(self.display_date), rest.height);
@@ -160,11 +160,11 @@ impl<'a, DS: DateStyler> Monthly<'a, DS> {
         Ok(())
     }
 
-    #[tactic(auto, using(tui_text::proofs::LightTexts::printable_light), unfolding(crate::specs::MonthlyStrokes::month_layers))]
+    #[tactic(auto, using(tui_text::proofs::AllocationFreeTexts::printable_allocation_free), unfolding(crate::specs::MonthlyStrokes::month_layers))]
     fn paint_month(&self, buf: &mut Buffer, inner: Rect) -> Mem<()>
         ensures ok { OnOk result (Painted (month_layers (monthly_data self.now) inner self.now.month_header) buf.old buf.new) }
         ensures kept { KeptOutside (covers inner) buf.old buf.new }
-        ensures light { IsOk result }
+        ensures allocation_free { IsOk result }
     {
         match self.month_header {
             None => Ok(()),
@@ -180,7 +180,7 @@ impl<'a, DS: DateStyler> Monthly<'a, DS> {
     fn paint_weekdays(&self, buf: &mut Buffer, inner: Rect, rest: Rect) -> Mem<()>
         ensures ok { OnOk result (Painted (weekdays_layers inner rest self.now.weekdays_header) buf.old buf.new) }
         ensures kept { KeptOutside (covers inner) buf.old buf.new }
-        ensures light { IsOk result }
+        ensures allocation_free { IsOk result }
     {
         match self.weekdays_header {
             None => Ok(()),
@@ -190,21 +190,21 @@ impl<'a, DS: DateStyler> Monthly<'a, DS> {
                     y: rest.y,
                 };
                 let room = usize::from(rest.width);
-                put_text(buf, inner, corner, " Su Mo Tu We Th Fr Sa", room, style)
+                write_text(buf, inner, corner, " Su Mo Tu We Th Fr Sa", room, style)
             }
         }
     }
 
-    /// The headers that are shown, and the weeks.
+    /// Draws the headers that are shown, and the weeks.
     fn paint_content(&self, buf: &mut Buffer, inner: Rect) -> Mem<()>
         ensures ok { OnOk result (Painted (monthly_layers (DS.date_style self.now.events) (monthly_data self.now) inner) buf.old buf.new) }
         ensures kept { KeptOutside (covers inner) buf.old buf.new }
-        ensures light { IsOk result }
+        ensures allocation_free { IsOk result }
     {
         self.paint_month(buf, inner)?;
-        let rest = under(self.month_header, inner);
+        let rest = below_header(self.month_header, inner);
         self.paint_weekdays(buf, inner, rest)?;
-        self.paint_weeks(buf, inner, under(self.weekdays_header, rest))
+        self.paint_weeks(buf, inner, below_header(self.weekdays_header, rest))
     }
 
     fn paint_in(&self, alloc: Global, buf: &mut Buffer, clip: Rect) -> Mem<()>
@@ -213,7 +213,7 @@ impl<'a, DS: DateStyler> Monthly<'a, DS> {
             buf.old buf.new) }
         ensures kept { KeptOutside (footprint_if (monthly_data self.now).block clip) buf.old buf.new }
         ensures empty { IsTrue (is_empty clip) → IsOk result }
-        ensures light { IsLightIfBlock (monthly_data self.now).block → IsOk result }
+        ensures allocation_free { IsAllocationFreeIfBlock (monthly_data self.now).block → IsOk result }
     {
         if clip.is_empty() {
             return Ok(());
@@ -231,9 +231,9 @@ impl<'a, DS: DateStyler> Widget for Monthly<'a, DS> {
     }
 }
 
-/// Puts a text, as `set_stringn` does in a clip that lies in the buffer.
-#[tactic(auto, using(tui_text::proofs::LightTexts::printable_styled))]
-fn put_text(
+/// Writes a text in a clip that is in the buffer, as `set_stringn` does.
+#[tactic(auto, using(tui_text::proofs::AllocationFreeTexts::printable_styled))]
+fn write_text(
     buf: &mut Buffer,
     clip: Rect,
     at: Position,
@@ -243,27 +243,27 @@ fn put_text(
 ) -> Mem<()>
     ensures ok { OnOk result (Painted (set_layers clip at (styled_text text.now style) room) buf.old buf.new) }
     ensures kept { KeptOutside (covers clip) buf.old buf.new }
-    ensures light { list_all is_printable text.now ≡ true → IsOk result }
+    ensures allocation_free { list_all is_printable text.now ≡ true → IsOk result }
 {
     set_stringn_in(buf, clip, at, text, room, style)?;
     Ok(())
 }
 
-/// A blank, and then what stands in a place.
+/// Writes a space and then the slot of a place.
 fn paint_slot(buf: &mut Buffer, inner: Rect, at: Position, gap: Style, slot: &Slot) -> Mem<()>
     ensures ok { OnOk result (Painted (slot_layers inner at.x at.y gap (slot_data slot.now)) buf.old buf.new) }
     ensures kept { KeptOutside (covers inner) buf.old buf.new }
-    ensures light { list_all is_printable slot.now.text.bytes ≡ true → IsOk result }
+    ensures allocation_free { list_all is_printable slot.now.text.bytes ≡ true → IsOk result }
 {
-    put_text(buf, inner, at, " ", 1, gap)?;
+    write_text(buf, inner, at, " ", 1, gap)?;
     let right = Position {
         x: at.x.saturating_add(1),
         y: at.y,
     };
-    put_text(buf, inner, right, slot.text.as_str(), 2, slot.style)
+    write_text(buf, inner, right, slot.text.as_str(), 2, slot.style)
 }
 
-/// A number of weeks, cut to the rows.
+/// Returns a number of weeks, at most the number of rows.
 fn cut_weeks(weeks: u8, rows: u16) -> u8
     ensures { result ≡ min weeks rows }
 {
@@ -274,9 +274,9 @@ fn cut_weeks(weeks: u8, rows: u16) -> u8
     }
 }
 
-/// What is left of an area below a header that is shown or not.
-fn under(header: Option<Style>, area: Rect) -> Rect
-    ensures { result ≡ under header area }
+/// Returns what is left of an area below a header, which may be hidden.
+fn below_header(header: Option<Style>, area: Rect) -> Rect
+    ensures { result ≡ below_header header area }
 {
     match header {
         None => area,

@@ -1,4 +1,4 @@
-//! Characters of one byte side by side.
+//! ASCII text, written one character a cell.
 
 ghost use Rattle.std.specs.Prelude.{◌≡◌, ◌+◌, ◌-◌, ◌<◌, ◌≤◌, IsAscii, length, min};
 ghost use Rattle.tui_cells.specs.Layers.{Painted, ascii_layers};
@@ -9,8 +9,8 @@ use crate::position::Position;
 use crate::style::Style;
 
 impl Buffer {
-    /// Sets the characters of a text in the cells from a position on, each with the style; those outside the area are left
-    /// out. Each character is one byte, and takes no memory. A style that sets nothing costs no step.
+    /// Writes ASCII text into the cells from a position on, one character a cell, each with the style. Characters
+    /// outside the area are left out. Does not allocate. A style that sets nothing takes no time.
     pub fn set_ascii(&mut self, at: Position, text: &[u8], style: Style)
         requires { IsAscii text.now }
         ensures { Painted (ascii_layers at.x at.y style text.now) self.old self.new }
@@ -28,7 +28,7 @@ impl Buffer {
         self.set_ascii_in(at, text, from, to, style);
     }
 
-    // The bytes of the text from one place up to another, which are those in the area.
+    // Writes the bytes from `from` up to `to`, which are those that lie in the area.
     fn set_ascii_in(&mut self, at: Position, text: &[u8], from: usize, to: usize, style: Style)
         requires ascii { IsAscii text.now }
         requires row { (self.old.area.y ≤ at.y) × (at.y < bottom_of self.old.area) }

@@ -1,4 +1,4 @@
-//! Neighbouring cells.
+//! Functions on neighbouring cells.
 
 ghost use Rattle.std.specs.Prelude.{
   ◌≡◌,
@@ -21,10 +21,10 @@ ghost use Rattle.std.specs.Prelude.{
   vec_capacity,
 };
 ghost use Rattle.tui_cells.specs.Buffer.{RowEdited};
-ghost use Rattle.tui_cells.specs.Copying.{IsEitherRow};
-ghost use Rattle.tui_cells.specs.Keeping.{row_cells};
-ghost use Rattle.tui_cells.specs.Cell.{IsAtRest, IsLight, blank, dim, dress, put, wipe};
-ghost use Rattle.tui_cells.specs.Spelt.{RowSpelt};
+ghost use Rattle.tui_cells.specs.Copying.{IsPartialRowCopy};
+ghost use Rattle.tui_cells.specs.Representation.{row_cells};
+ghost use Rattle.tui_cells.specs.Cell.{IsUnstyled, IsAllocationFree, blank, dim, set_style, write, wipe};
+ghost use Rattle.tui_cells.specs.RowWriting.{RowWritten};
 
 use crate::cell::Cell;
 use crate::content::{SHORT, byte_symbol};
@@ -33,7 +33,7 @@ use crate::style::Style;
 use arrayvec::ArrayString;
 use std::alloc::Global;
 
-/// `width` blank cells.
+/// Returns `width` blank cells.
 pub(crate) fn blank_cells(alloc: Global, width: u16) -> Mem<Vec<Cell>>
     ensures { IfOk result (λ cells. cells.items ≡ replicate width blank) }
 {
@@ -42,7 +42,7 @@ pub(crate) fn blank_cells(alloc: Global, width: u16) -> Mem<Vec<Cell>>
     Ok(cells)
 }
 
-/// Makes the cells of a row if none of them is made.
+/// Creates the cells of a row if it has none.
 #[inline]
 pub(crate) fn make_cells(cells: &mut Vec<Cell>, alloc: Global, width: u16)
     requires { cells.old.items ≡ [] → width ≤ vec_capacity cells.old }
@@ -53,7 +53,7 @@ pub(crate) fn make_cells(cells: &mut Vec<Cell>, alloc: Global, width: u16)
     }
 }
 
-// The room is reserved, so none is asked for here.
+// The memory is reserved, so nothing is allocated here.
 #[inline(never)]
 fn make_blanks(cells: &mut Vec<Cell>, alloc: Global, width: u16)
     requires empty { cells.old.items ≡ [] }
@@ -66,21 +66,21 @@ fn make_blanks(cells: &mut Vec<Cell>, alloc: Global, width: u16)
     }
 }
 
-/// The first place whose cell has a style, or the end.
-pub(crate) fn rest_end(cells: &[Cell]) -> usize
+/// Returns the index of the first cell that has a style, or the number of cells.
+pub(crate) fn first_styled(cells: &[Cell]) -> usize
     ensures within { result ≤ length cells.now }
-    ensures rest { (i : ℕ) → i < result → IsAtRest (slice_index_or cells.now i blank) }
-    ensures styled { result < length cells.now → IsAtRest (slice_index_or cells.now result blank) → ⊥ }
+    ensures rest { (i : ℕ) → i < result → IsUnstyled (slice_index_or cells.now i blank) }
+    ensures styled { result < length cells.now → IsUnstyled (slice_index_or cells.now result blank) → ⊥ }
 {
     'places: for place in 0..cells.len() {
-        if !cells[place].is_at_rest() {
+        if !cells[place].is_unstyled() {
             return place;
         }
     }
     cells.len()
 }
 
-/// Whether two rows show the same. Never inlined, so that its loop keeps what it counts in registers.
+/// Whether two rows show the same. Never inlined, so that its loop keeps its counter in registers.
 #[inline(never)]
 pub(crate) fn are_same(one: &[Cell], other: &[Cell]) -> bool
     ensures { IsTrue result ↔ (one.now ≡ other.now) }
@@ -96,13 +96,14 @@ pub(crate) fn are_same(one: &[Cell], other: &[Cell]) -> bool
     true
 }
 
-/// Makes cells show what others show. At NoMemory each is as before or as the other.
+/// Makes cells show what others show. Fails with `NoMemory` if memory runs out; each cell is then either unchanged or a
+/// copy.
 pub(crate) fn copy_cells(cells: &mut Vec<Cell>, others: &[Cell]) -> Mem<()>
     requires { length cells.old.items ≡ length others.now }
     ensures ok { OnOk result (cells.new.items ≡ others.now) }
-    ensures err { OnErr result (IsEitherRow others.now cells.old.items cells.new.items) }
+    ensures err { OnErr result (IsPartialRowCopy others.now cells.old.items cells.new.items) }
     ensures len { length cells.new.items ≡ length others.now }
-    ensures light { All (λ c. IsLight c.symbol) others.now → IsOk result }
+    ensures allocation_free { All (λ c. IsAllocationFree c.symbol) others.now → IsOk result }
 {
     'places: for place in 0..others.len() {
         let cell = &mut cells[place];
@@ -111,7 +112,7 @@ pub(crate) fn copy_cells(cells: &mut Vec<Cell>, others: &[Cell]) -> Mem<()>
     Ok(())
 }
 
-/// Dims the cells from one place up to another.
+/// Dims the cells from index `from` up to `to`.
 pub(crate) fn dim_cells(cells: &mut Vec<Cell>, from: usize, to: usize)
     requires { (from ≤ to) × (to ≤ length cells.old.items) }
     ensures { RowEdited from to dim cells.old.items cells.new.items }
@@ -122,11 +123,11 @@ pub(crate) fn dim_cells(cells: &mut Vec<Cell>, from: usize, to: usize)
     }
 }
 
-/// Sets a symbol in the cells from one place up to another.
-pub(crate) fn put_cells(cells: &mut Vec<Cell>, from: usize, to: usize, symbol: ArrayString<SHORT>)
+/// Sets a symbol in the cells from index `from` up to `to`.
+pub(crate) fn write_cells(cells: &mut Vec<Cell>, from: usize, to: usize, symbol: ArrayString<SHORT>)
     requires within { (from ≤ to) × (to ≤ length cells.old.items) }
     requires some { 0 < length symbol.bytes }
-    ensures { RowEdited from to (put symbol.bytes) cells.old.items cells.new.items }
+    ensures { RowEdited from to (write symbol.bytes) cells.old.items cells.new.items }
 {
     'cells: for i in from..to {
         let cell = &mut cells[i];
@@ -134,11 +135,11 @@ pub(crate) fn put_cells(cells: &mut Vec<Cell>, from: usize, to: usize, symbol: A
     }
 }
 
-/// Sets characters of one byte from a place on, one a cell.
-pub(crate) fn put_ascii(cells: &mut Vec<Cell>, from: usize, text: &[u8])
+/// Writes ASCII text into the cells from index `from` on, one character a cell.
+pub(crate) fn write_ascii(cells: &mut Vec<Cell>, from: usize, text: &[u8])
     requires within { from + length text.now ≤ length cells.old.items }
     requires ascii { IsAscii text.now }
-    ensures { RowSpelt from (from + length text.now) text.now [] cells.old.items cells.new.items }
+    ensures { RowWritten from (from + length text.now) text.now [] cells.old.items cells.new.items }
 {
     'bytes: for i in 0..text.len() {
         let cell = &mut cells[from + i];
@@ -146,10 +147,10 @@ pub(crate) fn put_ascii(cells: &mut Vec<Cell>, from: usize, text: &[u8])
     }
 }
 
-/// Sets the style of the cells from one place up to another.
-pub(crate) fn dress_cells(cells: &mut Vec<Cell>, from: usize, to: usize, style: Style)
+/// Sets the style of the cells from index `from` up to `to`.
+pub(crate) fn style_cells(cells: &mut Vec<Cell>, from: usize, to: usize, style: Style)
     requires { (from ≤ to) × (to ≤ length cells.old.items) }
-    ensures { RowEdited from to (dress style) cells.old.items cells.new.items }
+    ensures { RowEdited from to (set_style style) cells.old.items cells.new.items }
 {
     'cells: for i in from..to {
         let cell = &mut cells[i];
@@ -157,7 +158,7 @@ pub(crate) fn dress_cells(cells: &mut Vec<Cell>, from: usize, to: usize, style: 
     }
 }
 
-/// Makes the cells from one place up to another blank.
+/// Makes the cells from index `from` up to `to` blank.
 pub(crate) fn wipe_cells(cells: &mut Vec<Cell>, from: usize, to: usize)
     requires { (from ≤ to) × (to ≤ length cells.old.items) }
     ensures { RowEdited from to wipe cells.old.items cells.new.items }

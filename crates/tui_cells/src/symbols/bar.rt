@@ -1,9 +1,9 @@
-//! Bars that fill eighths of a cell from below.
+//! Bars that fill a cell from below, in eighths.
 
 ghost use Rattle.std.specs.Prelude.{◌≡◌, map};
 ghost use Rattle.tui_cells.specs.Symbols.{bar_data, bar_sets};
 
-/// The symbols of a cell that is filled in part.
+/// The symbols of a partly filled cell.
 #[derive(Clone, Copy, Debug, PartialEq, Eq, Hash)]
 pub struct Set<'a> {
     pub full: &'a str,
@@ -30,7 +30,7 @@ pub const NINE_LEVELS: Set<'static> = Set {
     empty: " ",
 };
 
-/// Full, half and empty cells alone.
+/// Full, half and empty cells only.
 pub const THREE_LEVELS: Set<'static> = Set {
     full: "█",
     seven_eighths: "█",

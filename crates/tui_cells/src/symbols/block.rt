@@ -1,4 +1,4 @@
-//! Blocks that fill eighths of a cell from the left.
+//! Blocks that fill a cell from the left, in eighths.
 
 ghost use Rattle.std.specs.Prelude.{◌≡◌, map};
 ghost use Rattle.tui_cells.specs.Symbols.{block_symbols};

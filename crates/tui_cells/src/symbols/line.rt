@@ -3,17 +3,17 @@
 ghost use Rattle.std.specs.Prelude.{◌≡◌, map};
 ghost use Rattle.tui_cells.specs.Symbols.{line_data, line_sets, line_symbols};
 
-/// The symbols of a line upwards and of one across.
+/// The symbols of a vertical and of a horizontal line.
 #[derive(Clone, Copy, Debug, PartialEq, Eq, Hash)]
 pub struct Set<'a> {
     pub vertical: &'a str,
     pub horizontal: &'a str,
 }
 
-/// A light line upwards.
+/// A light vertical line.
 pub const VERTICAL: &str = "│";
 
-/// A light line across.
+/// A light horizontal line.
 pub const HORIZONTAL: &str = "─";
 
 /// Light lines.

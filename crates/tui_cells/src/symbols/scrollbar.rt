@@ -12,7 +12,7 @@ pub struct Set<'a> {
     pub end: &'a str,
 }
 
-/// A double line upwards.
+/// A double vertical line.
 pub const DOUBLE_VERTICAL: Set<'static> = Set {
     track: "║",
     thumb: "█",
@@ -20,7 +20,7 @@ pub const DOUBLE_VERTICAL: Set<'static> = Set {
     end: "▼",
 };
 
-/// A double line across.
+/// A double horizontal line.
 pub const DOUBLE_HORIZONTAL: Set<'static> = Set {
     track: "═",
     thumb: "█",
@@ -28,7 +28,7 @@ pub const DOUBLE_HORIZONTAL: Set<'static> = Set {
     end: "►",
 };
 
-/// A light line upwards.
+/// A light vertical line.
 pub const VERTICAL: Set<'static> = Set {
     track: "│",
     thumb: "█",
@@ -36,7 +36,7 @@ pub const VERTICAL: Set<'static> = Set {
     end: "↓",
 };
 
-/// A light line across.
+/// A light horizontal line.
 pub const HORIZONTAL: Set<'static> = Set {
     track: "─",
     thumb: "█",

@@ -3,7 +3,7 @@
 ghost use Rattle.std.specs.Prelude.{◌≡◌, map};
 ghost use Rattle.tui_cells.specs.Symbols.{shade_symbols};
 
-/// A blank.
+/// A space.
 pub const EMPTY: &str = " ";
 
 /// A light shade.

@@ -6,7 +6,7 @@ ghost use Rattle.tui_cells.specs.Rect.{covers, is_empty};
 ghost use Rattle.tui_frames.specs.Block.{block_data};
 ghost use Rattle.tui_frames.specs.Drawing.{block_drawing};
 ghost use Rattle.tui_frames.specs.Footprint.{block_footprint};
-ghost use Rattle.tui_frames.specs.Light.{IsLightBlock, IsLightFrame, IsLightShadow};
+ghost use Rattle.tui_frames.specs.AllocationFree.{IsAllocationFreeBlock, IsAllocationFreeFrame, IsAllocationFreeShadow};
 ghost use Rattle.tui_frames.specs.Strokes.{block_layers, frame_layers, shadow_layers_if};
 
 use crate::block::Block;
@@ -15,11 +15,11 @@ use std::alloc::Global;
 use tui_cells::{Buffer, Mem, Rect, Widget};
 
 impl<'a> Block<'a> {
-    /// The style, the borders and the titles.
+    /// Paints the style, the borders and the titles.
     pub(crate) fn paint_frame(&self, alloc: Global, buf: &mut Buffer, clip: Rect) -> Mem<()>
         ensures ok { OnOk result (Painted (frame_layers (block_data self.now) clip) buf.old buf.new) }
         ensures kept { KeptOutside (covers clip) buf.old buf.new }
-        ensures light { IsLightFrame (block_data self.now) → IsOk result }
+        ensures allocation_free { IsAllocationFreeFrame (block_data self.now) → IsOk result }
     {
         buf.set_style(clip, self.style);
         self.paint_sides(alloc, buf, clip)?;
@@ -28,11 +28,11 @@ impl<'a> Block<'a> {
         self.paint_titles(buf, clip, TitlePosition::Bottom)
     }
 
-    /// The shadow, if there is one.
+    /// Paints the shadow, if there is one.
     fn paint_shadow(&self, alloc: Global, buf: &mut Buffer, clip: Rect) -> Mem<()>
         ensures ok { OnOk result (Painted (shadow_layers_if (block_data self.now).shadow clip) buf.old buf.new) }
         ensures kept { KeptOutside (block_footprint (block_data self.now) clip) buf.old buf.new }
-        ensures light { IsLightShadow (block_data self.now).shadow → IsOk result }
+        ensures allocation_free { IsAllocationFreeShadow (block_data self.now).shadow → IsOk result }
     {
         match &self.shadow {
             None => Ok(()),
@@ -45,7 +45,7 @@ impl<'a> Block<'a> {
         ensures ok { OnOk result (Painted (block_layers (block_data self.now) clip) buf.old buf.new) }
         ensures kept { KeptOutside (block_footprint (block_data self.now) clip) buf.old buf.new }
         ensures empty { IsTrue (is_empty clip) → IsOk result }
-        ensures light { IsLightBlock (block_data self.now) → IsOk result }
+        ensures allocation_free { IsAllocationFreeBlock (block_data self.now) → IsOk result }
     {
         if clip.is_empty() {
             return Ok(());

@@ -1,13 +1,13 @@
 //! The sides and corners of a block.
 
 ghost use Rattle.std.specs.Prelude.{◌≡◌, ◌≤◌, ◌&&◌, [], ◌∷◌, IsOk, OnOk, true};
-ghost use Rattle.tui_cells.specs.Cell.{IsLight, dress, merge};
+ghost use Rattle.tui_cells.specs.Cell.{IsAllocationFree, set_style, merge};
 ghost use Rattle.tui_cells.specs.Layers.{KeptOutside, Painted, over};
 ghost use Rattle.tui_cells.specs.Rect.{covers};
 ghost use Rattle.tui_text.specs.Painting.{cells_at};
 ghost use Rattle.tui_frames.specs.Block.{block_data};
 ghost use Rattle.tui_frames.specs.Borders.{has};
-ghost use Rattle.tui_frames.specs.Light.{AreLightBorders, IsLightIf};
+ghost use Rattle.tui_frames.specs.AllocationFree.{AreAllocationFreeBorders, IsAllocationFreeIf};
 ghost use Rattle.tui_frames.specs.Strokes.{
   border_layers,
   column_of,
@@ -28,7 +28,7 @@ use crate::borders::Borders;
 use std::alloc::Global;
 use tui_cells::{Buffer, Mem, MergeStrategy, Rect, Style};
 
-/// Joins a symbol with those that stand in an area, and sets a style.
+/// Joins a symbol with those in an area, and sets a style there.
 fn join(
     alloc: Global,
     buf: &mut Buffer,
@@ -37,9 +37,9 @@ fn join(
     symbol: &str,
     style: Style,
 ) -> Mem<()>
-    ensures ok { OnOk result (Painted (over (covers area) (merge strategy symbol.now ∷ dress style ∷ [])) buf.old buf.new) }
+    ensures ok { OnOk result (Painted (over (covers area) (merge strategy symbol.now ∷ set_style style ∷ [])) buf.old buf.new) }
     ensures kept { KeptOutside (covers area) buf.old buf.new }
-    ensures light { IsLight symbol.now → IsOk result }
+    ensures allocation_free { IsAllocationFree symbol.now → IsOk result }
 {
     match strategy {
         MergeStrategy::Replace => buf.fill(alloc, area, symbol, style),
@@ -112,7 +112,7 @@ impl<'a> Block<'a> {
         self.borders.contains(side)
     }
 
-    /// The cells that a side leaves to the corner at another side.
+    /// Returns how many cells a side leaves to the corner at another side.
     fn gap(&self, side: Borders) -> u16
         ensures is { result ≡ gap (block_data self.now) side.bits }
         ensures few { result ≤ 1 }
@@ -136,7 +136,7 @@ impl<'a> Block<'a> {
         row_of(clip, y).columns_from(first, clip.width.saturating_sub(first + last))
     }
 
-    /// The symbol and the border style in a part of the clip.
+    /// Paints the symbol and the border style in a part of the clip.
     fn paint_border(
         &self,
         alloc: Global,
@@ -147,7 +147,7 @@ impl<'a> Block<'a> {
     ) -> Mem<()>
         ensures ok { OnOk result (Painted (border_layers (block_data self.now) clip true part symbol.now) buf.old buf.new) }
         ensures kept { KeptOutside (covers clip) buf.old buf.new }
-        ensures light { IsLight symbol.now → IsOk result }
+        ensures allocation_free { IsAllocationFree symbol.now → IsOk result }
     {
         let part = clip.intersection(part);
         join(
@@ -160,7 +160,7 @@ impl<'a> Block<'a> {
         )
     }
 
-    /// A side in its part of the clip, if its border is set.
+    /// Paints a side in its part of the clip, if its border is set.
     fn paint_side(
         &self,
         alloc: Global,
@@ -173,7 +173,7 @@ impl<'a> Block<'a> {
         ensures ok { OnOk result
             (Painted (border_layers (block_data self.now) clip (has (block_data self.now).borders side.bits) part symbol.now) buf.old buf.new) }
         ensures kept { KeptOutside (covers clip) buf.old buf.new }
-        ensures light { IsLightIf (has (block_data self.now).borders side.bits) symbol.now → IsOk result }
+        ensures allocation_free { IsAllocationFreeIf (has (block_data self.now).borders side.bits) symbol.now → IsOk result }
     {
         if self.has(side) {
             self.paint_border(alloc, buf, clip, part, symbol)
@@ -186,7 +186,7 @@ impl<'a> Block<'a> {
     pub(crate) fn paint_sides(&self, alloc: Global, buf: &mut Buffer, clip: Rect) -> Mem<()>
         ensures ok { OnOk result (Painted (sides_layers (block_data self.now) clip) buf.old buf.new) }
         ensures kept { KeptOutside (covers clip) buf.old buf.new }
-        ensures light { AreLightBorders (block_data self.now) → IsOk result }
+        ensures allocation_free { AreAllocationFreeBorders (block_data self.now) → IsOk result }
     {
         let set = self.border_set;
         let left = self.column_side(clip, clip.x);
@@ -206,7 +206,7 @@ impl<'a> Block<'a> {
         )
     }
 
-    /// A corner, if both borders that meet there are set.
+    /// Paints a corner, if both borders that meet there are set.
     fn paint_corner(
         &self,
         alloc: Global,
@@ -219,7 +219,7 @@ impl<'a> Block<'a> {
         ensures ok { OnOk result
             (Painted (corner_layers (block_data self.now) clip sides.0.bits sides.1.bits cell.0 cell.1 symbol.now) buf.old buf.new) }
         ensures kept { KeptOutside (covers clip) buf.old buf.new }
-        ensures light { IsLightIf (has (block_data self.now).borders sides.0.bits && has (block_data self.now).borders sides.1.bits) symbol.now
+        ensures allocation_free { IsAllocationFreeIf (has (block_data self.now).borders sides.0.bits && has (block_data self.now).borders sides.1.bits) symbol.now
             → IsOk result }
     {
         let is_set = self.has(sides.0) & self.has(sides.1);
@@ -235,7 +235,7 @@ impl<'a> Block<'a> {
     pub(crate) fn paint_corners(&self, alloc: Global, buf: &mut Buffer, clip: Rect) -> Mem<()>
         ensures ok { OnOk result (Painted (corners_layers (block_data self.now) clip) buf.old buf.new) }
         ensures kept { KeptOutside (covers clip) buf.old buf.new }
-        ensures light { AreLightBorders (block_data self.now) → IsOk result }
+        ensures allocation_free { AreAllocationFreeBorders (block_data self.now) → IsOk result }
     {
         let set = self.border_set;
         let (top, right, bottom, left) = (

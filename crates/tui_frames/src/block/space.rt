@@ -41,8 +41,8 @@ impl<'a> Block<'a> {
         u16::from(self.borders.contains(Borders::BOTTOM) | has_title)
     }
 
-    /// The area that is left inside the borders, the titles and the padding of an area. An empty area has an empty one
-    /// inside; one that is not empty lies in the area.
+    /// Returns the area that is left inside the borders, the titles and the padding of an area. An empty area has an
+    /// empty inner area. An inner area that is not empty lies in the area.
     pub fn inner(&self, area: Rect) -> Rect
         ensures is { result ≡ inner (block_data self.now) area }
         ensures inside { is_empty result ≡ false → LiesIn result area }
@@ -63,7 +63,8 @@ impl<'a> Block<'a> {
         }
     }
 
-    /// The columns at the left and at the right of what is inside: those of a border and of the padding, at most 65535 each.
+    /// Returns the columns at the left and at the right of the content: those of a border and of the padding, at most
+    /// 65535 each.
     pub fn horizontal_space(&self) -> (u16, u16)
         ensures left { result.0 ≡ min ((block_data self.now).padding.left + left_edge (block_data self.now)) farthest_edge }
         ensures right { result.1 ≡ min ((block_data self.now).padding.right + right_edge (block_data self.now)) farthest_edge }
@@ -74,7 +75,8 @@ impl<'a> Block<'a> {
         )
     }
 
-    /// The rows above and below what is inside: one for a border or titles, and those of the padding, at most 65535 each.
+    /// Returns the rows above and below the content: one for a border or titles, and those of the padding, at most
+    /// 65535 each.
     pub fn vertical_space(&self) -> (u16, u16)
         ensures top { result.0 ≡ min ((block_data self.now).padding.top + top_edge (block_data self.now)) farthest_edge }
         ensures bottom { result.1 ≡ min ((block_data self.now).padding.bottom + bottom_edge (block_data self.now)) farthest_edge }
@@ -86,7 +88,7 @@ impl<'a> Block<'a> {
     }
 }
 
-/// What is left of a size without the edges and the padding on both sides.
+/// Returns what is left of a size without the edges and the padding on both sides.
 fn left_over(size: u16, edges: u16, before: u16, after: u16) -> u16
     ensures { result ≡ size - edges - (before + after) }
 {

@@ -10,24 +10,24 @@ use crate::title_position::TitlePosition;
 use tui_cells::{FARTHEST_EDGE, Mem};
 use tui_text::{Alignment, Line};
 
-/// A line, and the side on which it stands, if it has one of its own.
+/// A line, and the side on which it is placed, if it has one of its own.
 #[derive(Debug, PartialEq, Eq, Hash, Drop)]
 pub struct Title<'a> {
-    /// What the title says. Its alignment is that of the title; without one the title has the block's.
+    /// The text of the title. Its alignment is that of the title. Without one, the title has the block's.
     pub line: Line<'a>,
-    /// The side. Without one the title stands on the side that the block names.
+    /// The side. Without one, the title is on the side that the block names.
     pub position: Option<TitlePosition>,
 }
 
-/// Where titles stand: a side, and their alignment there.
+/// Where titles are placed: a side, and their alignment there.
 #[derive(Clone, Copy)]
-pub(crate) struct Place {
+pub(crate) struct TitlePlace {
     pub(crate) position: TitlePosition,
     pub(crate) alignment: Alignment,
 }
 
 impl<'a> Title<'a> {
-    /// An equal title of its own. `NoMemory` where there is none for its line.
+    /// Returns an equal title of its own. Fails with `NoMemory` if its line can't be allocated.
     pub fn clone(&self) -> Mem<Title<'a>>
         ensures is { IfOk result (λ title. title_data title ≡ title_data self.now) }
         ensures equal { IfOk result (λ title. ⟦<Title<'a> as PartialEq>⟧.eq title self.now ≡ true) }
@@ -74,8 +74,8 @@ impl<'a> Block<'a> {
         same_position(title.position.unwrap_or(self.title_position), position)
     }
 
-    /// Whether a title stands in a place, where it takes what it does not say itself from the block.
-    pub(crate) fn is_in(&self, place: Place, title: &Title<'_>) -> bool
+    /// Whether a title belongs in a place. What the title does not specify is taken from the block.
+    pub(crate) fn is_in(&self, place: TitlePlace, title: &Title<'_>) -> bool
         ensures { result ≡ is_in (block_data self.now) place (title_data title.now) }
     {
         let alignment = title.line.line_alignment().unwrap_or(self.title_alignment);

@@ -5,7 +5,7 @@ ghost use Rattle.tui_cells.specs.Buffer.{Screen};
 ghost use Rattle.tui_cells.specs.Layers.{KeptOutside, Painted};
 ghost use Rattle.tui_cells.specs.Rect.{covers};
 ghost use Rattle.tui_frames.specs.Block.{block_data, title_data};
-ghost use Rattle.tui_frames.specs.Light.{AreLightTitles};
+ghost use Rattle.tui_frames.specs.AllocationFree.{AreAllocationFreeTitles};
 ghost use Rattle.tui_frames.specs.Strokes.{
   place_of,
   row_at,
@@ -19,11 +19,11 @@ ghost use Rattle.tui_frames.specs.Strokes.{
 };
 ghost use Rattle.tui_frames.specs.Titles.{spaced, title_width, titles_in, total};
 ghost use Rattle.tui_text.specs.Line.{LineData, line_data};
-ghost use Rattle.tui_text.specs.Setting.{AreLight};
+ghost use Rattle.tui_text.specs.Setting.{AreAllocationFree};
 
 use crate::block::Block;
 use crate::block::sides::{last_row, row_of};
-use crate::block::title::{Place, Title, title_width};
+use crate::block::title::{Title, TitlePlace, title_width};
 use crate::title_position::TitlePosition;
 use tui_cells::{Buffer, Mem, Rect};
 use tui_text::{Alignment, Line, paint_row};
@@ -37,23 +37,23 @@ fn row_at(clip: Rect, position: TitlePosition) -> u16
     }
 }
 
-fn place_of(position: TitlePosition, alignment: Alignment) -> Place
+fn place_of(position: TitlePosition, alignment: Alignment) -> TitlePlace
     ensures { result ≡ place_of position alignment }
 {
-    Place {
+    TitlePlace {
         position,
         alignment,
     }
 }
 
-/// The columns of a row in which titles stand, and the clip of the block.
+/// The columns of a row that titles can use, and the clip of the block.
 #[derive(Clone, Copy)]
 struct Strip {
     clip: Rect,
     row: Rect,
 }
 
-/// The columns of a title that is cut at both ends.
+/// Returns the width of a title that is cut at both ends.
 fn cut_width(strip: Rect, cut: u128, column: u16, width: u16) -> u16
     requires { column < strip.width }
     ensures is { result ≡ min width (strip.width - column) - (cut - column) }
@@ -75,7 +75,7 @@ fn cut_alignment(cut: u128, column: u16) -> Alignment
 }
 
 impl<'a> Block<'a> {
-    /// The row of a side without the columns of set borders.
+    /// Returns the row of a side without the columns of borders that are set.
     fn strip(&self, clip: Rect, position: TitlePosition) -> Strip
         ensures { result ≡ record { clip = clip; row = strip_of (block_data self.now) clip position } }
     {
@@ -88,7 +88,7 @@ impl<'a> Block<'a> {
         }
     }
 
-    /// The title style, and the line, in a part of a row.
+    /// Sets the title style and paints the line, in a part of a row.
     fn paint_title(
         &self,
         buf: &mut Buffer,
@@ -100,20 +100,20 @@ impl<'a> Block<'a> {
         ensures ok { OnOk result
             (Painted (title_layers (block_data self.now) clip part alignment (line_data line.now)) buf.old buf.new) }
         ensures kept { KeptOutside (covers clip) buf.old buf.new }
-        ensures light { AreLight (line_data line.now).spans → IsOk result }
+        ensures allocation_free { AreAllocationFree (line_data line.now).spans → IsOk result }
     {
         let part = clip.intersection(part);
         buf.set_style(part, self.title_style);
         paint_row(buf, part, line, alignment)
     }
 
-    /// Paints a title from a column on, if it stands in a place, and answers the column of the next one.
+    /// Paints a title from a column on, if it belongs in a place. Returns the column of the next one.
     fn paint_at(
         &self,
         buf: &mut Buffer,
         strip: Strip,
         column: u16,
-        place: Place,
+        place: TitlePlace,
         title: &Title<'_>,
     ) -> Mem<u32>
         requires { column < strip.row.width }
@@ -122,7 +122,7 @@ impl<'a> Block<'a> {
             → Painted (titles_from (block_data self.now) strip.clip strip.row column (titles_in (block_data self.now) place (title_data title.now ∷ []) ++ ts))
             buf.old final) }
         ensures kept { KeptOutside (covers strip.clip) buf.old buf.new }
-        ensures light { AreLight (title_data title.now).line.spans → IsOk result }
+        ensures allocation_free { AreAllocationFree (title_data title.now).line.spans → IsOk result }
     {
         if !self.is_in(place, title) {
             return Ok(u32::from(column));
@@ -135,12 +135,12 @@ impl<'a> Block<'a> {
     }
 
     /// Paints the titles of a place from a column on, while there is room.
-    fn paint_from(&self, buf: &mut Buffer, strip: Strip, column: u16, place: Place) -> Mem<()>
+    fn paint_from(&self, buf: &mut Buffer, strip: Strip, column: u16, place: TitlePlace) -> Mem<()>
         ensures ok { OnOk result
             (Painted (titles_from (block_data self.now) strip.clip strip.row column (titles_in (block_data self.now) place (block_data self.now).titles))
             buf.old buf.new) }
         ensures kept { KeptOutside (covers strip.clip) buf.old buf.new }
-        ensures light { AreLightTitles (block_data self.now).titles → IsOk result }
+        ensures allocation_free { AreAllocationFreeTitles (block_data self.now).titles → IsOk result }
     {
         let mut column = u32::from(column);
         for title in &self.titles {
@@ -152,14 +152,14 @@ impl<'a> Block<'a> {
         Ok(())
     }
 
-    /// Paints a title that is cut at both ends, if it stands in a place, and answers the column of the next one.
+    /// Paints a title that is cut at both ends, if it belongs in a place. Returns the column of the next one.
     fn paint_cut_at(
         &self,
         buf: &mut Buffer,
         strip: Strip,
         cut: u128,
         column: u16,
-        place: Place,
+        place: TitlePlace,
         title: &Title<'_>,
     ) -> Mem<u32>
         requires { column < strip.row.width }
@@ -169,7 +169,7 @@ impl<'a> Block<'a> {
             (titles_in (block_data self.now) place (title_data title.now ∷ []) ++ ts))
             buf.old final) }
         ensures kept { KeptOutside (covers strip.clip) buf.old buf.new }
-        ensures light { AreLight (title_data title.now).line.spans → IsOk result }
+        ensures allocation_free { AreAllocationFree (title_data title.now).line.spans → IsOk result }
     {
         if !self.is_in(place, title) {
             return Ok(u32::from(column));
@@ -187,12 +187,12 @@ impl<'a> Block<'a> {
     }
 
     /// Paints the titles of a place, cut at both ends, while there is room.
-    fn paint_cut(&self, buf: &mut Buffer, strip: Strip, cut: u128, place: Place) -> Mem<()>
+    fn paint_cut(&self, buf: &mut Buffer, strip: Strip, cut: u128, place: TitlePlace) -> Mem<()>
         ensures ok { OnOk result
             (Painted (titles_cut (block_data self.now) strip.clip strip.row cut 0
             (titles_in (block_data self.now) place (block_data self.now).titles)) buf.old buf.new) }
         ensures kept { KeptOutside (covers strip.clip) buf.old buf.new }
-        ensures light { AreLightTitles (block_data self.now).titles → IsOk result }
+        ensures allocation_free { AreAllocationFreeTitles (block_data self.now).titles → IsOk result }
     {
         let mut column = 0u32;
         for title in &self.titles {
@@ -204,8 +204,8 @@ impl<'a> Block<'a> {
         Ok(())
     }
 
-    /// The columns of the titles of a place, with one between two.
-    fn total(&self, place: Place) -> u128
+    /// Returns the total width of the titles of a place, with one column between two titles.
+    fn total(&self, place: TitlePlace) -> u128
         ensures { result ≡ total (titles_in (block_data self.now) place (block_data self.now).titles) }
     {
         let mut sum = 0u128;
@@ -215,8 +215,8 @@ impl<'a> Block<'a> {
         sum.saturating_sub(1)
     }
 
-    /// The columns of a title and one more, if it stands in a place, else 0.
-    fn spaced_width(&self, place: Place, title: &Title<'_>) -> u128
+    /// Returns the width of a title plus 1 if it belongs in a place, else 0.
+    fn spaced_width(&self, place: TitlePlace, title: &Title<'_>) -> u128
         ensures is { result ≡ spaced (titles_in (block_data self.now) place (title_data title.now ∷ [])) }
         ensures few { result ≤ 65536 }
     {
@@ -228,12 +228,12 @@ impl<'a> Block<'a> {
     }
 
     /// Paints the titles of a place in the middle of a strip.
-    fn paint_middle(&self, buf: &mut Buffer, strip: Strip, place: Place) -> Mem<()>
+    fn paint_middle(&self, buf: &mut Buffer, strip: Strip, place: TitlePlace) -> Mem<()>
         ensures ok { OnOk result
             (Painted (titles_in_middle (block_data self.now) strip.clip strip.row
             (titles_in (block_data self.now) place (block_data self.now).titles)) buf.old buf.new) }
         ensures kept { KeptOutside (covers strip.clip) buf.old buf.new }
-        ensures light { AreLightTitles (block_data self.now).titles → IsOk result }
+        ensures allocation_free { AreAllocationFreeTitles (block_data self.now).titles → IsOk result }
     {
         let total = self.total(place);
         let room = u128::from(strip.row.width);
@@ -244,14 +244,14 @@ impl<'a> Block<'a> {
         self.paint_cut(buf, strip, (total - room) / 2, place)
     }
 
-    /// Paints a title before those that take the columns `after` it, if it stands in a place, and answers the columns that it
-    /// and those take.
+    /// Paints a title to the left of those that take the last `after` columns, if it belongs in a place. Returns the
+    /// number of columns that all of them take.
     fn paint_before(
         &self,
         buf: &mut Buffer,
         strip: Strip,
         after: u16,
-        place: Place,
+        place: TitlePlace,
         title: &Title<'_>,
     ) -> Mem<u32>
         requires { after < strip.row.width }
@@ -262,7 +262,7 @@ impl<'a> Block<'a> {
             first buf.new) }
         ensures taken { IfOk result (λ next. next ≡ after + spaced (titles_in (block_data self.now) place (title_data title.now ∷ []))) }
         ensures kept { KeptOutside (covers strip.clip) buf.old buf.new }
-        ensures light { AreLight (title_data title.now).line.spans → IsOk result }
+        ensures allocation_free { AreAllocationFree (title_data title.now).line.spans → IsOk result }
     {
         if !self.is_in(place, title) {
             return Ok(u32::from(after));
@@ -277,12 +277,12 @@ impl<'a> Block<'a> {
     }
 
     /// Paints the titles of a place up to the end of a strip, the last one first, while there is room.
-    fn paint_to_end(&self, buf: &mut Buffer, strip: Strip, place: Place) -> Mem<()>
+    fn paint_to_end(&self, buf: &mut Buffer, strip: Strip, place: TitlePlace) -> Mem<()>
         ensures ok { OnOk result
             (Painted (titles_to_end (block_data self.now) strip.clip strip.row
             (titles_in (block_data self.now) place (block_data self.now).titles)) buf.old buf.new) }
         ensures kept { KeptOutside (covers strip.clip) buf.old buf.new }
-        ensures light { AreLightTitles (block_data self.now).titles → IsOk result }
+        ensures allocation_free { AreAllocationFreeTitles (block_data self.now).titles → IsOk result }
     {
         let count = self.titles.len();
         let mut after = 0u32;
@@ -306,7 +306,7 @@ impl<'a> Block<'a> {
     ) -> Mem<()>
         ensures ok { OnOk result (Painted (row_titles (block_data self.now) clip position) buf.old buf.new) }
         ensures kept { KeptOutside (covers clip) buf.old buf.new }
-        ensures light { AreLightTitles (block_data self.now).titles → IsOk result }
+        ensures allocation_free { AreAllocationFreeTitles (block_data self.now).titles → IsOk result }
     {
         let strip = self.strip(clip, position);
         let left = place_of(position, Alignment::Left);

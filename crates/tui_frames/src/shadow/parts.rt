@@ -1,7 +1,7 @@
-//! Changes of the cells of an area outside a base, one side after another.
+//! Changing the cells of an area outside a base, one side after another.
 
 ghost use Rattle.std.specs.Prelude.{◌≡◌, [], ◌∷◌, IsOk, OnOk};
-ghost use Rattle.tui_cells.specs.Cell.{IsLight, dim, dress, put};
+ghost use Rattle.tui_cells.specs.Cell.{IsAllocationFree, dim, set_style, write};
 ghost use Rattle.tui_cells.specs.Layers.{KeptOutside, Painted, over};
 ghost use Rattle.tui_cells.specs.Rect.{covers, intersection_of};
 ghost use Rattle.tui_frames.specs.Shadow.{in_shadow};
@@ -15,8 +15,8 @@ use tui_cells::{Buffer, Mem, Rect, Style};
 pub(crate) enum Side {
     Above,
     Below,
-    Before,
-    Behind,
+    LeftOf,
+    RightOf,
 }
 
 fn side_of(base: Rect, side: Side) -> Rect
@@ -36,13 +36,13 @@ fn side_of(base: Rect, side: Side) -> Rect
             width: end,
             height: end - base.bottom(),
         },
-        Side::Before => Rect {
+        Side::LeftOf => Rect {
             x: 0,
             y: base.y,
             width: base.x,
             height: base.height,
         },
-        Side::Behind => Rect {
+        Side::RightOf => Rect {
             x: base.right(),
             y: base.y,
             width: end - base.right(),
@@ -64,21 +64,21 @@ pub(crate) fn dim_outside(buf: &mut Buffer, area: Rect, base: Rect)
 {
     buf.dim(part(area, base, Side::Above));
     buf.dim(part(area, base, Side::Below));
-    buf.dim(part(area, base, Side::Before));
-    buf.dim(part(area, base, Side::Behind));
+    buf.dim(part(area, base, Side::LeftOf));
+    buf.dim(part(area, base, Side::RightOf));
 }
 
 /// Sets a style in the cells of an area outside a base.
-pub(crate) fn dress_outside(buf: &mut Buffer, area: Rect, base: Rect, style: Style)
-    ensures { Painted (over (in_shadow area base) (dress style ∷ [])) buf.old buf.new }
+pub(crate) fn set_style_outside(buf: &mut Buffer, area: Rect, base: Rect, style: Style)
+    ensures { Painted (over (in_shadow area base) (set_style style ∷ [])) buf.old buf.new }
 {
     buf.set_style(part(area, base, Side::Above), style);
     buf.set_style(part(area, base, Side::Below), style);
-    buf.set_style(part(area, base, Side::Before), style);
-    buf.set_style(part(area, base, Side::Behind), style);
+    buf.set_style(part(area, base, Side::LeftOf), style);
+    buf.set_style(part(area, base, Side::RightOf), style);
 }
 
-/// Sets a style and puts a symbol in the cells of an area outside a base.
+/// Sets a style and writes a symbol in the cells of an area outside a base.
 pub(crate) fn fill_outside(
     alloc: Global,
     buf: &mut Buffer,
@@ -87,14 +87,14 @@ pub(crate) fn fill_outside(
     symbol: &str,
     style: Style,
 ) -> Mem<()>
-    ensures ok { OnOk result (Painted (over (in_shadow area base) (dress style ∷ put symbol.now ∷ [])) buf.old buf.new) }
+    ensures ok { OnOk result (Painted (over (in_shadow area base) (set_style style ∷ write symbol.now ∷ [])) buf.old buf.new) }
     ensures kept { KeptOutside (in_shadow area base) buf.old buf.new }
-    ensures light { IsLight symbol.now → IsOk result }
+    ensures allocation_free { IsAllocationFree symbol.now → IsOk result }
 {
     fill_side(alloc, buf, area, base, Side::Above, symbol, style)?;
     fill_side(alloc, buf, area, base, Side::Below, symbol, style)?;
-    fill_side(alloc, buf, area, base, Side::Before, symbol, style)?;
-    fill_side(alloc, buf, area, base, Side::Behind, symbol, style)
+    fill_side(alloc, buf, area, base, Side::LeftOf, symbol, style)?;
+    fill_side(alloc, buf, area, base, Side::RightOf, symbol, style)
 }
 
 fn fill_side(
@@ -106,9 +106,9 @@ fn fill_side(
     symbol: &str,
     style: Style,
 ) -> Mem<()>
-    ensures ok { OnOk result (Painted (over (covers (intersection_of area (side_of base side))) (dress style ∷ put symbol.now ∷ [])) buf.old buf.new) }
+    ensures ok { OnOk result (Painted (over (covers (intersection_of area (side_of base side))) (set_style style ∷ write symbol.now ∷ [])) buf.old buf.new) }
     ensures kept { KeptOutside (in_shadow area base) buf.old buf.new }
-    ensures light { IsLight symbol.now → IsOk result }
+    ensures allocation_free { IsAllocationFree symbol.now → IsOk result }
 {
     buf.fill(alloc, part(area, base, side), symbol, style)
 }

@@ -10,14 +10,14 @@ ghost use Rattle.tui_text.specs.Width.{text_width};
 use tui_cells::{Mem, Style, Styled};
 use tui_text::Text;
 
-/// A text of a list, with a style under the text's. It has a row for each line of the text.
+/// An item of a list: a text, with a style under the text's own. It takes one row per line of the text.
 #[derive(Debug, PartialEq, Eq, Hash)]
 pub struct ListItem<'a> {
     pub(crate) content: Text<'a>,
     pub(crate) style: Style,
 }
 
-// Written out, so that a crate above proves nothing of what it holds to let it go.
+// Written out, so that dependent crates have nothing to prove about its fields when they drop it.
 impl<'a> Drop for ListItem<'a> {
     fn drop(self) {
         let ListItem { content, style } = self;
@@ -25,7 +25,7 @@ impl<'a> Drop for ListItem<'a> {
 }
 
 impl<'a> ListItem<'a> {
-    /// An item without a style.
+    /// Creates an item without a style of its own.
     pub fn new(content: Text<'a>) -> ListItem<'a>
         ensures { list_item_data result ≡ record { content = text_data content.entry; style = no_style } }
     {
@@ -43,21 +43,21 @@ impl<'a> ListItem<'a> {
         self
     }
 
-    /// The number of its lines, and so of its rows.
+    /// Returns the number of its lines, which is the number of its rows.
     pub fn height(&self) -> usize
         ensures { result ≡ item_height (list_item_data self.now) }
     {
         self.content.height()
     }
 
-    /// The columns of its widest line, 0 without lines.
+    /// Returns the width of its widest line in columns, or 0 if it has no lines.
     pub fn width(&self) -> usize
         ensures { result ≡ saturated (text_width (list_item_data self.now).content) }
     {
         self.content.width()
     }
 
-    /// An equal item of its own. `NoMemory` where there is none for the text.
+    /// Returns an equal item. Fails with `NoMemory` if there is no memory for the text.
     pub fn clone(&self) -> Mem<ListItem<'a>>
         ensures is { IfOk result (λ item. list_item_data item ≡ list_item_data self.now) }
         ensures equal { IfOk result (λ item. ⟦<ListItem<'a> as PartialEq>⟧.eq item self.now ≡ true) }

@@ -17,7 +17,7 @@ use std::hash::{Hash, Hasher};
 use tui_cells::Mem;
 use tui_layout::{Sums, Window, window_of};
 
-/// Items with the sums of their heights, which are made once and serve every drawing.
+/// Items with the sums of their heights. The sums are computed once and used by every drawing.
 #[derive(Drop)]
 pub(crate) struct Items<'a> {
     pub(crate) items: Vec<ListItem<'a>>,
@@ -30,7 +30,7 @@ impl<'a> Items<'a> {
     ghost use Rattle.tui_layout.specs.Found.{window_of};
     ghost use Rattle.tui_lists.specs.Items.{items_data};
 
-    /// These items. `NoMemory` where there is none for the sums.
+    /// Takes these items. Fails with `NoMemory` if there is no memory for the sums.
     pub(crate) fn new(alloc: Global, items: Vec<ListItem<'a>>) -> Mem<Items<'a>>
         ensures { IfOk result (λ made. made.items.items ≡ items.entry.items) }
     {
@@ -41,14 +41,14 @@ impl<'a> Items<'a> {
         Ok(Items { items, heights })
     }
 
-    /// The number of items.
+    /// Returns the number of items.
     pub(crate) fn len(&self) -> usize
         ensures { result ≡ length (items_data self.now) }
     {
         self.items.len()
     }
 
-    /// The items that a list shows in this many rows.
+    /// Returns the items that a list shows in `room` rows.
     pub(crate) fn window(
         &self,
         room: u16,
@@ -70,7 +70,7 @@ impl<'a> Items<'a> {
         )
     }
 
-    /// Equal items of their own. `NoMemory` where there is none for them or for the sums.
+    /// Returns equal items. Fails with `NoMemory` if there is no memory for them or for the sums.
     pub(crate) fn clone(&self) -> Mem<Items<'a>>
         ensures is { IfOk result (λ copy. items_data copy ≡ items_data self.now) }
         ensures equal { IfOk result (λ copy. ⟦<Items<'a> as PartialEq>⟧.eq copy self.now ≡ true) }
@@ -84,7 +84,7 @@ impl<'a> Items<'a> {
     }
 }
 
-// The sums follow from the items, so they are neither compared nor shown.
+// The sums follow from the items, so `PartialEq`, `Hash` and `Debug` leave them out.
 impl<'a> PartialEq for Items<'a> {
     ghost eq = { λ i j. pointwise ⟦<ListItem<'a> as PartialEq>⟧.eq i.items.items j.items.items };
 

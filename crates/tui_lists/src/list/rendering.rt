@@ -1,14 +1,14 @@
 //! How a list is drawn.
 
 ghost use Rattle.std.specs.Prelude.{◌≡◌, ◌-◌, ◌<◌, ◌≤◌, [], drop, false, if◌then◌else◌, length, min, IfOk, IsOk, IsTrue, OnOk};
-ghost use Rattle.tui_cells.specs.Cell.{dress};
+ghost use Rattle.tui_cells.specs.Cell.{set_style};
 ghost use Rattle.tui_cells.specs.Layers.{KeptOutside, Painted, stroke};
 ghost use Rattle.tui_cells.specs.Rect.{covers, is_empty};
 ghost use Rattle.tui_frames.specs.Footprint.{footprint_if};
 ghost use Rattle.tui_frames.specs.InBlock.{inner_of};
 ghost use Rattle.tui_layout.specs.Window.{cut_selection};
 ghost use Rattle.tui_lists.specs.List.{list_after, list_data};
-ghost use Rattle.tui_lists.specs.ListDrawing.{IsLightItem, IsLightList, IsLightSymbol, list_drawing, list_moving};
+ghost use Rattle.tui_lists.specs.ListDrawing.{IsAllocationFreeItem, IsAllocationFreeList, IsAllocationFreeSymbol, list_drawing, list_moving};
 ghost use Rattle.tui_lists.specs.ListItem.{heights_of, list_item_data};
 ghost use Rattle.tui_lists.specs.ListStrokes.{content_layers, gutter_layers, gutter_of, item_layers, items_layers, list_layers, mark_layers, row_of};
 
@@ -22,7 +22,7 @@ use tui_cells::{Buffer, FARTHEST_EDGE, Mem, Rect, StatefulWidget, Style, Widget}
 use tui_frames::paint_frame;
 use tui_text::{Alignment, paint_row, paint_rows};
 
-/// An item in its rows, of which there may be fewer than it has lines.
+/// An item with the rows that it is drawn in. These may be fewer than it has lines.
 #[derive(Clone, Copy, Debug)]
 struct ShownItem<'i, 'a> {
     rows: Rect,
@@ -31,7 +31,7 @@ struct ShownItem<'i, 'a> {
 }
 
 impl<'a> List<'a> {
-    /// The columns that are kept for the symbol.
+    /// Returns how many columns are reserved for the symbol.
     fn gutter(&self, selected: Option<usize>) -> u16
         ensures { result ≡ gutter_of (list_data self.now) selected }
     {
@@ -44,11 +44,11 @@ impl<'a> List<'a> {
         }
     }
 
-    /// The symbol in a row that is marked, blanks in another.
+    /// Draws the symbol in a marked row, and spaces in any other.
     fn paint_mark(&self, alloc: Global, buf: &mut Buffer, is_marked: bool, row: Rect) -> Mem<()>
         ensures ok { OnOk result (Painted (mark_layers (list_data self.now) is_marked row) buf.old buf.new) }
         ensures kept { KeptOutside (covers row) buf.old buf.new }
-        ensures light { IsLightSymbol (list_data self.now).symbol → IsOk result }
+        ensures allocation_free { IsAllocationFreeSymbol (list_data self.now).symbol → IsOk result }
     {
         if !is_marked {
             return buf.fill(alloc, row, " ", Style::new());
@@ -62,7 +62,7 @@ impl<'a> List<'a> {
         }
     }
 
-    /// The first columns of an item's rows.
+    /// Draws the columns at the left of an item's rows, which hold the symbol.
     fn paint_gutter(
         &self,
         alloc: Global,
@@ -72,7 +72,7 @@ impl<'a> List<'a> {
     ) -> Mem<()>
         ensures ok { OnOk result (Painted (gutter_layers (list_data self.now) is_selected gutter 0 gutter.height) buf.old buf.new) }
         ensures kept { KeptOutside (covers gutter) buf.old buf.new }
-        ensures light { IsLightSymbol (list_data self.now).symbol → IsOk result }
+        ensures allocation_free { IsAllocationFreeSymbol (list_data self.now).symbol → IsOk result }
     {
         if gutter.is_empty() {
             return Ok(());
@@ -84,7 +84,7 @@ impl<'a> List<'a> {
         Ok(())
     }
 
-    /// One item in its rows, beside this many columns for the symbol.
+    /// Draws one item in its rows, to the right of the `gutter` columns for the symbol.
     fn paint_item(
         &self,
         alloc: Global,
@@ -95,7 +95,7 @@ impl<'a> List<'a> {
         ensures ok { OnOk result
             (Painted (item_layers (list_data self.now) gutter shown.entry.rows shown.entry.is_selected (list_item_data shown.entry.item.now)) buf.old buf.new) }
         ensures kept { KeptOutside (covers shown.entry.rows) buf.old buf.new }
-        ensures light { IsLightSymbol (list_data self.now).symbol → IsLightItem (list_item_data shown.entry.item.now) → IsOk result }
+        ensures allocation_free { IsAllocationFreeSymbol (list_data self.now).symbol → IsAllocationFreeItem (list_item_data shown.entry.item.now) → IsOk result }
     {
         let ShownItem {
             rows,
@@ -108,7 +108,7 @@ impl<'a> List<'a> {
         self.paint_gutter(alloc, buf, is_selected, rows.columns_from(0, gutter))
     }
 
-    /// The items from one place up to another.
+    /// Draws the items `first..end`.
     fn paint_items(
         &self,
         alloc: Global,
@@ -123,7 +123,7 @@ impl<'a> List<'a> {
         ensures ok { let l = list_data self.now in OnOk result
             (Painted (items_layers l inner selected first 0 (end - first) (drop first l.items)) buf.old buf.new) }
         ensures kept { KeptOutside (covers inner) buf.old buf.new }
-        ensures light { IsLightList (list_data self.now) → IsOk result }
+        ensures allocation_free { IsAllocationFreeList (list_data self.now) → IsOk result }
     {
         let gutter = self.gutter(selected);
         let mut used = 0u16;
@@ -142,8 +142,8 @@ impl<'a> List<'a> {
         Ok(())
     }
 
-    /// The selection, at most the last item.
-    fn cut(&self, selected: Option<usize>) -> Option<usize>
+    /// Returns the selection, at most the last item.
+    fn clamp_selection(&self, selected: Option<usize>) -> Option<usize>
         requires { 0 < length (list_data self.now).items }
         ensures { result ≡ cut_selection (heights_of (list_data self.now).items) selected }
     {
@@ -153,7 +153,7 @@ impl<'a> List<'a> {
         }
     }
 
-    /// The items of the window. Answers the state that is left.
+    /// Draws the items of the window. Returns the state that the drawing leaves.
     fn paint_content(
         &self,
         alloc: Global,
@@ -165,7 +165,7 @@ impl<'a> List<'a> {
         ensures ok { OnOk result (Painted (content_layers (list_data self.now) inner state) buf.old buf.new) }
         ensures state { IfOk result (λ after. after ≡ list_after (list_data self.now) inner state) }
         ensures kept { KeptOutside (covers inner) buf.old buf.new }
-        ensures light { IsLightList (list_data self.now) → IsOk result }
+        ensures allocation_free { IsAllocationFreeList (list_data self.now) → IsOk result }
     {
         if self.items.len() == 0 {
             return Ok(ListState::default());
@@ -176,8 +176,8 @@ impl<'a> List<'a> {
             state.selected,
             self.scroll_padding,
         );
-        let selected = self.cut(state.selected);
-        // An item that is taller than the area is drawn all the same, as far as there are rows.
+        let selected = self.clamp_selection(state.selected);
+        // An item that is taller than the area is still drawn, as far as there are rows.
         let end = window.end.max(window.first + 1);
         self.paint_items(alloc, buf, inner, selected, window.first, end)?;
         Ok(ListState {
@@ -186,7 +186,7 @@ impl<'a> List<'a> {
         })
     }
 
-    /// The items, where there is an area for them. Answers the state that is left.
+    /// Draws the items if their area is not empty. Returns the state that the drawing leaves.
     fn paint_inside(
         &self,
         alloc: Global,
@@ -198,7 +198,7 @@ impl<'a> List<'a> {
         ensures state { IfOk result (λ after. after ≡ list_after (list_data self.now) inner state) }
         ensures kept { KeptOutside (covers inner) buf.old buf.new }
         ensures empty { IsTrue (is_empty inner) → IsOk result }
-        ensures light { IsLightList (list_data self.now) → IsOk result }
+        ensures allocation_free { IsAllocationFreeList (list_data self.now) → IsOk result }
     {
         if inner.is_empty() {
             return Ok(state);
@@ -206,7 +206,7 @@ impl<'a> List<'a> {
         self.paint_content(alloc, buf, inner, state)
     }
 
-    /// The style, the block and the items. Answers the state that is left.
+    /// Draws the style, the block and the items. Returns the state that the drawing leaves.
     fn paint_in(
         &self,
         alloc: Global,
@@ -218,7 +218,7 @@ impl<'a> List<'a> {
         ensures state { let l = list_data self.now in IfOk result (λ after. after ≡ list_after l (inner_of l.block clip) state) }
         ensures kept { KeptOutside (footprint_if (list_data self.now).block clip) buf.old buf.new }
         ensures empty { IsTrue (is_empty clip) → IsOk result }
-        ensures light { IsLightList (list_data self.now) → IsOk result }
+        ensures allocation_free { IsAllocationFreeList (list_data self.now) → IsOk result }
     {
         if clip.is_empty() {
             return Ok(state);
@@ -228,13 +228,13 @@ impl<'a> List<'a> {
     }
 }
 
-/// The offset moves least to show the selected item, with as many items of the scroll padding around it as fit; a selection past
-/// the last item becomes the last. Where there are no items, nothing is selected and the offset is 0. Over an empty inner area
-/// the state stays.
+/// Moves the offset as little as possible to show the selected item, with as much of the scroll padding around it as
+/// fits. A selection past the last item becomes the last item. If there are no items, nothing is selected and the
+/// offset is 0. If the inner area is empty, the state is unchanged.
 impl<'a> StatefulWidget for List<'a> {
     type State = ListState;
 
-    ghost moving = { λ list. list_moving (list_data list) };
+    ghost stateful_drawing = { λ list. list_moving (list_data list) };
 
     #[tactic(auto, using(crate::proofs::ListMoved::list_moves))]
     fn render(
@@ -250,7 +250,7 @@ impl<'a> StatefulWidget for List<'a> {
     }
 }
 
-/// Without a state of its own a list begins at its first item, and none is selected.
+/// Without a state, a list begins at its first item and none is selected.
 impl<'a> Widget for List<'a> {
     ghost drawing = { λ list. list_drawing (list_data list) };
 
@@ -260,14 +260,15 @@ impl<'a> Widget for List<'a> {
     }
 }
 
-/// A number of lines, at most the rows that are left.
+/// Limits a number of lines to the rows that are left.
 fn cut_height(lines: usize, room: u16) -> u16
     ensures { result ≡ min lines room }
 {
     lines.min(usize::from(room)) as u16
 }
 
-/// The row of an item's first line, behind this many rows from the edge where the items begin.
+/// Returns the row of an item's first line. `used` rows come before the item, counted from the edge at which the items
+/// begin.
 fn row_of(direction: ListDirection, room: u16, used: u16, height: u16) -> u16
     ensures { result ≡ row_of direction room used height }
 {

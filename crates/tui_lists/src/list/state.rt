@@ -4,12 +4,12 @@ ghost use Rattle.std.specs.Prelude.{◌≡◌, Some};
 ghost use Rattle.std.specs.Option.{option_map_or};
 ghost use Rattle.std.specs.Borrow.{sem};
 ghost use Rattle.tui_layout.specs.Selection.{back_by, forward_by, greatest, next_of, previous_of};
-ghost use Rattle.tui_lists.specs.ListState.{LendsOffset, LendsSelected, at_rest};
+ghost use Rattle.tui_lists.specs.ListState.{BorrowsOffset, BorrowsSelected, default_state};
 
 use tui_layout::selection::{back_by, forward_by, next_of, previous_of};
 
-/// The first item that is shown, and the selected one if there is one, by their places from 0. A place past the last item counts
-/// as the last one when the list is drawn.
+/// The first item that is shown, and the selected item if there is one. Both are indices from 0. An index past the last
+/// item counts as the last item when the list is drawn.
 #[derive(Clone, Copy, Debug, PartialEq, Eq, Hash)]
 pub struct ListState {
     pub(crate) offset: usize,
@@ -17,9 +17,9 @@ pub struct ListState {
 }
 
 impl Default for ListState {
-    /// The first item is the first that is shown, and none is selected.
+    /// Offset 0, with no selection.
     fn default() -> ListState
-        ensures { result ≡ at_rest }
+        ensures { result ≡ default_state }
     {
         ListState {
             offset: 0,
@@ -36,44 +36,44 @@ impl ListState {
         ListState { offset, ..self }
     }
 
-    /// Sets the selected item; the offset stays.
+    /// Sets the selected item. The offset is unchanged.
     pub fn with_selected(self, selected: Option<usize>) -> ListState
         ensures { result ≡ record self { selected = selected } }
     {
         ListState { selected, ..self }
     }
 
-    /// The first item that is shown.
+    /// Returns the index of the first item that is shown.
     pub fn offset(&self) -> usize
         ensures { result ≡ self.now.offset }
     {
         self.offset
     }
 
-    /// The first item that is shown, to be written.
+    /// Returns a mutable reference to the index of the first item that is shown.
     pub fn offset_mut(&mut self) -> &mut usize
         ensures value { result.now ≡ self.old.offset }
-        ensures* writes_back { sem 𝓛 (LendsOffset self.entry result) }
+        ensures* writes_back { sem 𝓛 (BorrowsOffset self.entry result) }
     {
         &mut self.offset
     }
 
-    /// The selected item, None exactly where none is.
+    /// Returns the index of the selected item, or `None` exactly if none is selected.
     pub fn selected(&self) -> Option<usize>
         ensures { result ≡ self.now.selected }
     {
         self.selected
     }
 
-    /// The selected item, to be written.
+    /// Returns a mutable reference to the selection.
     pub fn selected_mut(&mut self) -> &mut Option<usize>
         ensures value { result.now ≡ self.old.selected }
-        ensures* writes_back { sem 𝓛 (LendsSelected self.entry result) }
+        ensures* writes_back { sem 𝓛 (BorrowsSelected self.entry result) }
     {
         &mut self.selected
     }
 
-    /// Selects an item, or none; then the offset becomes 0 as well.
+    /// Selects an item, or none. Selecting none also sets the offset to 0.
     pub fn select(&mut self, index: Option<usize>)
         ensures selected { self.new.selected ≡ index }
         ensures offset { self.new.offset ≡ option_map_or (λ _. self.old.offset) index 0 }
@@ -84,15 +84,15 @@ impl ListState {
         }
     }
 
-    /// Selects the next item, or the first where none is selected. At the greatest place it stays.
+    /// Selects the next item, or the first if none is selected. The greatest index, `usize::MAX`, stays selected.
     pub fn select_next(&mut self)
         ensures { self.new ≡ record self.old { selected = Some (next_of self.old.selected) } }
     {
         self.selected = Some(next_of(self.selected));
     }
 
-    /// Selects the item before, or the greatest place where none is selected, which a drawing cuts to the last item. At the first
-    /// item it stays.
+    /// Selects the item before. If none is selected, selects `usize::MAX`, which a drawing limits to the last item. The
+    /// first item stays selected.
     pub fn select_previous(&mut self)
         ensures { self.new ≡ record self.old { selected = Some (previous_of self.old.selected) } }
     {
@@ -106,22 +106,22 @@ impl ListState {
         self.selected = Some(0);
     }
 
-    /// Selects the greatest place, which a drawing cuts to the last item.
+    /// Selects `usize::MAX`, which a drawing limits to the last item.
     pub fn select_last(&mut self)
         ensures { self.new ≡ record self.old { selected = Some greatest } }
     {
         self.selected = Some(usize::MAX);
     }
 
-    /// Selects the item this many places further down, counted from the first where none is selected. At the greatest place it
-    /// stops.
+    /// Selects the item `amount` places further down, counted from the first if none is selected. Stops at
+    /// `usize::MAX`.
     pub fn scroll_down_by(&mut self, amount: u16)
         ensures { self.new ≡ record self.old { selected = Some (forward_by self.old.selected amount) } }
     {
         self.selected = Some(forward_by(self.selected, amount));
     }
 
-    /// Selects the item this many places further up, counted from the first where none is selected. At the first it stops.
+    /// Selects the item `amount` places further up, counted from the first if none is selected. Stops at the first.
     pub fn scroll_up_by(&mut self, amount: u16)
         ensures { self.new ≡ record self.old { selected = Some (back_by self.old.selected amount) } }
     {

@@ -1,4 +1,4 @@
-//! Ways of scrolling.
+//! Directions of scrolling.
 
 ghost use Rattle.std.specs.Prelude.{◌≡◌};
 
@@ -6,7 +6,7 @@ use std::fmt;
 use std::str::FromStr;
 use tui_cells::ParseError;
 
-/// The way to scroll. `Display` writes the variant's name, and `FromStr` reads it.
+/// The direction in which to scroll. `Display` writes the variant's name, and `FromStr` reads it.
 #[derive(Clone, Copy, Debug, PartialEq, Eq, Hash)]
 pub enum ScrollDirection {
     /// Towards the end of the content.
@@ -46,7 +46,7 @@ impl FromStr for ScrollDirection {
 
     ghost from_str_gives = { IsParsed name_of };
 
-    /// Answers `VariantNotFound` exactly where the text is no variant's name.
+    /// Fails with `VariantNotFound` exactly if the text is no variant's name.
     fn from_str(text: &str) -> Result<ScrollDirection, ParseError> {
         match text {
             "Forward" => Ok(ScrollDirection::Forward),

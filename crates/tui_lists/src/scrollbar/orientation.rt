@@ -1,14 +1,14 @@
-//! The sides at which a scrollbar stands.
+//! The sides at which a scrollbar is drawn.
 
 ghost use Rattle.std.specs.Prelude.{◌≡◌, not};
 ghost use Rattle.tui_cells.specs.Symbols.{scrollbar_data};
-ghost use Rattle.tui_lists.specs.Orientation.{along, double_symbols, is_vertical, length_along, past};
+ghost use Rattle.tui_lists.specs.Orientation.{along, double_symbols, is_vertical, length_along, moved_by};
 
 use std::fmt;
 use std::str::FromStr;
 use tui_cells::{FARTHEST_EDGE, ParseError, Position, Rect, scrollbar};
 
-/// The side of its area at which a scrollbar stands. `Display` writes the variant's name, and `FromStr` reads it.
+/// The side of its area at which a scrollbar is drawn. `Display` writes the variant's name, and `FromStr` reads it.
 #[derive(Clone, Copy, Debug, PartialEq, Eq, Hash)]
 pub enum ScrollbarOrientation {
     /// In the last column.
@@ -39,7 +39,7 @@ impl ScrollbarOrientation {
         !self.is_vertical()
     }
 
-    /// The symbols of double lines and arrows.
+    /// Returns the symbols of double lines and arrows.
     pub(crate) fn double_set<'a>(self) -> scrollbar::Set<'a>
         ensures { scrollbar_data result ≡ double_symbols self }
     {
@@ -50,33 +50,33 @@ impl ScrollbarOrientation {
         }
     }
 
-    /// The position this many places along the bar.
+    /// Returns the position of cell `place` of the bar, counted from 0.
     pub(crate) fn along(self, clip: Rect, place: usize) -> Position
         ensures { result ≡ along self clip place }
     {
-        let last_column = past(clip.x, clip.width.saturating_sub(1) as usize);
-        let last_row = past(clip.y, clip.height.saturating_sub(1) as usize);
+        let last_column = moved_by(clip.x, clip.width.saturating_sub(1) as usize);
+        let last_row = moved_by(clip.y, clip.height.saturating_sub(1) as usize);
         match self {
             ScrollbarOrientation::VerticalRight => Position {
                 x: last_column,
-                y: past(clip.y, place),
+                y: moved_by(clip.y, place),
             },
             ScrollbarOrientation::VerticalLeft => Position {
                 x: clip.x,
-                y: past(clip.y, place),
+                y: moved_by(clip.y, place),
             },
             ScrollbarOrientation::HorizontalBottom => Position {
-                x: past(clip.x, place),
+                x: moved_by(clip.x, place),
                 y: last_row,
             },
             ScrollbarOrientation::HorizontalTop => Position {
-                x: past(clip.x, place),
+                x: moved_by(clip.x, place),
                 y: clip.y,
             },
         }
     }
 
-    /// The number of places of the bar.
+    /// Returns the length of the bar, in cells.
     pub(crate) fn length(self, clip: Rect) -> u16
         ensures { result ≡ length_along self clip }
     {
@@ -88,9 +88,9 @@ impl ScrollbarOrientation {
     }
 }
 
-/// A place further on, at most 65535, where no clip has a cell.
-fn past(place: u16, by: usize) -> u16
-    ensures { result ≡ past place by }
+/// Adds to a coordinate, at most up to 65535, where no clip has a cell.
+fn moved_by(place: u16, by: usize) -> u16
+    ensures { result ≡ moved_by place by }
 {
     (place as usize)
         .saturating_add(by)
@@ -130,7 +130,7 @@ impl FromStr for ScrollbarOrientation {
 
     ghost from_str_gives = { IsParsed name_of };
 
-    /// Answers `VariantNotFound` exactly where the text is no variant's name.
+    /// Fails with `VariantNotFound` exactly if the text is no variant's name.
     fn from_str(text: &str) -> Result<ScrollbarOrientation, ParseError> {
         match text {
             "VerticalRight" => Ok(ScrollbarOrientation::VerticalRight),

@@ -5,11 +5,11 @@ ghost use Rattle.std.specs.Option.{option_copied};
 ghost use Rattle.tui_cells.specs.Layers.{KeptOutside, Painted};
 ghost use Rattle.tui_cells.specs.Rect.{covers, is_empty};
 ghost use Rattle.tui_lists.specs.Orientation.{length_along};
-ghost use Rattle.tui_lists.specs.Parts.{viewport_in};
+ghost use Rattle.tui_lists.specs.TrackParts.{viewport_in};
 ghost use Rattle.tui_lists.specs.Scrollbar.{scrollbar_data};
 ghost use Rattle.tui_lists.specs.ScrollbarStrokes.{
-  IsLightScrollbar,
-  IsLightSign,
+  IsAllocationFreeScrollbar,
+  IsAllocationFreeSign,
   bar_layers,
   places,
   run_layers,
@@ -21,13 +21,13 @@ ghost use Rattle.tui_lists.specs.ScrollbarStrokes.{
 };
 
 use crate::scrollbar::Scrollbar;
-use crate::scrollbar::parts::Parts;
+use crate::scrollbar::parts::TrackParts;
 use crate::scrollbar::state::ScrollbarState;
 use std::alloc::Global;
 use tui_cells::{Buffer, Mem, Position, Rect, StatefulWidget, Style};
 use tui_text::{cell_width, set_stringn_in};
 
-/// The columns of a symbol.
+/// Returns the width of a symbol in columns, or 0 if there is none.
 fn symbol_width(symbol: Option<&str>) -> u16
     ensures { result ≡ symbol_width (option_copied symbol.entry) }
 {
@@ -37,7 +37,7 @@ fn symbol_width(symbol: Option<&str>) -> u16
     }
 }
 
-/// The places of a symbol along the bar.
+/// Returns how many cells a symbol takes along the bar: 1, or 0 if there is none.
 fn places(symbol: Option<&str>) -> usize
     ensures is { result ≡ places (option_copied symbol.entry) }
     ensures few { result ≤ 1 }
@@ -45,7 +45,7 @@ fn places(symbol: Option<&str>) -> usize
     usize::from(symbol.is_some())
 }
 
-/// A symbol at a place, if there is a symbol.
+/// Draws a symbol at a position, if there is a symbol.
 fn paint_sign(
     buf: &mut Buffer,
     clip: Rect,
@@ -55,7 +55,7 @@ fn paint_sign(
 ) -> Mem<()>
     ensures ok { OnOk result (Painted (sign_layers clip at (option_copied symbol.entry) style) buf.old buf.new) }
     ensures kept { KeptOutside (covers clip) buf.old buf.new }
-    ensures light { IsLightSign (option_copied symbol.entry) → IsOk result }
+    ensures allocation_free { IsAllocationFreeSign (option_copied symbol.entry) → IsOk result }
 {
     match symbol {
         None => Ok(()),
@@ -67,7 +67,7 @@ fn paint_sign(
 }
 
 impl<'a> Scrollbar<'a> {
-    /// One symbol at several places from one on.
+    /// Draws one symbol in `count` cells of the bar, from cell `first` on.
     fn paint_run(
         &self,
         buf: &mut Buffer,
@@ -80,7 +80,7 @@ impl<'a> Scrollbar<'a> {
         requires { first + count < 2 ^ 32 }
         ensures ok { OnOk result (Painted (run_layers self.now.orientation clip (option_copied symbol.entry) style first count) buf.old buf.new) }
         ensures kept { KeptOutside (covers clip) buf.old buf.new }
-        ensures light { IsLightSign (option_copied symbol.entry) → IsOk result }
+        ensures allocation_free { IsAllocationFreeSign (option_copied symbol.entry) → IsOk result }
     {
         'places: for i in 0..count {
             let at = self.orientation.along(clip, first + i);
@@ -89,13 +89,13 @@ impl<'a> Scrollbar<'a> {
         Ok(())
     }
 
-    /// Places of the track.
+    /// Draws `count` cells of the track, from cell `first` of the bar on.
     fn paint_track(&self, buf: &mut Buffer, clip: Rect, first: usize, count: u16) -> Mem<()>
         requires { first < 2 ^ 31 }
         ensures ok { let s = scrollbar_data self.now in OnOk result
             (Painted (run_layers s.orientation clip s.track s.track_style first count) buf.old buf.new) }
         ensures kept { KeptOutside (covers clip) buf.old buf.new }
-        ensures light { IsLightSign (scrollbar_data self.now).track → IsOk result }
+        ensures allocation_free { IsAllocationFreeSign (scrollbar_data self.now).track → IsOk result }
     {
         self.paint_run(
             buf,
@@ -107,11 +107,11 @@ impl<'a> Scrollbar<'a> {
         )
     }
 
-    /// The symbols at the ends, and between them the track and the thumb.
-    fn paint_bar(&self, buf: &mut Buffer, clip: Rect, parts: Parts) -> Mem<()>
+    /// Draws the symbols at the ends, and the track and the thumb between them.
+    fn paint_bar(&self, buf: &mut Buffer, clip: Rect, parts: TrackParts) -> Mem<()>
         ensures ok { OnOk result (Painted (bar_layers (scrollbar_data self.now) clip parts) buf.old buf.new) }
         ensures kept { KeptOutside (covers clip) buf.old buf.new }
-        ensures light { IsLightScrollbar (scrollbar_data self.now) → IsOk result }
+        ensures allocation_free { IsAllocationFreeScrollbar (scrollbar_data self.now) → IsOk result }
     {
         let start = places(self.begin_symbol);
         let thumb = start + parts.start as usize;
@@ -138,7 +138,7 @@ impl<'a> Scrollbar<'a> {
         )
     }
 
-    /// The places between the symbols at the ends.
+    /// Returns the length of the track: the cells of the bar without the columns of the symbols at its ends.
     fn track(&self, clip: Rect) -> u16
         ensures { result ≡ track_of (scrollbar_data self.now) clip }
     {
@@ -160,7 +160,7 @@ impl<'a> Scrollbar<'a> {
         ensures ok { OnOk result (Painted (scrollbar_layers (scrollbar_data self.now) state clip) buf.old buf.new) }
         ensures kept { KeptOutside (covers clip) buf.old buf.new }
         ensures empty { IsTrue (is_empty clip) → IsOk result }
-        ensures light { IsLightScrollbar (scrollbar_data self.now) → IsOk result }
+        ensures allocation_free { IsAllocationFreeScrollbar (scrollbar_data self.now) → IsOk result }
     {
         if clip.is_empty() {
             return Ok(());
@@ -170,17 +170,17 @@ impl<'a> Scrollbar<'a> {
             return Ok(());
         }
         let viewport = self.viewport(clip, state);
-        let parts = Parts::new(track, viewport, state.content_length, state.position);
+        let parts = TrackParts::new(track, viewport, state.content_length, state.position);
         self.paint_bar(buf, clip, parts)
     }
 }
 
-/// Where there is content, and a place between the symbols at the ends, the thumb stands on the track at the part that is seen.
-/// Otherwise nothing is drawn. The state stays as it is.
+/// If there is content, and at least one cell between the symbols at the ends, the thumb is drawn where the visible
+/// part is. Otherwise nothing is drawn. The state is unchanged.
 impl<'a> StatefulWidget for Scrollbar<'a> {
     type State = ScrollbarState;
 
-    ghost moving = { λ scrollbar. scrollbar_moving (scrollbar_data scrollbar) };
+    ghost stateful_drawing = { λ scrollbar. scrollbar_moving (scrollbar_data scrollbar) };
 
     fn render(
         &self,

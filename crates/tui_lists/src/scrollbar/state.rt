@@ -6,7 +6,8 @@ ghost use Rattle.tui_clusters.specs.Width.{saturated};
 
 use crate::scrollbar::direction::ScrollDirection;
 
-/// How long a content is, where it is seen, and how much of it is seen at once. A drawing leaves the state as it is.
+/// The length of a content, the position that is seen, and how much is visible at once. A drawing leaves the state
+/// unchanged.
 #[derive(Clone, Copy, Debug, PartialEq, Eq, Hash)]
 pub struct ScrollbarState {
     pub(crate) content_length: usize,
@@ -24,7 +25,8 @@ impl Default for ScrollbarState {
 }
 
 impl ScrollbarState {
-    /// A content of a length, seen from its beginning; of what is seen at once nothing is said.
+    /// Creates the state of a content of this length at position 0. The length of the viewport is 0, which stands for
+    /// the length of the bar.
     pub fn new(content_length: usize) -> ScrollbarState
         ensures { result ≡ record { content_length = content_length; position = 0; viewport_content_length = 0 } }
     {
@@ -35,7 +37,7 @@ impl ScrollbarState {
         }
     }
 
-    /// Sets the place that is seen, from 0. A place past the last one is drawn as the last.
+    /// Sets the position, from 0. A position past the last one is drawn as the last.
     pub fn position(self, position: usize) -> ScrollbarState
         ensures { result ≡ record self { position = position } }
     {
@@ -52,7 +54,7 @@ impl ScrollbarState {
         }
     }
 
-    /// Sets how much of the content is seen at once; 0 stands for the length of the bar.
+    /// Sets how much of the content is visible at once. 0 stands for the length of the bar.
     pub fn viewport_content_length(self, length: usize) -> ScrollbarState
         ensures { result ≡ record self { viewport_content_length = length } }
     {
@@ -62,14 +64,14 @@ impl ScrollbarState {
         }
     }
 
-    /// Goes one place back; at the first it stays.
+    /// Moves one position back, at least to the first.
     pub fn prev(&mut self)
         ensures { self.new ≡ record self.old { position = self.old.position - 1 } }
     {
         self.position = self.position.saturating_sub(1);
     }
 
-    /// Goes one place on, and to the last place at most.
+    /// Moves one position forward, at most to the last.
     pub fn next(&mut self)
         ensures { self.new ≡ record self.old { position = min (saturated (self.old.position + 1)) (self.old.content_length - 1) } }
     {
@@ -77,21 +79,21 @@ impl ScrollbarState {
         self.position = self.position.saturating_add(1).min(last);
     }
 
-    /// Goes to the first place.
+    /// Moves to the first position.
     pub fn first(&mut self)
         ensures { self.new ≡ record self.old { position = 0 } }
     {
         self.position = 0;
     }
 
-    /// Goes to the last place, which is the first one where there is no content.
+    /// Moves to the last position, which is 0 if there is no content.
     pub fn last(&mut self)
         ensures { self.new ≡ record self.old { position = self.old.content_length - 1 } }
     {
         self.position = self.content_length.saturating_sub(1);
     }
 
-    /// Goes one place on or back, as `next` or `prev` does.
+    /// Moves one position forward or back, as `next` or `prev` does.
     pub fn scroll(&mut self, direction: ScrollDirection)
         ensures { self.new ≡ scrolled direction self.old }
     {
@@ -101,7 +103,7 @@ impl ScrollbarState {
         }
     }
 
-    /// The place that is seen.
+    /// Returns the position.
     pub fn get_position(&self) -> usize
         ensures { result ≡ self.now.position }
     {

@@ -1,4 +1,4 @@
-//! Where the lines of one text line end, and how many they are, from numbers alone.
+//! Finds where the lines of one text line end, and counts them, from numbers only.
 
 ghost use Rattle.std.specs.Prelude.{◌≡◌, ◌+◌, ◌<◌, ◌≤◌, ◌^◌, if◌then◌else◌, false, true, MatchOption};
 ghost use Rattle.tui_clusters.specs.Width.{saturated};
@@ -20,32 +20,32 @@ ghost use Rattle.tui_para.specs.Counting.{
   read_in,
   saturated_count,
   step,
-  take_word_along,
+  break_before_word,
 };
 
 use crate::counting::line_end::LineEnd;
 use crate::wrap::Wrap;
 use crate::wrapping::mark::Mark;
 
-/// The lines of the graphemes that were read, and how the last of them goes on.
+/// Counts the lines of the graphemes that were read, and keeps the state of the last of these lines.
 #[derive(Clone, Copy, Debug)]
 pub struct Counter {
-    /// The lines that have ended, saturated at the greatest number of 64 bits.
+    /// How many lines have ended, saturated at the greatest 64-bit number.
     lines: usize,
-    /// A grapheme stands behind the last line that has ended.
+    /// Whether a grapheme comes after the last line that has ended.
     some: bool,
-    /// A piece of a word has ended in the line under way.
+    /// Whether a piece of a word has ended in the line under way.
     begun: bool,
-    /// A piece of a word is under way.
+    /// Whether a piece of a word is under way.
     in_word: bool,
-    /// The width of the line under way.
+    /// The width of the line under way, in columns.
     used: u32,
-    /// The width of the piece of a word with which it ends.
+    /// The width of the piece of a word with which it ends, in columns.
     word: u32,
 }
 
 impl Counter {
-    /// Before any grapheme.
+    /// Creates a counter that has read no grapheme.
     pub fn new() -> Counter
         ensures { result ≡ no_lines }
     {
@@ -59,15 +59,15 @@ impl Counter {
         }
     }
 
-    /// Whether a piece of a word is under way, which a letter goes on with.
+    /// Whether a piece of a word is under way, which the next letter would continue.
     pub fn is_in_word(&self) -> bool
         ensures { result ≡ self.now.in_word }
     {
         self.in_word
     }
 
-    /// Reads one grapheme more of a text line that is wrapped to `width` columns, unless the line under way has no room for it: then it
-    /// says where that line ends.
+    /// Reads one more grapheme of a text line that is wrapped to `width` columns. If the line under way has no room for
+    /// it, returns where that line ends.
     #[inline(always)]
     pub fn read_in_line(&mut self, mark: Mark, width: u16, wrap: Wrap) -> Option<LineEnd>
         ensures end { Fits width self.old
@@ -88,7 +88,7 @@ impl Counter {
         None
     }
 
-    /// Reads one grapheme more, which is not wider than a line.
+    /// Reads one more grapheme, which is not wider than a line.
     #[inline(always)]
     pub(crate) fn read(&mut self, mark: Mark, width: u16, wrap: Wrap)
         requires small { mark.width ≤ width }
@@ -139,7 +139,7 @@ impl Counter {
         self.some = true;
     }
 
-    /// The lines, with the one that is under way.
+    /// Returns the number of lines, including the one under way.
     pub(crate) fn count(self) -> usize
         ensures { result ≡ saturated (counted self) }
     {
@@ -150,7 +150,7 @@ impl Counter {
         }
     }
 
-    /// Ends the piece of a word that is under way, where one ends here.
+    /// Ends the piece of a word under way, if one ends here.
     #[inline(always)]
     fn end_piece(&mut self, ends: bool)
         ensures { self.new ≡ after_piece self.old ends }
@@ -162,7 +162,7 @@ impl Counter {
         }
     }
 
-    /// Whether a line's beginning leaves out what comes.
+    /// Whether the next grapheme is dropped at the beginning of a line.
     #[inline(always)]
     fn leaves_out(&self, blank: bool, trim: bool) -> bool
         ensures { result ≡ leaves_out trim self.now blank }
@@ -177,12 +177,12 @@ impl Counter {
         u64::from(self.used) + u64::from(size) > u64::from(width)
     }
 
-    /// Where the line under way ends if there is no room for what comes.
+    /// Returns where the line under way ends if it has no room for the next grapheme.
     fn line_end(&self, blank: bool) -> LineEnd
         ensures { result ≡ end_at self.now blank }
     {
         if blank {
-            LineEnd::BehindBlank
+            LineEnd::AfterBlank
         } else if self.begun {
             LineEnd::BeforeWord
         } else {
@@ -190,7 +190,7 @@ impl Counter {
         }
     }
 
-    /// Takes what there is room for into the line under way.
+    /// Adds a grapheme for which there is room to the line under way.
     #[inline(always)]
     fn add(&mut self, size: u16, blank: bool)
         requires room { self.old.used + size < 2 ^ 32 }
@@ -204,7 +204,8 @@ impl Counter {
         }
     }
 
-    /// Ends the line under way before a letter for which it has no room, and the one after it if that has none either.
+    /// Ends the line under way before a letter for which it has no room, and the next line too if that has no room
+    /// either.
     fn end_before(&mut self, size: u16, width: u16)
         requires small { size ≤ width }
         requires fits { Fits width self.old }
@@ -213,7 +214,7 @@ impl Counter {
         ensures room { (self.new.used + size ≤ width) × (self.new.word ≤ self.new.used) }
     {
         if self.begun {
-            self.take_word_along();
+            self.break_before_word();
             self.end_full_line(size, width);
         } else {
             self.end_line();
@@ -237,9 +238,9 @@ impl Counter {
         };
     }
 
-    /// Ends the line before the piece that is under way.
-    fn take_word_along(&mut self)
-        ensures { self.new ≡ saturated_count (take_word_along self.old) }
+    /// Ends the line before the piece of a word that is under way.
+    fn break_before_word(&mut self)
+        ensures { self.new ≡ saturated_count (break_before_word self.old) }
     {
         self.lines = self.lines.saturating_add(1);
         self.some = true;

@@ -5,8 +5,8 @@
 pub enum LineEnd {
     /// Before the word that the grapheme belongs to.
     BeforeWord,
-    /// Before the grapheme, within its word or before it if it begins one: no other word has ended in the line.
+    /// Before the grapheme, which is inside a word or begins one. No other word has ended in the line.
     WithinWord,
-    /// Behind the grapheme, which is a blank. It stands in no line.
-    BehindBlank,
+    /// After the grapheme, which is whitespace. It belongs to no line.
+    AfterBlank,
 }

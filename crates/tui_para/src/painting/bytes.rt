@@ -1,4 +1,4 @@
-//! Painting of graphemes of one printable byte, many in one stroke.
+//! Paints graphemes of one printable byte each, many in one stroke.
 
 ghost use Rattle.std.specs.Prelude.{◌≡◌, ◌+◌, ◌<◌, ◌≤◌, ◌^◌, ◌++◌, IfSome, IsTrue, drop, length, map, take, true};
 ghost use Rattle.std.specs.List.{list_all};
@@ -13,7 +13,7 @@ use tui_cells::{Buffer, Position, Rect, Style};
 use tui_text::{StyledGrapheme, printable_byte};
 
 /// How many bytes are set in one stroke at most.
-const ROOM: usize = 64;
+const MAX_STROKE: usize = 64;
 
 /// Whether two styles are the same.
 #[inline(always)]
@@ -23,7 +23,7 @@ fn is_same(style: &Style, other: &Style) -> bool
     style == other
 }
 
-/// The byte of a grapheme that is one printable byte in a style.
+/// Returns the byte of a grapheme, if it is one printable byte in this style.
 #[inline(always)]
 fn byte_in(grapheme: &StyledGrapheme<'_>, style: &Style) -> Option<u8>
     ensures { IfSome result (λ byte. (glyph_of grapheme.now ≡ byte_glyph style.now byte) × (is_printable byte ≡ true)) }
@@ -34,22 +34,22 @@ fn byte_in(grapheme: &StyledGrapheme<'_>, style: &Style) -> Option<u8>
     }
 }
 
-/// Copies the bytes of the graphemes from a place on that are each one printable byte in a style, and answers how many there
-/// are, `most` at most.
+/// Copies the bytes of the graphemes from `place` on, as long as each is one printable byte in this style. Copies at
+/// most `most` bytes, and returns how many.
 fn copy_bytes(
     run: &[StyledGrapheme<'_>],
     place: usize,
     most: usize,
     style: &Style,
-    bytes: &mut [u8; ROOM],
+    bytes: &mut [u8; MAX_STROKE],
 ) -> usize
     requires { place ≤ length run.now }
-    ensures within { (result ≤ most) × (result ≤ ROOM) × (place + result ≤ length run.now) }
+    ensures within { (result ≤ most) × (result ≤ MAX_STROKE) × (place + result ≤ length run.now) }
     ensures printable { list_all is_printable (take result bytes.new) ≡ true }
     ensures copied { drop place (map glyph_of run.now)
         ≡ map (byte_glyph style.now) (take result bytes.new) ++ drop (place + result) (map glyph_of run.now) }
 {
-    let end = most.min(ROOM).min(run.len() - place);
+    let end = most.min(MAX_STROKE).min(run.len() - place);
     let mut count = 0;
     while count < end {
         match byte_in(&run[place + count], style) {
@@ -81,7 +81,7 @@ fn set_bytes(
     ensures kept { KeptOutside (covers clip) buf.old buf.new }
 {
     let first = &run[place];
-    let mut bytes = [0; ROOM];
+    let mut bytes = [0; MAX_STROKE];
     let count = copy_bytes(
         run,
         place,
@@ -93,7 +93,7 @@ fn set_bytes(
     count
 }
 
-/// Whether two graphemes of one byte stand at a place. For one alone a stroke of its own takes fewer steps.
+/// Whether two graphemes of one byte each begin at `place`. A single one takes fewer steps with a stroke of its own.
 #[inline(always)]
 fn begins_bytes(run: &[StyledGrapheme<'_>], place: usize) -> bool
     requires { place < length run.now }
@@ -105,8 +105,8 @@ fn begins_bytes(run: &[StyledGrapheme<'_>], place: usize) -> bool
     rest > 1 && run[place + 1].symbol.len() == 1
 }
 
-/// Puts the graphemes from a place of a run on that are each one printable byte in the style of the first of them, as far as the
-/// clip goes. Answers how many there are, or 0 where one would stand alone.
+/// Draws the graphemes of a run from `place` on, as far as the clip goes. Stops at one that is not a printable byte in
+/// the style of the first. Returns how many it drew: 0 unless two graphemes of one byte each begin at `place`.
 #[inline(always)]
 pub(crate) fn paint_bytes(
     buf: &mut Buffer,

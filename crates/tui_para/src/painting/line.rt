@@ -1,11 +1,11 @@
-//! Painting of one line.
+//! Paints one line.
 
 ghost use Rattle.std.specs.Prelude.{◌≡◌, ◌<◌, ◌≤◌, IfOk, OnOk, drop, length, map, sum_by, true};
 ghost use Rattle.tui_cells.specs.Buffer.{Screen};
 ghost use Rattle.tui_cells.specs.Rect.{bottom_of, covers};
 ghost use Rattle.tui_cells.specs.Layers.{Painted, KeptOutside};
 ghost use Rattle.tui_text.specs.Grapheme.{glyph_of, glyph_width};
-ghost use Rattle.tui_para.specs.Lent.{glyph_line_of};
+ghost use Rattle.tui_para.specs.Yielded.{glyph_line_of};
 ghost use Rattle.tui_para.specs.Strokes.{glyph_layers, run_layers, start_of, glyph_line_layers};
 
 use crate::composer::WrappedLine;
@@ -13,7 +13,7 @@ use crate::painting::bytes::paint_bytes;
 use tui_cells::{Buffer, Mem, Position, Rect};
 use tui_text::{Alignment, StyledGrapheme, cell_width};
 
-/// Puts one grapheme of a width at a position of the clip, if it has a width.
+/// Draws a grapheme of this width at a position of the clip, if its width is above 0.
 fn paint_grapheme(
     buf: &mut Buffer,
     clip: Rect,
@@ -39,8 +39,8 @@ fn paint_grapheme(
     Ok(())
 }
 
-/// Puts the graphemes that stand at a place of a run, from a position of the clip on: those that are set in one stroke, or else
-/// one alone. Answers the place and the column behind them.
+/// Draws the graphemes at `place` of a run, from a position of the clip on: as many as one stroke sets, or else a
+/// single one. Returns the index of the next grapheme and the column after those that were drawn.
 fn paint_next(
     buf: &mut Buffer,
     clip: Rect,
@@ -66,7 +66,8 @@ fn paint_next(
     Ok((place + 1, at.x.saturating_add(width)))
 }
 
-/// Puts graphemes side by side in a row of the clip, as far as it goes. The cells behind a wide one stay.
+/// Draws graphemes side by side in a row of the clip, as far as it goes. The cells after the first one of a wide
+/// grapheme are unchanged.
 fn paint_run(buf: &mut Buffer, clip: Rect, at: Position, run: &[StyledGrapheme<'_>]) -> Mem<()>
     requires column { clip.x ≤ at.x }
     requires row { (clip.y ≤ at.y) × (at.y < bottom_of clip) }
@@ -86,7 +87,7 @@ fn paint_run(buf: &mut Buffer, clip: Rect, at: Position, run: &[StyledGrapheme<'
     Ok(())
 }
 
-/// The column in which a line starts.
+/// Returns the column in which a line starts, in an area of `room` columns.
 fn start_of(alignment: Alignment, room: u16, width: u16) -> u16
     ensures { result ≡ start_of alignment room width }
 {

@@ -1,4 +1,4 @@
-//! Painting of the lines that a composer lends, one in each row.
+//! Paints the lines that a composer yields, one in each row.
 
 ghost use Rattle.std.specs.Prelude.{List, OnOk, drop};
 ghost use Rattle.tui_cells.specs.Rect.{covers};
@@ -10,11 +10,11 @@ use crate::composer::LineComposer;
 use crate::painting::line::paint_line;
 use tui_cells::{Buffer, Mem, Rect};
 
-/// Passes over lines.
+/// Skips `count` lines.
 fn skip_lines<'a, C: LineComposer<'a>>(composer: &mut C, count: u16) -> Mem<()>
-    requires { C.can_lend composer.old }
-    ensures ready { OnOk result (C.can_lend composer.new) }
-    ensures skipped { OnOk result ((lines : List GlyphLine) → C.awaits composer.old lines → C.awaits composer.new (drop count lines)) }
+    requires { C.can_yield composer.old }
+    ensures ready { OnOk result (C.can_yield composer.new) }
+    ensures skipped { OnOk result ((lines : List GlyphLine) → C.must_yield composer.old lines → C.must_yield composer.new (drop count lines)) }
 {
     'lines: for _line in 0..count {
         match composer.next_line()? {
@@ -25,15 +25,16 @@ fn skip_lines<'a, C: LineComposer<'a>>(composer: &mut C, count: u16) -> Mem<()>
     Ok(())
 }
 
-/// Paints the lines after the first `skipped` ones from the top of an area on. No line below its last row is composed.
+/// Paints the lines after the first `skipped` ones, from the top of an area on. Lines below its last row are not
+/// composed.
 pub(crate) fn paint_lines<'a, C: LineComposer<'a>>(
     buf: &mut Buffer,
     rect: Rect,
     composer: &mut C,
     skipped: u16,
 ) -> Mem<()>
-    requires { C.can_lend composer.old }
-    ensures ok { OnOk result ((lines : List GlyphLine) → C.awaits composer.old lines
+    requires { C.can_yield composer.old }
+    ensures ok { OnOk result ((lines : List GlyphLine) → C.must_yield composer.old lines
         → Painted (glyph_lines_layers rect rect.y (drop skipped lines)) buf.old buf.new) }
     ensures kept { KeptOutside (covers rect) buf.old buf.new }
 {

@@ -54,7 +54,7 @@ impl<'a> Paragraph<'a> {
         self.paint_text(alloc, buf, area)
     }
 
-    /// Paints what stands under the text: with a block, the style on the clip and the block.
+    /// Paints what is under the text: if there is a block, the style on the clip, and then the block.
     fn paint_under(&self, alloc: Global, buf: &mut Buffer, clip: Rect) -> Mem<()>
         ensures ok { OnOk result (Painted (under_layers (paragraph_data self.now).block self.now.style clip) buf.old buf.new) }
         ensures kept { KeptOutside (footprint_if (paragraph_data self.now).block clip) buf.old buf.new }

@@ -1,4 +1,4 @@
-//! The reading of a text line that is truncated.
+//! Reads a text line that is truncated.
 
 ghost use Rattle.std.specs.Prelude.{◌≡◌, List, map, IfOk, OnOk, sum_by};
 ghost use Rattle.std.specs.Iterator.{Drains};
@@ -12,8 +12,8 @@ use crate::truncating::truncation::Truncation;
 use tui_cells::Mem;
 use tui_text::StyledGrapheme;
 
-/// Reads a text line to its end, and puts what is shown of it in place of what was there. Answers its columns. What is
-/// not shown takes no memory.
+/// Reads a text line to its end, and replaces `shown` with what is shown of it. Returns the width of that, in columns.
+/// Nothing is allocated for what is not shown.
 pub(crate) fn refill<'a, I: Iterator<Item = StyledGrapheme<'a>>>(
     shown: &mut Vec<StyledGrapheme<'a>>,
     line: I,
@@ -35,7 +35,7 @@ pub(crate) fn refill<'a, I: Iterator<Item = StyledGrapheme<'a>>>(
             shown.push(grapheme)?;
         }
     }
-    // In a loop of its own, which copies no style.
+    // A loop of its own, which copies no style.
     read_line(rest);
     Ok(start.room - truncation.room)
 }

@@ -1,4 +1,4 @@
-//! What is shown of a text line that is truncated, while it is read.
+//! What is shown of a truncated text line, while it is read.
 
 ghost use Rattle.std.specs.Prelude.{◌≡◌, ◌+◌, ◌++◌, ◌∷◌, [], List, if◌then◌else◌};
 ghost use Rattle.tui_text.specs.Grapheme.{Glyph, glyph_of, glyph_width};
@@ -8,21 +8,21 @@ ghost use Rattle.tui_para.specs.Truncated.{truncate};
 
 use tui_text::{Alignment, StyledGrapheme, cell_width};
 
-/// How far the truncating of a text line has come.
+/// The state of truncating a text line.
 #[derive(Clone, Copy, Debug)]
 pub(crate) struct Truncation {
-    /// The columns of a whole line.
+    /// The width of a whole line, in columns.
     pub width: u16,
-    /// The columns that are still to be passed at the left.
+    /// The columns that are still to be skipped at the left.
     pub offset: u16,
     /// The columns that are free for what is shown.
     pub room: u16,
-    /// A grapheme didn't fit, so none is shown any more.
+    /// Whether a grapheme didn't fit, so that no further one is shown.
     pub full: bool,
 }
 
 impl Truncation {
-    /// Nothing is read yet. The offset is left out of Left lines alone.
+    /// Creates the state before anything is read. The offset applies only to lines that are aligned to the left.
     pub(crate) fn new(width: u16, alignment: Alignment, offset: u16) -> Truncation
         ensures { (glyphs : List Glyph) → shown_of result glyphs ≡ truncate glyph_width width (is_left alignment) offset glyphs }
     {
@@ -38,7 +38,7 @@ impl Truncation {
         }
     }
 
-    /// Reads the next grapheme, and answers whether it is shown.
+    /// Reads the next grapheme, and returns whether it is shown.
     pub(crate) fn shows(&mut self, grapheme: &StyledGrapheme<'_>) -> bool
         ensures line { (rest : List Glyph) → shown_of self.old (glyph_of grapheme.now ∷ rest)
             ≡ (if result then glyph_of grapheme.now ∷ [] else []) ++ shown_of self.new rest }

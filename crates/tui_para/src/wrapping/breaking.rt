@@ -12,7 +12,7 @@ use crate::wrap::Wrap;
 use crate::wrapping::mark::Mark;
 use crate::wrapping::prefix::Prefix;
 
-/// How many blanks stand at the front.
+/// Returns how many whitespace graphemes are at the beginning.
 fn leading_blanks(marks: &[Mark]) -> usize
     ensures within { result ≤ length marks.now }
     ensures len { result ≡ blanks_len is_blank marks.now }
@@ -25,7 +25,7 @@ fn leading_blanks(marks: &[Mark]) -> usize
     marks.len()
 }
 
-/// How many graphemes stand before the line.
+/// Returns how many graphemes come before the line.
 fn start_of(marks: &[Mark], trim: bool) -> usize
     ensures within { result ≤ length marks.now }
     ensures len { result ≡ start_len is_blank trim marks.now }
@@ -33,8 +33,9 @@ fn start_of(marks: &[Mark], trim: bool) -> usize
     if trim { leading_blanks(marks) } else { 0 }
 }
 
-/// The line where the grapheme behind these does not fit: up to the end of the last piece of a word that has ended, else up
-/// to that grapheme. It is looked for backwards, so that of a grapheme within a line only the width is asked.
+/// Returns the line if the grapheme after `here` does not fit. The line goes up to the end of the last piece of a word
+/// that has ended, or else up to that grapheme. The search goes backwards, so that `line_at` reads only the widths of
+/// the graphemes that fit.
 fn line_before(marks: &[Mark], here: Prefix) -> Prefix
     requires within { here.len < length marks.now }
     requires columns { here.room + sum_by size_of (take here.len marks.now) < 2 ^ 16 }
@@ -53,7 +54,7 @@ fn line_before(marks: &[Mark], here: Prefix) -> Prefix
     here
 }
 
-/// The line that stands at the front.
+/// Returns the line at the beginning.
 fn line_at(marks: &[Mark], width: u16) -> Prefix
     ensures within { result.len ≤ length marks.now }
     ensures len { result.len ≡ line_len ends_before is_blank size_of width marks.now }
@@ -72,7 +73,7 @@ fn line_at(marks: &[Mark], width: u16) -> Prefix
     }
 }
 
-/// How many blanks are left out after a break that leaves this room.
+/// Returns how many whitespace graphemes are dropped after a break that leaves `room` columns.
 fn dropped(marks: &[Mark], room: u16) -> usize
     ensures within { result ≤ length marks.now }
     ensures len { result ≡ dropped_len is_blank size_of room marks.now }
@@ -90,17 +91,17 @@ fn dropped(marks: &[Mark], room: u16) -> usize
     marks.len()
 }
 
-/// A line among graphemes: where it begins and ends, where what is left begins, and its columns.
+/// A line among graphemes: where it begins and ends, where the rest begins, and its width in columns.
 #[derive(Clone, Copy, Debug)]
-pub(crate) struct Place {
+pub(crate) struct LineBounds {
     pub start: usize,
     pub end: usize,
     pub next: usize,
     pub width: u16,
 }
 
-/// The next line of graphemes with these marks, none of which is wider than a line.
-pub(crate) fn next_line(marks: &[Mark], width: u16, wrap: Wrap) -> Place
+/// Returns the next line of graphemes with these marks, none of which is wider than a line.
+pub(crate) fn next_line(marks: &[Mark], width: u16, wrap: Wrap) -> LineBounds
     requires { All (λ m. m.width ≤ width) marks.now }
     ensures order { (result.start ≤ result.end) × (result.end ≤ result.next) × (result.next ≤ length marks.now) }
     ensures moves { 0 < length marks.now → 0 < result.next }
@@ -112,7 +113,7 @@ pub(crate) fn next_line(marks: &[Mark], width: u16, wrap: Wrap) -> Place
     let rest = &marks[start..];
     let line = line_at(rest, width);
     let blanks = dropped(&rest[line.len..], line.room);
-    Place {
+    LineBounds {
         start,
         end: start + line.len,
         next: start + line.len + blanks,

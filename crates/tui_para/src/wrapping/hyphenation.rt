@@ -2,21 +2,21 @@
 
 ghost use Rattle.std.specs.Prelude.{◌≡◌, ◌&&◌};
 ghost use Rattle.tui_text.specs.Grapheme.{glyph_blank, glyph_of};
-ghost use Rattle.tui_para.specs.Hyphenation.{after_hyphen, after_letter, at_start, behind};
+ghost use Rattle.tui_para.specs.Hyphenation.{after_hyphen, after_letter, at_start, after};
 ghost use Rattle.tui_para.specs.Hyphens.{is_hyphen, is_letter};
 ghost use Rattle.tui_para.specs.Mark.{mark_of};
 
 use crate::wrapping::mark::Mark;
 use tui_text::StyledGrapheme;
 
-/// Whether words are split after hyphens and, where they are, what stands directly before the next grapheme of a text line. A
-/// word is split where the next grapheme shows that a `-` stands between two graphemes that aren't `-`.
+/// Whether words are split after hyphens and, if they are, what comes directly before the next grapheme of a text line.
+/// A word is split where the next grapheme shows that a `-` is between two graphemes that aren't `-`.
 #[derive(Clone, Copy, Debug)]
 pub(crate) enum Hyphenation {
     /// No word is split.
     Off,
-    /// None of the two below.
-    Apart,
+    /// Neither of the two below.
+    Neither,
     /// A grapheme of a word that isn't `-`.
     Letter,
     /// A `-` directly after such a grapheme.
@@ -24,52 +24,52 @@ pub(crate) enum Hyphenation {
 }
 
 impl Hyphenation {
-    /// At the beginning of a text line.
+    /// Creates the state at the beginning of a text line.
     pub(crate) fn new(hyphens: bool) -> Hyphenation
         ensures { result ≡ at_start hyphens }
     {
         if hyphens {
-            Hyphenation::Apart
+            Hyphenation::Neither
         } else {
             Hyphenation::Off
         }
     }
 
-    /// The mark of the next grapheme, and what stands before the one behind it.
+    /// Returns the mark of the next grapheme, and the state after it.
     #[inline(always)]
     pub(crate) fn mark(self, grapheme: &StyledGrapheme<'_>) -> (Mark, Hyphenation)
         ensures mark { result.0 ≡ mark_of (glyph_of grapheme.now, after_hyphen self && is_letter (glyph_of grapheme.now)) }
-        ensures behind { result.1 ≡ behind self (glyph_of grapheme.now) }
+        ensures after { result.1 ≡ after self (glyph_of grapheme.now) }
     {
         let mark = Mark::unsplit(grapheme);
-        let behind = self.behind(grapheme, mark);
+        let after = self.after(grapheme, mark);
         let mark = Mark {
-            split: self.splits_before(behind),
+            split: self.splits_before(after),
             ..mark
         };
-        (mark, behind)
+        (mark, after)
     }
 
-    /// What stands before the grapheme behind one with this mark. Where no word is split, nothing is asked of it.
+    /// Returns the state after a grapheme with this mark. If no word is split, nothing is read of the grapheme.
     #[inline(always)]
-    pub(crate) fn behind(self, grapheme: &StyledGrapheme<'_>, mark: Mark) -> Hyphenation
+    pub(crate) fn after(self, grapheme: &StyledGrapheme<'_>, mark: Mark) -> Hyphenation
         requires { mark.blank ≡ glyph_blank (glyph_of grapheme.now) }
-        ensures { result ≡ behind self (glyph_of grapheme.now) }
+        ensures { result ≡ after self (glyph_of grapheme.now) }
     {
         match self {
             Hyphenation::Off => Hyphenation::Off,
             Hyphenation::Letter if is_hyphen(grapheme) => Hyphenation::Hyphen,
-            _ if is_hyphen(grapheme) || mark.blank => Hyphenation::Apart,
+            _ if is_hyphen(grapheme) || mark.blank => Hyphenation::Neither,
             _ => Hyphenation::Letter,
         }
     }
 
-    /// Whether a word is split before a grapheme behind which this stands.
+    /// Whether a word is split before the grapheme that leads from this state to the given one.
     #[inline(always)]
-    pub(crate) fn splits_before(self, behind: Hyphenation) -> bool
-        ensures { result ≡ (after_hyphen self && after_letter behind) }
+    pub(crate) fn splits_before(self, after: Hyphenation) -> bool
+        ensures { result ≡ (after_hyphen self && after_letter after) }
     {
-        matches!(self, Hyphenation::Hyphen) && matches!(behind, Hyphenation::Letter)
+        matches!(self, Hyphenation::Hyphen) && matches!(after, Hyphenation::Letter)
     }
 }
 

@@ -1,4 +1,4 @@
-//! What wrapping sees of a grapheme.
+//! What wrapping needs to know of a grapheme.
 
 ghost use Rattle.std.specs.Prelude.{◌≡◌, IfSome, false};
 ghost use Rattle.tui_text.specs.Grapheme.{glyph_of};
@@ -6,19 +6,19 @@ ghost use Rattle.tui_para.specs.Mark.{ends_before, mark_of};
 
 use tui_text::{StyledGrapheme, cell_width, printable_byte};
 
-/// What wrapping sees of a grapheme.
+/// What wrapping needs to know of a grapheme.
 #[derive(Clone, Copy, Debug, PartialEq, Eq)]
 pub struct Mark {
-    /// Its columns.
+    /// Its width, in columns.
     pub width: u16,
-    /// It is a blank.
+    /// Whether it is whitespace.
     pub blank: bool,
-    /// Its word is split directly before it.
+    /// Whether its word is split directly before it.
     pub split: bool,
 }
 
 impl Mark {
-    /// That of a grapheme before which no word is split.
+    /// Returns the mark of a grapheme before which no word is split.
     #[inline(always)]
     #[tactic(auto, unfolding(tui_text::specs::Grapheme::is_blank))]
     pub(crate) fn unsplit(grapheme: &StyledGrapheme<'_>) -> Mark
@@ -31,7 +31,7 @@ impl Mark {
         }
     }
 
-    /// The same of a grapheme that is one printable byte.
+    /// Returns the same mark, if the grapheme is one printable byte.
     #[inline(always)]
     pub(crate) fn of_printable(grapheme: &StyledGrapheme<'_>) -> Option<Mark>
         ensures { IfSome result (λ mark. mark ≡ mark_of (glyph_of grapheme.now, false)) }
@@ -44,7 +44,7 @@ impl Mark {
         })
     }
 
-    /// Whether a piece of a word ends before it, if one stands there.
+    /// Whether it ends a piece of a word that comes directly before it.
     #[inline(always)]
     pub(crate) fn ends_piece(self) -> bool
         ensures { result ≡ ends_before self }

@@ -6,7 +6,7 @@ ghost use Rattle.std.specs.List.{between, zip};
 ghost use Rattle.tui_text.specs.Grapheme.{Glyph, glyph_of};
 ghost use Rattle.tui_text.specs.declared.grapheme.StyledGrapheme.{StyledGrapheme};
 ghost use Rattle.tui_para.specs.Given.{Ready, SourceReads};
-ghost use Rattle.tui_para.specs.Hyphenation.{at_start, behind_all, marked_from};
+ghost use Rattle.tui_para.specs.Hyphenation.{at_start, after_all, marked_from};
 ghost use Rattle.tui_para.specs.declared.wrapping.hyphenation.Hyphenation.{Hyphenation};
 ghost use Rattle.tui_para.specs.declared.wrapping.hyphenation.Hyphenation.TheVariants.{Off};
 ghost use Rattle.tui_para.specs.Mark.{AreMarks, is_split, mark_of};
@@ -17,21 +17,21 @@ use std::alloc::Global;
 use tui_cells::{Mem, NoMemory};
 use tui_text::StyledGrapheme;
 
-/// Graphemes side by side with their marks. The lists are used again for each text line.
+/// A list of graphemes, and a list of their marks. Both are reused for each text line.
 #[derive(Drop)]
 pub(crate) struct Marked<'a> {
     graphemes: Vec<StyledGrapheme<'a>>,
     marks: Vec<Mark>,
-    /// What stands before the grapheme that comes next.
+    /// What comes before the next grapheme.
     hyphenation: Hyphenation,
     ghost together: { length graphemes.items ≡ length marks.items },
     ghost marked: { marks.items ≡ map mark_of (zip (map glyph_of graphemes.items) (map is_split marks.items)) },
 }
 
 impl<'a> Marked<'a> {
-    ghost use Rattle.tui_para.specs.Marked.{HasKept, HasPut, StandBehind, splits_of, glyphs_of};
+    ghost use Rattle.tui_para.specs.Marked.{HasKept, HasPushed, AreAppended, splits_of, glyphs_of};
 
-    /// No grapheme yet, at the beginning of a text line.
+    /// Creates an empty list, at the beginning of a text line.
     pub(crate) fn new(alloc: Global, hyphens: bool) -> Marked<'a>
         ensures none { splits_of result ≡ [] }
         ensures start { result.hyphenation ≡ at_start hyphens }
@@ -55,7 +55,7 @@ impl<'a> Marked<'a> {
         &self.marks
     }
 
-    /// The graphemes between two places.
+    /// Returns the graphemes between two indices.
     pub(crate) fn part(&self, start: usize, end: usize) -> &[StyledGrapheme<'a>]
         requires order { start ≤ end }
         requires within { end ≤ length (splits_of self.now) }
@@ -64,7 +64,7 @@ impl<'a> Marked<'a> {
         &self.graphemes[start..end]
     }
 
-    /// Leaves out all, at the beginning of a text line.
+    /// Removes all graphemes, for the beginning of a text line.
     pub(crate) fn clear(&mut self, hyphens: bool)
         ensures none { splits_of self.new ≡ [] }
         ensures start { self.new.hyphenation ≡ at_start hyphens }
@@ -90,23 +90,23 @@ impl<'a> Marked<'a> {
         }
     }
 
-    /// Puts a grapheme behind those that are there, unless it is wider than a line. Of a printable byte nothing is looked up.
+    /// Appends a grapheme, unless it is wider than a line. A printable byte needs no table lookup.
     #[inline(always)]
-    fn put(&mut self, grapheme: StyledGrapheme<'a>, width: u16) -> Mem<()>
-        ensures ok { OnOk result (HasPut width (grapheme.entry ∷ []) self.old self.new) }
-        ensures err { OnErr result (HasPut width [] self.old self.new) }
+    fn write(&mut self, grapheme: StyledGrapheme<'a>, width: u16) -> Mem<()>
+        ensures ok { OnOk result (HasPushed width (grapheme.entry ∷ []) self.old self.new) }
+        ensures err { OnErr result (HasPushed width [] self.old self.new) }
     {
         match Mark::of_printable(&grapheme) {
             Some(mark) if mark.width <= width => self.push(grapheme, mark),
-            _ => self.put_other(grapheme, width),
+            _ => self.push_other(grapheme, width),
         }
     }
 
-    /// The same of any grapheme.
+    /// Does the same for any grapheme.
     #[inline(always)]
-    fn put_other(&mut self, grapheme: StyledGrapheme<'a>, width: u16) -> Mem<()>
-        ensures ok { OnOk result (HasPut width (grapheme.entry ∷ []) self.old self.new) }
-        ensures err { OnErr result (HasPut width [] self.old self.new) }
+    fn push_other(&mut self, grapheme: StyledGrapheme<'a>, width: u16) -> Mem<()>
+        ensures ok { OnOk result (HasPushed width (grapheme.entry ∷ []) self.old self.new) }
+        ensures err { OnErr result (HasPushed width [] self.old self.new) }
     {
         let mark = Mark::unsplit(&grapheme);
         if mark.width <= width {
@@ -115,7 +115,7 @@ impl<'a> Marked<'a> {
         Ok(())
     }
 
-    /// Leaves out the first `count` graphemes.
+    /// Removes the first `count` graphemes.
     pub(crate) fn drop_front(&mut self, count: usize)
         requires { count ≤ length (splits_of self.old) }
         ensures dropped { splits_of self.new ≡ drop count (splits_of self.old) }
@@ -125,7 +125,7 @@ impl<'a> Marked<'a> {
         drop_front(&mut self.marks, count);
     }
 
-    /// Takes room for `count` graphemes more at once. At NoMemory the graphemes are as before.
+    /// Reserves memory for `count` more graphemes at once. If it fails with `NoMemory`, the graphemes are unchanged.
     fn reserve(&mut self, count: usize) -> Mem<()>
         ensures splits { splits_of self.new ≡ splits_of self.old }
         ensures same { self.new.hyphenation ≡ self.old.hyphenation }
@@ -135,8 +135,8 @@ impl<'a> Marked<'a> {
         Ok(())
     }
 
-    /// Reads `count` graphemes more, and keeps those that aren't wider than a line. Answers what gives the others, or
-    /// None where no more came.
+    /// Reads `count` more graphemes, and keeps those that aren't wider than a line. Returns the iterator that gives the
+    /// others, or `None` if it has ended.
     pub(crate) fn read<I: Iterator<Item = StyledGrapheme<'a>>>(
         &mut self,
         source: I,
@@ -144,45 +144,46 @@ impl<'a> Marked<'a> {
         width: u16,
     ) -> Mem<Option<I>>
         requires { Ready I.Iterator source }
-        ensures fit { (before : Hyphenation) × (taken : List StyledGrapheme) × StandBehind before width taken self.old self.new }
+        ensures fit { (before : Hyphenation) × (taken : List StyledGrapheme) × AreAppended before width taken self.old self.new }
         ensures read { IfOk result (λ left. (taken : List StyledGrapheme) × SourceReads I.next_gives (Some source) taken left
             × HasKept width taken self.old self.new) }
         ensures ready { IfOk result (λ left. IfSome left (λ i. Ready I.Iterator i × (size (I.remaining i) + count ≤ size (I.remaining source)))) }
     {
         let start = self.len();
         self.reserve(count)?;
-        let left = self.put_all(source, count, width)?;
+        let left = self.push_all(source, count, width)?;
         self.mark_splits_from(start);
         Ok(left)
     }
 
-    /// The same, and marks no split. Splits are told afterwards, so that reading costs nothing for them where no word is split.
-    fn put_all<I: Iterator<Item = StyledGrapheme<'a>>>(
+    /// Does the same, but marks no split. Splits are marked afterwards, so that reading costs nothing for them if no
+    /// word is split.
+    fn push_all<I: Iterator<Item = StyledGrapheme<'a>>>(
         &mut self,
         mut source: I,
         count: usize,
         width: u16,
     ) -> Mem<Option<I>>
         requires { Ready I.Iterator source }
-        ensures fit { (taken : List StyledGrapheme) × HasPut width taken self.old self.new }
+        ensures fit { (taken : List StyledGrapheme) × HasPushed width taken self.old self.new }
         ensures read { IfOk result (λ left. (taken : List StyledGrapheme) × SourceReads I.next_gives (Some source) taken left
-            × HasPut width taken self.old self.new) }
+            × HasPushed width taken self.old self.new) }
         ensures ready { IfOk result (λ left. IfSome left (λ i. Ready I.Iterator i × (size (I.remaining i) + count ≤ size (I.remaining source)))) }
     {
         'graphemes: for _read in 0..count {
             let Some(grapheme) = source.next() else {
                 return Ok(None);
             };
-            self.put(grapheme, width)?;
+            self.write(grapheme, width)?;
         }
         Ok(Some(source))
     }
 
-    /// Marks where words are split among the graphemes from a place on, which were put there without a split.
+    /// Marks where words are split among the graphemes from `start` on, which were added without splits.
     fn mark_splits_from(&mut self, start: usize)
         requires { start ≤ length (splits_of self.old) }
         ensures split { (front : List (Glyph × Bool)) (glyphs : List Glyph) → length front ≡ start → splits_of self.old ≡ front ++ marked_from Off glyphs
-            → (splits_of self.new ≡ front ++ marked_from self.old.hyphenation glyphs) × (self.new.hyphenation ≡ behind_all self.old.hyphenation glyphs) }
+            → (splits_of self.new ≡ front ++ marked_from self.old.hyphenation glyphs) × (self.new.hyphenation ≡ after_all self.old.hyphenation glyphs) }
     {
         let before = self.hyphenation;
         if let Hyphenation::Off = before {
@@ -192,7 +193,7 @@ impl<'a> Marked<'a> {
     }
 }
 
-/// Marks the graphemes from a place on by where their words are split. Answers what stands before the next grapheme.
+/// Marks where words are split among the graphemes from `start` on. Returns the state before the next grapheme.
 fn mark_splits(
     graphemes: &[StyledGrapheme<'_>],
     marks: &mut Vec<Mark>,
@@ -201,14 +202,14 @@ fn mark_splits(
 ) -> Hyphenation
     requires within { start ≤ length graphemes.now }
     requires marked { AreMarks graphemes.now marks.old.items }
-    ensures behind { result ≡ behind_all before (map glyph_of (drop start graphemes.now)) }
+    ensures after { result ≡ after_all before (map glyph_of (drop start graphemes.now)) }
     ensures marks { marks.new.items ≡ take start marks.old.items ++ map mark_of (marked_from before (map glyph_of (drop start graphemes.now))) }
 {
     let mut last = before;
     for i in start..graphemes.len() {
-        let behind = last.behind(&graphemes[i], marks[i]);
-        marks[i].split = last.splits_before(behind);
-        last = behind;
+        let after = last.after(&graphemes[i], marks[i]);
+        marks[i].split = last.splits_before(after);
+        last = after;
     }
     last
 }

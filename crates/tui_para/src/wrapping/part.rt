@@ -1,8 +1,8 @@
 //! Parts of a text line.
 
-/// Graphemes side by side in a text line: where they begin and end, and their columns.
+/// A range of graphemes in a text line: where it begins and ends, and its width in columns.
 #[derive(Clone, Copy, Debug)]
-pub(crate) struct Part {
+pub(crate) struct LineRange {
     pub start: usize,
     pub end: usize,
     pub width: u16,

@@ -1,6 +1,6 @@
 //! Prefixes of lists of graphemes.
 
-/// The graphemes that a list begins with: how many they are, and the columns that they leave of a width.
+/// The graphemes at the beginning of a list: how many they are, and how many columns of a width they leave.
 #[derive(Clone, Copy, Debug)]
 pub(crate) struct Prefix {
     pub len: usize,

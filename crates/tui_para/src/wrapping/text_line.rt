@@ -8,42 +8,43 @@ ghost use Rattle.tui_para.specs.Marked.{splits_of, glyphs_of, part_of};
 
 use crate::ends::read_line;
 use crate::wrap::Wrap;
-use crate::wrapping::breaking::{Place, next_line};
+use crate::wrapping::breaking::{LineBounds, next_line};
 use crate::wrapping::marked::Marked;
-use crate::wrapping::part::Part;
+use crate::wrapping::part::LineRange;
 use std::alloc::Global;
 use tui_cells::Mem;
 use tui_text::StyledGrapheme;
 
 /// How many graphemes are read at once at least.
-const FIRST: usize = 16;
+const MIN_CHUNK: usize = 16;
 
-/// The same where many were read before, if a line has no more columns than half of these.
-const CHUNK: usize = 512;
+/// How many graphemes are read at once at least, after many were read. If a line is wider than half of this, it is
+/// twice the line's width.
+const MAX_CHUNK: usize = 512;
 
-/// A text line that is wrapped and lent in parts. It is read as far as the parts need.
+/// A text line that is wrapped and yielded in parts. It is read only as far as the parts need.
 #[derive(Drop)]
 pub(crate) struct TextLine<'a, I> {
-    /// What gives the graphemes that are still to be read.
+    /// The iterator over the graphemes that are still to be read.
     source: Option<I>,
-    /// Those that were read, from a part that was lent on.
+    /// The graphemes that were read. Those before the last yielded part may have been removed.
     line: Marked<'a>,
     width: u16,
     wrap: Wrap,
-    /// How many graphemes are read next at least: few at the beginning, where few lines may be asked for.
+    /// How many graphemes are read next at least. These are few at first, since few lines may be requested.
     chunk: usize,
-    /// Where the graphemes begin that were not lent.
+    /// The index of the first grapheme that was not yielded.
     place: usize,
-    /// No part of it was lent.
+    /// Whether no part of it was yielded yet.
     is_new: bool,
     ghost within: { place ≤ length (splits_of line) },
     ghost fit: { All (λ g. glyph_width g.0 ≤ width) (splits_of line) },
 }
 
 impl<'a, I> TextLine<'a, I> {
-    ghost use Rattle.tui_para.specs.Wrapping.{IsNextPlace};
+    ghost use Rattle.tui_para.specs.Wrapping.{AreNextBounds};
 
-    /// No text line yet.
+    /// Creates the state without a text line.
     pub(crate) fn new(alloc: Global, width: u16, wrap: Wrap) -> TextLine<'a, I>
         ensures source { result.source ≡ None }
         ensures line { splits_of result.line ≡ [] }
@@ -56,7 +57,7 @@ impl<'a, I> TextLine<'a, I> {
             line: Marked::new(alloc, wrap.hyphens),
             width,
             wrap,
-            chunk: FIRST,
+            chunk: MIN_CHUNK,
             place: 0,
             is_new: false,
         }
@@ -68,9 +69,9 @@ impl<'a, I> TextLine<'a, I> {
         self.width
     }
 
-    /// The next line, where it is this one whatever graphemes are still to be read.
-    fn known_line(&self) -> Option<Place>
-        ensures some { IfSome result (IsNextPlace self.now) }
+    /// Returns the next line, if it is the same whatever graphemes are still to be read.
+    fn known_line(&self) -> Option<LineBounds>
+        ensures some { IfSome result (AreNextBounds self.now) }
         ensures none { result ≡ None → self.now.source ≡ None → (self.now.is_new ≡ false) × (drop self.now.place (splits_of self.now.line) ≡ []) }
     {
         if self.place >= self.line.len() {
@@ -82,7 +83,7 @@ impl<'a, I> TextLine<'a, I> {
         if line.next == rest.len() && self.source.is_some() {
             return None;
         }
-        Some(Place {
+        Some(LineBounds {
             start: self.place + line.start,
             end: self.place + line.end,
             next: self.place + line.next,
@@ -90,14 +91,14 @@ impl<'a, I> TextLine<'a, I> {
         })
     }
 
-    /// The one empty line of a text line without graphemes.
-    fn empty_line(&self) -> Option<Place>
+    /// Returns the one empty line of a text line without graphemes.
+    fn empty_line(&self) -> Option<LineBounds>
         ensures some { IfSome result (λ p. (self.now.is_new ≡ true) × (self.now.source ≡ None)
             × (p ≡ record { start = self.now.place; end = self.now.place; next = self.now.place; width = 0 })) }
         ensures none { result ≡ None → self.now.source ≡ None → self.now.is_new ≡ false }
     {
         if self.is_new && self.source.is_none() {
-            Some(Place {
+            Some(LineBounds {
                 start: self.place,
                 end: self.place,
                 next: self.place,
@@ -108,8 +109,8 @@ impl<'a, I> TextLine<'a, I> {
         }
     }
 
-    /// Goes on behind a line.
-    fn pass(&mut self, line: Place) -> Part
+    /// Moves past a line, and returns its range.
+    fn pass(&mut self, line: LineBounds) -> LineRange
         requires { line.next ≤ length (splits_of self.old.line) }
         ensures source { self.new.source ≡ self.old.source }
         ensures line { self.new.line ≡ self.old.line }
@@ -121,15 +122,15 @@ impl<'a, I> TextLine<'a, I> {
     {
         self.place = line.next;
         self.is_new = false;
-        Part {
+        LineRange {
             start: line.start,
             end: line.end,
             width: line.width,
         }
     }
 
-    /// The graphemes of a part.
-    pub(crate) fn part(&self, part: Part) -> &[StyledGrapheme<'a>]
+    /// Returns the graphemes of a part.
+    pub(crate) fn part(&self, part: LineRange) -> &[StyledGrapheme<'a>]
         requires order { part.start ≤ part.end }
         requires within { part.end ≤ length (splits_of self.now.line) }
         ensures { map glyph_of result.now ≡ part_of (glyphs_of self.now.line) part }
@@ -141,7 +142,7 @@ impl<'a, I> TextLine<'a, I> {
 impl<'a, I: Iterator<Item = StyledGrapheme<'a>>> TextLine<'a, I> {
     ghost use Rattle.tui_para.specs.Wrapping.{FindsPart, HasRead};
 
-    /// Reads what is left of it to its end, and lets all go.
+    /// Reads the rest of the text line to its end, and drops everything.
     pub(crate) fn read_to_end(self)
         requires { IfSome self.source (Ready I.Iterator) }
         ensures { (glyphs : List Glyph) × SourceGives (MayGive I.next_gives IsGlyph) self.entry.source glyphs }
@@ -152,7 +153,7 @@ impl<'a, I: Iterator<Item = StyledGrapheme<'a>>> TextLine<'a, I> {
         }
     }
 
-    /// Begins another text line.
+    /// Starts another text line.
     pub(crate) fn start(&mut self, source: I)
         ensures source { self.new.source ≡ Some source }
         ensures line { splits_of self.new.line ≡ [] }
@@ -162,14 +163,15 @@ impl<'a, I: Iterator<Item = StyledGrapheme<'a>>> TextLine<'a, I> {
         ensures wrap { self.new.wrap ≡ self.old.wrap }
     {
         self.place = 0;
-        self.chunk = FIRST;
+        self.chunk = MIN_CHUNK;
         self.line.clear(self.wrap.hyphens);
         self.is_new = true;
         self.source = Some(source);
     }
 
-    /// Goes on to the next part, and says where it stands. Reads on where what was read doesn't tell.
-    pub(crate) fn advance(&mut self) -> Mem<Option<Part>>
+    /// Advances to the next part, and returns its range. Reads more graphemes if those that were read don't determine
+    /// it.
+    pub(crate) fn advance(&mut self) -> Mem<Option<LineRange>>
         requires { IfSome self.old.source (Ready I.Iterator) }
         ensures ready { IfSome self.new.source (Ready I.Iterator) }
         ensures width { self.new.width ≡ self.old.width }
@@ -183,12 +185,13 @@ impl<'a, I: Iterator<Item = StyledGrapheme<'a>>> TextLine<'a, I> {
             if self.source.is_none() {
                 return Ok(None);
             }
-            self.read_on()?;
+            self.read_more()?;
         }
     }
 
-    /// Reads at least as many graphemes more as a line may have columns and as were not lent yet, or all that come.
-    fn read_on(&mut self) -> Mem<()>
+    /// Reads at least as many more graphemes as a line has columns and as were read but not yielded yet, or all that
+    /// come.
+    fn read_more(&mut self) -> Mem<()>
         requires { IfSome self.old.source (Ready I.Iterator) }
         ensures ready { IfSome self.new.source (Ready I.Iterator) }
         ensures same { (self.new.width ≡ self.old.width) × (self.new.wrap ≡ self.old.wrap) }
@@ -202,8 +205,8 @@ impl<'a, I: Iterator<Item = StyledGrapheme<'a>>> TextLine<'a, I> {
         self.place = 0;
         let width = usize::from(self.width);
         let wanted = self.line.len().max(width);
-        let count = wanted.max(self.chunk).max(FIRST);
-        self.chunk = count.saturating_mul(2).min(CHUNK.max(2 * width));
+        let count = wanted.max(self.chunk).max(MIN_CHUNK);
+        self.chunk = count.saturating_mul(2).min(MAX_CHUNK.max(2 * width));
         self.source = self.line.read(source, count, self.width)?;
         Ok(())
     }

@@ -29,7 +29,7 @@ chart_with_groups i d = do
   max ← optional u64_of i fields.Max d
   Ok (record (new_chart Vertical (with_bars groups)) { block = block; style = unwrap_or style no_style; max = max })
 
--- with the room of its bars
+-- with the widths of its bars and gaps, and with its symbols
 unfoldable pub spaced_chart : BarChartData → Option ℕ → Data → Result BarChartData BadField
 spaced_chart c i d = do
   width ← optional u16_of i fields.BarWidth d
@@ -44,8 +44,8 @@ spaced_chart c i d = do
   })
 
 -- with its styles and its direction
-unfoldable pub dressed_chart : BarChartData → Option ℕ → Data → Result BarChartData BadField
-dressed_chart c i d = do
+unfoldable pub styled_chart : BarChartData → Option ℕ → Data → Result BarChartData BadField
+styled_chart c i d = do
   bar_style ← optional style_of i fields.BarStyle d
   value_style ← optional style_of i fields.ValueStyle d
   label_style ← optional style_of i fields.LabelStyle d
@@ -62,7 +62,7 @@ unfoldable pub shown_chart : Option ℕ → Data → Result BarChartData BadFiel
 shown_chart i d = do
   with_groups ← chart_with_groups i d
   spaced ← spaced_chart with_groups i d
-  dressed_chart spaced i d
+  styled_chart spaced i d
 
 -- a sparkline with its bars
 unfoldable pub sparkline_with_bars : Option ℕ → Data → Result SparklineData BadField

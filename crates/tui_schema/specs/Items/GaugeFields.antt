@@ -20,11 +20,11 @@ use Rattle.tui_json.specs.Refusals.{◌>>=◌}
 use Rattle.tui_schema.specs.Refusals.{optional}
 use Rattle.tui_schema.specs.declared.bad_field.BadField.{BadField}
 
--- a share: not above 1, of something
+-- a share: at most 1, and with a denominator that is not 0
 abbrev pub is_share : Fraction → Bool
 is_share f = nat_lt 0 f.den && nat_le f.num f.den
 
--- a value where a test holds, else a refusal of a field
+-- a value if a test holds, or else the rejection of a field
 abbrev pub if_holds : {A : Type 0} → Bool → Option ℕ → Field → A → Result A BadField
 if_holds test i f x = if test then Ok x else Err (record { item = i; field = f })
 
@@ -38,23 +38,23 @@ abbrev pub gauge_with_percent : Option ℕ → GaugeData → Option ℕ → Resu
 gauge_with_percent i g None = Ok g
 gauge_with_percent i g (Some percent) = if_holds (nat_le percent 100) i fields.Percent (record g { num = percent; den = 100 })
 
--- `percent` comes before `ratio`, but both are tested
-unfoldable pub shared_gauge : Option ℕ → Data → Result GaugeData BadField
-shared_gauge i d = do
+-- `percent` overrides `ratio`, but both are tested
+unfoldable pub gauge_with_share : Option ℕ → Data → Result GaugeData BadField
+gauge_with_share i d = do
   ratio ← optional fraction_of i fields.Ratio d
-  shared ← gauge_with_ratio i empty_gauge ratio
+  with_share ← gauge_with_ratio i empty_gauge ratio
   percent ← optional u16_of i fields.Percent d
-  gauge_with_percent i shared percent
+  gauge_with_percent i with_share percent
 
 -- with its block and its style
 unfoldable pub framed_gauge : Option ℕ → Data → Result GaugeData BadField
 framed_gauge i d = do
   block ← optional block_of i fields.Block d
   style ← optional style_of i fields.Style d
-  shared ← shared_gauge i d
-  Ok (record shared { block = option_or block shared.block; style = unwrap_or style no_style })
+  with_share ← gauge_with_share i d
+  Ok (record with_share { block = option_or block with_share.block; style = unwrap_or style no_style })
 
--- with its label and what it is filled with
+-- with its label and its filling
 unfoldable pub filled_gauge : GaugeData → Option ℕ → Data → Result GaugeData BadField
 filled_gauge g i d = do
   label ← optional span_of i fields.Label d
@@ -78,8 +78,8 @@ line_with_ratio i g None = Ok g
 line_with_ratio i g (Some f) = if_holds (is_share f) i fields.Ratio (record g { num = f.num; den = f.den })
 
 -- a line gauge with its share
-unfoldable pub shared_line : Option ℕ → Data → Result LineGaugeData BadField
-shared_line i d = do
+unfoldable pub line_gauge_with_share : Option ℕ → Data → Result LineGaugeData BadField
+line_gauge_with_share i d = do
   ratio ← optional fraction_of i fields.Ratio d
   line_with_ratio i empty_line_gauge ratio
 
@@ -102,11 +102,11 @@ unfoldable pub framed_line : Option ℕ → Data → Result LineGaugeData BadFie
 framed_line i d = do
   block ← optional block_of i fields.Block d
   style ← optional style_of i fields.Style d
-  shared ← shared_line i d
+  with_share ← line_gauge_with_share i d
   label ← optional line_of i fields.Label d
-  Ok (record shared {
-    block = option_or block shared.block;
-    label = option_or label shared.label;
+  Ok (record with_share {
+    block = option_or block with_share.block;
+    label = option_or label with_share.label;
     style = unwrap_or style no_style;
   })
 

@@ -30,7 +30,7 @@ list_with_items i d = do
   items ← required (list_of list_item_of) i fields.Items d
   Ok (record (new_list items) { block = block; style = unwrap_or style no_style })
 
--- with what stands out in the selected item
+-- with the highlight of the selected item
 unfoldable pub marked_list : ListData → Option ℕ → Data → Result ListData BadField
 marked_list l i d = do
   symbol ← optional symbol_of i fields.HighlightSymbol d
@@ -45,8 +45,8 @@ marked_list l i d = do
   })
 
 -- with a direction and a padding
-unfoldable pub turned_list : ListData → Option ℕ → Data → Result ListData BadField
-turned_list l i d = do
+unfoldable pub directed_list : ListData → Option ℕ → Data → Result ListData BadField
+directed_list l i d = do
   direction ← optional (named_of list_directions) i fields.Direction d
   padding ← optional u64_of i fields.ScrollPadding d
   Ok (record l { direction = unwrap_or direction TopToBottom; padding = unwrap_or padding 0 })
@@ -57,11 +57,11 @@ list_state_of i d = do
   selected ← optional u64_of i fields.Selected d
   Ok (record { offset = unwrap_or offset 0; selected = selected })
 
--- a list, and the state that it begins with
+-- a list and its initial state
 unfoldable pub shown_list : Option ℕ → Data → Result (ListData × ListState) BadField
 shown_list i d = do
   with_items ← list_with_items i d
   marked ← marked_list with_items i d
-  turned ← turned_list marked i d
+  directed ← directed_list marked i d
   state ← list_state_of i d
-  Ok (turned, state)
+  Ok (directed, state)

@@ -3,14 +3,14 @@ use Rattle.std.specs.Prelude.{ℕ, [], Option, Result, Ok, unwrap_or}
 use Rattle.std.specs.Option.{option_or}
 use Rattle.serde_json.specs.Data.{Data}
 use Rattle.tui_calendar.specs.CalendarEventStore.{DatedStyles, dated_styles}
-use Rattle.tui_calendar.specs.Monthly.{MonthlyData, monthly_data, weeks_alone}
+use Rattle.tui_calendar.specs.Monthly.{MonthlyData, monthly_data, weeks_only}
 use Rattle.tui_calendar.specs.declared.calendar_event_store.CalendarEventStore.{CalendarEventStore}
 use Rattle.tui_calendar.specs.declared.monthly.Monthly.{Monthly}
 use Rattle.tui_cells.specs.Style.{no_style}
 use Rattle.tui_schema.specs.declared.field.Field.TheVariants as fields
 use Rattle.tui_schema.specs.Kinds.Block.{block_of}
 use Rattle.tui_schema.specs.Kinds.Date.{date_of}
-use Rattle.tui_schema.specs.Kinds.Event.{event_of, with_events}
+use Rattle.tui_schema.specs.Kinds.StyledDate.{event_of, with_events}
 use Rattle.tui_json.specs.Members.{list_of}
 use Rattle.tui_schema.specs.Kinds.Style.{style_of}
 use Rattle.tui_json.specs.Refusals.{◌>>=◌}
@@ -21,17 +21,17 @@ use Rattle.tui_schema.specs.declared.bad_field.BadField.{BadField}
 abbrev pub calendar_data : Monthly CalendarEventStore → DatedStyles × MonthlyData
 calendar_data m = (dated_styles m.events, monthly_data m)
 
--- a month in weeks alone, with its block and the styles of its events
+-- only the weeks of a month, with its block and the styles of its events
 unfoldable pub month_with_events : Option ℕ → Data → Result (DatedStyles × MonthlyData) BadField
 month_with_events i d = do
   block ← optional block_of i fields.Block d
   date ← required date_of i fields.Date d
   events ← optional (list_of event_of) i fields.Events d
-  Ok (with_events [] (unwrap_or events []), record (weeks_alone date) { block = block })
+  Ok (with_events [] (unwrap_or events []), record (weeks_only date) { block = block })
 
--- with its headers and the days around it, where they are shown, and with the style of its days
-unfoldable pub dressed_month : DatedStyles × MonthlyData → Option ℕ → Data → Result (DatedStyles × MonthlyData) BadField
-dressed_month m i d = do
+-- with its headers and the days around it, if they are shown, and with the style of its days
+unfoldable pub styled_month : DatedStyles × MonthlyData → Option ℕ → Data → Result (DatedStyles × MonthlyData) BadField
+styled_month m i d = do
   surrounding ← optional style_of i fields.ShowSurrounding d
   month_header ← optional style_of i fields.ShowMonthHeader d
   weekdays_header ← optional style_of i fields.ShowWeekdaysHeader d
@@ -50,4 +50,4 @@ dressed_month m i d = do
 unfoldable pub shown_monthly : Option ℕ → Data → Result (DatedStyles × MonthlyData) BadField
 shown_monthly i d = do
   month ← month_with_events i d
-  dressed_month month i d
+  styled_month month i d

@@ -1,4 +1,4 @@
--- The names of widgets. A name that is not here is refused.
+-- The names of widgets. Any other name is rejected.
 use Rattle.std.specs.Prelude.{ℕ, List, [], ◌∷◌, Option, option_and_then, codes}
 use Rattle.serde_json.specs.Data.{Data}
 use Rattle.serde_json.specs.Find.{as_str}

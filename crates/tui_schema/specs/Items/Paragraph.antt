@@ -20,7 +20,7 @@ use Rattle.tui_json.specs.Refusals.{◌>>=◌}
 use Rattle.tui_schema.specs.Refusals.{required, optional}
 use Rattle.tui_schema.specs.declared.bad_field.BadField.{BadField}
 
--- a paragraph with these fields: what is not given is as in a new paragraph of the text; `scroll` is (y, x)
+-- a paragraph with these fields; a field that is not given is as in a new paragraph of the text; `scroll` is (y, x)
 abbrev pub paragraph_with : TextData → Option Style → Option Wrap → Option (ℕ × ℕ) → Option Alignment → ParagraphData
 paragraph_with text style wrap scroll alignment =
     let new = new_paragraph text in

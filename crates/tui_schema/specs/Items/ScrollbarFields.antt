@@ -17,9 +17,9 @@ use Rattle.tui_json.specs.Refusals.{◌>>=◌}
 use Rattle.tui_schema.specs.Refusals.{given, optional}
 use Rattle.tui_schema.specs.declared.bad_field.BadField.{BadField}
 
--- with its symbols; null for one that may be left out leaves it out
-unfoldable pub signed_scrollbar : ScrollbarData → Option ℕ → Data → Result ScrollbarData BadField
-signed_scrollbar s i d = do
+-- with its symbols; null for an optional one leaves it out
+unfoldable pub scrollbar_with_symbols : ScrollbarData → Option ℕ → Data → Result ScrollbarData BadField
+scrollbar_with_symbols s i d = do
   thumb ← optional symbol_of i fields.ThumbSymbol d
   track ← given (or_null symbol_of) i fields.TrackSymbol d
   begin ← given (or_null symbol_of) i fields.BeginSymbol d
@@ -36,8 +36,8 @@ abbrev pub in_style : Style → ScrollbarData → ScrollbarData
 in_style style s = record s { thumb_style = style; track_style = style; begin_style = style; end_style = style }
 
 -- with the styles of single parts
-unfoldable pub dressed_scrollbar : ScrollbarData → Option ℕ → Data → Result ScrollbarData BadField
-dressed_scrollbar s i d = do
+unfoldable pub styled_scrollbar : ScrollbarData → Option ℕ → Data → Result ScrollbarData BadField
+styled_scrollbar s i d = do
   thumb ← optional style_of i fields.ThumbStyle d
   track ← optional style_of i fields.TrackStyle d
   begin ← optional style_of i fields.BeginStyle d
@@ -60,12 +60,12 @@ scrollbar_state_of i d = do
     viewport_content_length = unwrap_or viewport 0;
   })
 
--- a scrollbar, and what it shows
+-- a scrollbar and its state
 unfoldable pub shown_scrollbar : Option ℕ → Data → Result (ScrollbarData × ScrollbarState) BadField
 shown_scrollbar i d = do
   style ← optional style_of i fields.Style d
   orientation ← optional (named_of orientations) i fields.Orientation d
-  signed ← signed_scrollbar (in_style (unwrap_or style no_style) (new_scrollbar (unwrap_or orientation VerticalRight))) i d
-  dressed ← dressed_scrollbar signed i d
+  with_symbols ← scrollbar_with_symbols (in_style (unwrap_or style no_style) (new_scrollbar (unwrap_or orientation VerticalRight))) i d
+  styled ← styled_scrollbar with_symbols i d
   state ← scrollbar_state_of i d
-  Ok (dressed, state)
+  Ok (styled, state)

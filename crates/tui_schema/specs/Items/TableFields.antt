@@ -8,7 +8,7 @@ use Rattle.tui_layout.specs.declared.flex.Flex.TheVariants.{Start}
 use Rattle.tui_layout.specs.declared.highlight_spacing.HighlightSpacing.TheVariants.{WhenSelected}
 use Rattle.tui_table.specs.Row.{RowData}
 use Rattle.tui_table.specs.Table.{TableData, table_of as new_table}
-use Rattle.tui_table.specs.Widths.{first_above}
+use Rattle.tui_table.specs.Widths.{first_above_100}
 use Rattle.tui_table.specs.declared.state.TableState.{TableState}
 use Rattle.tui_text.specs.Text.{raw_text}
 use Rattle.tui_schema.specs.declared.field.Field.TheVariants as fields
@@ -25,14 +25,14 @@ use Rattle.tui_json.specs.Refusals.{◌>>=◌}
 use Rattle.tui_schema.specs.Refusals.{required, optional}
 use Rattle.tui_schema.specs.declared.bad_field.BadField.{BadField}
 
--- a table, unless a place has a percentage above 100
+-- a table, unless the width with some index is a percentage above 100
 abbrev pub unless_above : Option ℕ → Option ℕ → TableData → Result TableData BadField
 unless_above i (Some place) t = Err (record { item = i; field = fields.Widths })
 unless_above i None t = Ok t
 
 -- rows in columns of these widths
 abbrev pub in_widths : Option ℕ → List RowData → List Constraint → Result TableData BadField
-in_widths i rows widths = unless_above i (first_above widths) (new_table rows widths)
+in_widths i rows widths = unless_above i (first_above_100 widths) (new_table rows widths)
 
 -- with a header and a footer
 abbrev pub with_edges : Option ℕ → List RowData → Option RowData → Option RowData → List Constraint → Result TableData BadField
@@ -61,7 +61,7 @@ framed_table i d = do
   table ← table_with_rows i d
   Ok (record table { block = option_or block table.block; style = unwrap_or style no_style })
 
--- with what stands out in the selected row and column
+-- with the column spacing, and the highlight of the selected row, column and cell
 unfoldable pub marked_table : TableData → Option ℕ → Data → Result TableData BadField
 marked_table t i d = do
   spacing ← optional u16_of i fields.ColumnSpacing d
@@ -75,7 +75,7 @@ marked_table t i d = do
     cell_style = unwrap_or cell_style no_style;
   })
 
--- with the symbol beside the selected row, and with the columns' places
+-- with the symbol beside the selected row, and with the placement of the columns
 unfoldable pub placed_table : TableData → Option ℕ → Data → Result TableData BadField
 placed_table t i d = do
   symbol ← optional symbol_of i fields.HighlightSymbol d
@@ -94,7 +94,7 @@ table_state_of i d = do
   column ← optional u64_of i fields.SelectedColumn d
   Ok (record { offset = unwrap_or offset 0; selected = selected; selected_column = column })
 
--- a table, and the state that it begins with
+-- a table and its initial state
 unfoldable pub shown_table : Option ℕ → Data → Result (TableData × TableState) BadField
 shown_table i d = do
   framed ← framed_table i d

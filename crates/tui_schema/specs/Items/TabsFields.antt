@@ -32,7 +32,7 @@ marked_tabs t i d = do
   style ← optional style_of i fields.HighlightStyle d
   Ok (record t { selected = unwrap_or selected t.selected; highlight_style = unwrap_or style reversed })
 
--- with what stands beside the titles
+-- with what is beside the titles
 unfoldable pub spaced_tabs : TabsData → Option ℕ → Data → Result TabsData BadField
 spaced_tabs t i d = do
   divider ← optional symbol_of i fields.Divider d

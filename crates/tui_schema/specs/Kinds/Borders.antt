@@ -7,7 +7,7 @@ use Rattle.tui_frames.specs.declared.borders.Borders.{Borders}
 use Rattle.tui_json.specs.Members.{◌>>=◌, named}
 use Rattle.tui_schema.specs.Kinds.Joined.{joined_of}
 
--- the sides with the bits that stand for them
+-- the sides and their bits
 abbrev pub side_names : List (List ℕ × ℕ)
 side_names = (codes "top", 1) ∷ (codes "right", 2) ∷ (codes "bottom", 4) ∷ (codes "left", 8) ∷ []
 

@@ -1,4 +1,4 @@
--- Colours: a name, `#` and six hexadecimal digits, or a place in the palette.
+-- Colours: a name, `#` and six hexadecimal digits, or an index of the palette.
 use Rattle.std.specs.Prelude.{ℕ, List, [], ◌∷◌, map, ◌+◌, ◌*◌, ◌-◌, ◌==◌, ◌&&◌, nat_le, nat_lt, if◌then◌else◌, Option, Some, None, option_and_then}
 use Rattle.std.specs.Option.{option_or}
 use Rattle.serde_json.specs.Data.{Data, number, string}
@@ -15,7 +15,7 @@ named_colors =
     ∷ colors.Gray ∷ colors.DarkGray ∷ colors.LightRed ∷ colors.LightGreen ∷ colors.LightYellow ∷ colors.LightBlue
     ∷ colors.LightMagenta ∷ colors.LightCyan ∷ colors.White ∷ []
 
--- the colour that is printed by this name
+-- the colour with this name, as `color_text` prints it
 unfoldable pub color_named : List ℕ → Option Color
 color_named s = named (map (λ color. (color_text color, color)) named_colors) s
 
@@ -42,11 +42,11 @@ color_of_hex (mark ∷ r ∷ r' ∷ g ∷ g' ∷ b ∷ b' ∷ []) = if mark == 3
   Some (colors.Rgb red green blue)) else None
 color_of_hex _ = None
 
--- a colour by its place in the palette
+-- a colour by its index in the palette
 abbrev pub indexed : ℕ → Option Color
 indexed n = if nat_lt n 256 then Some (colors.Indexed n) else None
 
--- a colour by a text or by a number
+-- a colour by a string or by a number
 unfoldable pub color_of : Data → Option Color
 color_of (string s) = option_or (color_named s) (color_of_hex s)
 color_of (number n) = option_and_then indexed (as_u64 n)

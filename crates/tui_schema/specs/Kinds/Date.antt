@@ -7,7 +7,7 @@ use Rattle.tui_calendar.specs.Month.{DateData, date_of as date_with}
 use Rattle.tui_json.specs.Members.{◌>>=◌}
 use Rattle.tui_json.specs.Number.{i16_of, i8_of}
 
--- whether a number lies in a range, both ends in it
+-- whether a number is in a range, with both its ends
 abbrev pub is_between : ℤ → ℤ → ℤ → Bool
 is_between low high n = int_le low n && int_le n high
 

@@ -1,4 +1,4 @@
--- Lines: a text, an array of spans, or an object with `spans` and perhaps `style` and `alignment`.
+-- Lines: a string, an array of spans, or an object with `spans` and optionally `style` and `alignment`.
 use Rattle.std.specs.Prelude.{Option, Some, unwrap_or, codes}
 use Rattle.serde_json.specs.Data.{Data, string, array}
 use Rattle.tui_cells.specs.Style.{no_style}
@@ -9,13 +9,17 @@ use Rattle.tui_schema.specs.Kinds.Names.{alignments}
 use Rattle.tui_schema.specs.Kinds.Span.{span_of}
 use Rattle.tui_schema.specs.Kinds.Style.{style_of}
 
+-- an object with `spans`
+unfoldable pub line_with_spans : Data → Option LineData
+line_with_spans d = do
+  spans ← member (list_of span_of) (codes "spans") d
+  style ← optional_member style_of (codes "style") d
+  alignment ← optional_member (named_of alignments) (codes "alignment") d
+  Some (record { spans = spans; style = unwrap_or style no_style; alignment = alignment })
+
 unfoldable pub line_of : Data → Option LineData
 line_of (string s) = Some (raw_line s)
 line_of (array ds) = do
   spans ← list_of span_of (array ds)
   Some (record empty_line { spans = spans })
-line_of d = do
-  spans ← member (list_of span_of) (codes "spans") d
-  style ← optional_member style_of (codes "style") d
-  alignment ← optional_member (named_of alignments) (codes "alignment") d
-  Some (record { spans = spans; style = unwrap_or style no_style; alignment = alignment })
+line_of d = line_with_spans d

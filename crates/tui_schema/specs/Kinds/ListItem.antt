@@ -1,4 +1,4 @@
--- Items of a list: an object with `text` and perhaps `style`, or else a text.
+-- Items of a list: an object with `text` and optionally `style`, or else text.
 use Rattle.std.specs.Prelude.{Option, None, Some, unwrap_or, codes}
 use Rattle.serde_json.specs.Data.{Data}
 use Rattle.serde_json.specs.Find.{get}

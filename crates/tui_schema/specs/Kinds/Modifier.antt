@@ -7,7 +7,7 @@ use Rattle.tui_cells.specs.Style.{both_modifiers, no_modifier}
 use Rattle.tui_json.specs.Members.{◌>>=◌, named}
 use Rattle.tui_schema.specs.Kinds.Joined.{joined_of}
 
--- the names with the bits that stand for them
+-- the names and their bits
 abbrev pub modifier_names : List (List ℕ × ℕ)
 modifier_names =
     (codes "bold", 1) ∷ (codes "dim", 2) ∷ (codes "italic", 4) ∷ (codes "underlined", 8) ∷ (codes "slow_blink", 16)

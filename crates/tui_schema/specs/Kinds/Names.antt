@@ -23,7 +23,7 @@ use Rattle.tui_text.specs.declared.alignment.Alignment.{Alignment}
 use Rattle.tui_text.specs.declared.alignment.Alignment.TheVariants.{Left, Center, Right}
 use Rattle.tui_json.specs.Named.{Names}
 
--- the names of the alignments: all of them, and none is left out; so are those below
+-- the names of all alignments; the same for the enums below
 abbrev pub alignments : Names Alignment
 alignments = record {
   name = alignment.name_of;

@@ -1,4 +1,4 @@
--- Shadows: an object with `effect` and perhaps `symbol`, `style` and `offset`.
+-- Shadows: an object with `effect` and optionally `symbol`, `style` and `offset`.
 use Rattle.std.specs.Prelude.{ℕ, pos, List, [], ◌∷◌, if◌then◌else◌, Option, Some, unwrap_or, codes}
 use Rattle.std.specs.Str.{bytes_eq}
 use Rattle.serde_json.specs.Data.{Data}
@@ -11,13 +11,13 @@ use Rattle.tui_json.specs.Number.{i32_of}
 use Rattle.tui_schema.specs.Kinds.Style.{style_of}
 use Rattle.tui_schema.specs.Kinds.Symbol.{symbol_of}
 
--- the effects that have a name; `symbol` has its symbol beside it
+-- the effects that need only a name
 abbrev pub effect_names : List (List ℕ × KindData)
 effect_names =
     (codes "overlay", overlay) ∷ (codes "dimmed", dimmed) ∷ (codes "block", symbol (utf8 "█")) ∷ (codes "light_shade", symbol (utf8 "░"))
     ∷ (codes "medium_shade", symbol (utf8 "▒")) ∷ (codes "dark_shade", symbol (utf8 "▓")) ∷ []
 
--- an effect by its name; a symbol has a member of its own
+-- an effect by its name; the effect `symbol` needs the member `symbol` too
 abbrev pub effect_by : List ℕ → Data → Option KindData
 effect_by name d =
     if bytes_eq name (codes "symbol") then (do

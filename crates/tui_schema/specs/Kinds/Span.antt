@@ -1,4 +1,4 @@
--- Spans: a text, or an object with `text` and perhaps `style`.
+-- Spans: a string, or an object with `text` and optionally `style`.
 use Rattle.std.specs.Prelude.{Option, Some, unwrap_or, codes}
 use Rattle.serde_json.specs.Data.{Data, string}
 use Rattle.serde_json.specs.Find.{as_str}
@@ -7,9 +7,13 @@ use Rattle.tui_text.specs.Span.{SpanData, raw_span}
 use Rattle.tui_json.specs.Members.{◌>>=◌, member, optional_member}
 use Rattle.tui_schema.specs.Kinds.Style.{style_of}
 
-unfoldable pub span_of : Data → Option SpanData
-span_of (string s) = Some (raw_span s)
-span_of d = do
+-- an object with `text`
+unfoldable pub span_with_text : Data → Option SpanData
+span_with_text d = do
   content ← member as_str (codes "text") d
   style ← optional_member style_of (codes "style") d
   Some (record { content = content; style = unwrap_or style no_style })
+
+unfoldable pub span_of : Data → Option SpanData
+span_of (string s) = Some (raw_span s)
+span_of d = span_with_text d

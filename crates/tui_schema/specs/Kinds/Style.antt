@@ -10,14 +10,14 @@ use Rattle.tui_json.specs.Members.{◌>>=◌, optional_member}
 use Rattle.tui_schema.specs.Kinds.Color.{color_of}
 use Rattle.tui_schema.specs.Kinds.Modifier.{modifiers_of}
 
--- no modifier where none is given
+-- no modifier if none is given
 abbrev pub modifiers_or_none : Option Modifier → Modifier
 modifiers_or_none None = no_modifier
 modifiers_or_none (Some modifiers) = modifiers
 
--- colours with modifiers that are added first and then removed, so that what is in both lists is removed
-abbrev pub dressed : Option Color → Option Color → Modifier → Modifier → Style
-dressed fg bg added removed = record { fg = fg; bg = bg; add_modifier = other_modifiers added removed; sub_modifier = removed }
+-- colours with modifiers that are added first and then removed; what is in both lists is removed
+abbrev pub styled : Option Color → Option Color → Modifier → Modifier → Style
+styled fg bg added removed = record { fg = fg; bg = bg; add_modifier = other_modifiers added removed; sub_modifier = removed }
 
 unfoldable pub style_of : Data → Option Style
 style_of d = do
@@ -26,4 +26,4 @@ style_of d = do
   bg ← optional_member color_of (codes "bg") d
   add ← optional_member modifiers_of (codes "add") d
   sub ← optional_member modifiers_of (codes "sub") d
-  Some (dressed fg bg (modifiers_or_none add) (modifiers_or_none sub))
+  Some (styled fg bg (modifiers_or_none add) (modifiers_or_none sub))

@@ -1,4 +1,4 @@
--- Cells of a table, an object with `text` or else a text; and its rows, an array of cells or an object with `cells`.
+-- Cells of a table: an object with `text`, or else text. Rows of a table: an array of cells, or an object with `cells`.
 use Rattle.std.specs.Prelude.{Option, None, Some, unwrap_or, codes}
 use Rattle.serde_json.specs.Data.{Data, array}
 use Rattle.serde_json.specs.Find.{get}

@@ -1,4 +1,4 @@
--- Titles: an object with `line` and perhaps `position`, or else a line.
+-- Titles: an object with `line` and optionally `position`, or else a line.
 use Rattle.std.specs.Prelude.{Option, None, Some, codes}
 use Rattle.serde_json.specs.Data.{Data}
 use Rattle.serde_json.specs.Find.{get}

@@ -1,4 +1,4 @@
--- How lines are broken: an object with the member `trim`, and maybe `hyphens`.
+-- How lines are wrapped: an object with the member `trim`, and optionally `hyphens`.
 use Rattle.std.specs.Prelude.{Option, Some, codes, unwrap_or, false}
 use Rattle.serde_json.specs.Data.{Data}
 use Rattle.serde_json.specs.Find.{as_bool}

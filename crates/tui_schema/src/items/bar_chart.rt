@@ -6,7 +6,7 @@ ghost use Rattle.tui_bars.specs.BarChart.{bar_chart_data, chart_of, group_data, 
 ghost use Rattle.tui_cells.specs.Symbols.{bar_data as symbols_of};
 ghost use Rattle.tui_frames.specs.Block.{block_data};
 ghost use Rattle.tui_layout.specs.declared.direction.Direction.TheVariants.{Vertical};
-ghost use Rattle.tui_schema.specs.Items.ChartFields.{chart_with_groups, dressed_chart, shown_chart, spaced_chart};
+ghost use Rattle.tui_schema.specs.Items.ChartFields.{chart_with_groups, styled_chart, shown_chart, spaced_chart};
 ghost use Rattle.tui_json.specs.Refusals.{Gives};
 
 use crate::bad_field::BadField;
@@ -19,7 +19,7 @@ use tui_frames::Block;
 use tui_json::{InputError, optional, optional_named, required};
 use tui_layout::Direction;
 
-/// A chart of groups in a block, with a style and a greatest value.
+/// Returns a chart of groups in a block, with a style and a maximum.
 fn framed<'v>(
     groups: Vec<BarGroup<'v>>,
     block: Option<Block<'v>>,
@@ -59,7 +59,7 @@ fn read_groups<'v>(
     Ok(framed(groups, block, style, max))
 }
 
-/// A chart with bars of a width and gaps between them, and with symbols, where they are given.
+/// Returns the chart with a width of its bars and gaps between them, and with symbols, if they are given.
 fn spaced<'v>(
     chart: BarChart<'v>,
     width: u16,
@@ -99,8 +99,8 @@ fn read_space<'v>(
     Ok(spaced(chart, width, gap, group_gap.unwrap_or(0), symbols))
 }
 
-/// A chart with these styles of its bars, values and labels.
-fn dressed<'v>(
+/// Returns the chart with these styles of its bars, values and labels, and with a direction.
+fn styled<'v>(
     chart: BarChart<'v>,
     bar: Style,
     number: Style,
@@ -121,14 +121,14 @@ fn dressed<'v>(
         .direction(direction)
 }
 
-#[tactic(auto, unfolding(crate::specs::Items::ChartFields::dressed_chart))]
+#[tactic(auto, unfolding(crate::specs::Items::ChartFields::styled_chart))]
 fn read_styles<'v>(
     alloc: Global,
     chart: BarChart<'v>,
     item: Option<usize>,
     value: &'v Value,
 ) -> Result<BarChart<'v>, InputError<BadField>>
-    ensures { Gives bar_chart_data result (dressed_chart (bar_chart_data chart.entry) item (view value.now)) }
+    ensures { Gives bar_chart_data result (styled_chart (bar_chart_data chart.entry) item (view value.now)) }
 {
     let bar: Option<Style> = optional(alloc, item, Field::BarStyle, value)?;
     let number: Option<Style> = optional(alloc, item, Field::ValueStyle, value)?;
@@ -138,7 +138,7 @@ fn read_styles<'v>(
     let number = number.unwrap_or(Style::new());
     let label = label.unwrap_or(Style::new());
     let direction = direction.unwrap_or(Direction::Vertical);
-    Ok(dressed(chart, bar, number, label, direction))
+    Ok(styled(chart, bar, number, label, direction))
 }
 
 #[tactic(auto, unfolding(crate::specs::Items::ChartFields::shown_chart))]

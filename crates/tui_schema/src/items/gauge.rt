@@ -10,7 +10,7 @@ ghost use Rattle.tui_schema.specs.Items.GaugeFields.{
   framed_gauge,
   gauge_with_percent,
   gauge_with_ratio,
-  shared_gauge,
+  gauge_with_share,
   shown_gauge,
 };
 ghost use Rattle.tui_json.specs.Refusals.{Gives};
@@ -59,14 +59,14 @@ fn with_percent<'v>(
     }
 }
 
-/// A gauge of its share, which `percent` says, or else `ratio`.
-#[tactic(auto, unfolding(crate::specs::Items::GaugeFields::shared_gauge))]
+/// Reads the share of a gauge: `percent` if it is there, or else `ratio`.
+#[tactic(auto, unfolding(crate::specs::Items::GaugeFields::gauge_with_share))]
 fn read_share<'v>(
     alloc: Global,
     item: Option<usize>,
     value: &'v Value,
 ) -> Result<Gauge<'v>, InputError<BadField>>
-    ensures { Gives gauge_data result (shared_gauge item (view value.now)) }
+    ensures { Gives gauge_data result (gauge_with_share item (view value.now)) }
 {
     let ratio: Option<Fraction> = optional(alloc, item, Field::Ratio, value)?;
     let gauge = with_ratio(item, Gauge::default(), ratio)?;

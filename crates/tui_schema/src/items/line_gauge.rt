@@ -5,7 +5,7 @@ ghost use Rattle.std.specs.Option.{option_or};
 ghost use Rattle.serde_json.specs.View.{view};
 ghost use Rattle.tui_bars.specs.LineGauge.{line_gauge_data};
 ghost use Rattle.tui_frames.specs.Block.{block_data};
-ghost use Rattle.tui_schema.specs.Items.GaugeFields.{drawn_line, framed_line, line_with_ratio, shared_line, shown_line_gauge};
+ghost use Rattle.tui_schema.specs.Items.GaugeFields.{drawn_line, framed_line, line_with_ratio, line_gauge_with_share, shown_line_gauge};
 ghost use Rattle.tui_json.specs.Refusals.{Gives};
 ghost use Rattle.tui_text.specs.Line.{line_data};
 
@@ -37,19 +37,19 @@ fn with_ratio<'v>(
     }
 }
 
-#[tactic(auto, unfolding(crate::specs::Items::GaugeFields::shared_line))]
+#[tactic(auto, unfolding(crate::specs::Items::GaugeFields::line_gauge_with_share))]
 fn read_share<'v>(
     alloc: Global,
     item: Option<usize>,
     value: &'v Value,
 ) -> Result<LineGauge<'v>, InputError<BadField>>
-    ensures { Gives line_gauge_data result (shared_line item (view value.now)) }
+    ensures { Gives line_gauge_data result (line_gauge_with_share item (view value.now)) }
 {
     let ratio: Option<Fraction> = optional(alloc, item, Field::Ratio, value)?;
     with_ratio(item, LineGauge::default(), ratio)
 }
 
-/// A line gauge in a block, and with a label.
+/// Returns the line gauge with a block and a label, if they are given.
 fn framed<'v>(
     gauge: LineGauge<'v>,
     block: Option<Block<'v>>,
@@ -85,7 +85,7 @@ fn read_frame<'v>(
     Ok(framed(gauge, block, label).style(style.unwrap_or(Style::new())))
 }
 
-/// A line gauge with these symbols, where they are given.
+/// Returns the line gauge with these symbols, if they are given.
 fn with_symbols<'v>(
     gauge: LineGauge<'v>,
     filled: Option<Symbol<'v>>,

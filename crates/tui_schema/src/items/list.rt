@@ -5,7 +5,7 @@ ghost use Rattle.serde_json.specs.View.{view};
 ghost use Rattle.tui_frames.specs.Block.{block_data};
 ghost use Rattle.tui_cells.specs.Style.{no_style};
 ghost use Rattle.tui_lists.specs.List.{list_data};
-ghost use Rattle.tui_schema.specs.Items.ListFields.{list_state_of, list_with_items, marked_list, shown_list, turned_list};
+ghost use Rattle.tui_schema.specs.Items.ListFields.{list_state_of, list_with_items, marked_list, shown_list, directed_list};
 ghost use Rattle.tui_json.specs.Refusals.{Gives};
 ghost use Rattle.std.specs.Option.{option_or};
 ghost use Rattle.tui_text.specs.Line.{raw_line};
@@ -44,7 +44,7 @@ fn with_symbol<'v>(alloc: Global, list: List<'v>, symbol: Option<Symbol<'v>>) ->
     }
 }
 
-/// A list of its items, with its block and its style.
+/// Reads a list of items, with its block and its style.
 #[tactic(auto, unfolding(crate::specs::Items::ListFields::list_with_items))]
 fn read_items<'v>(
     alloc: Global,
@@ -60,7 +60,7 @@ fn read_items<'v>(
     Ok(in_block(list, block).style(style.unwrap_or(Style::new())))
 }
 
-/// The list with this in its selected item, where it is given.
+/// Returns the list with this highlight of its selected item, as far as it is given.
 fn marked<'v>(
     alloc: Global,
     list: List<'v>,
@@ -84,7 +84,7 @@ fn marked<'v>(
     )
 }
 
-/// The list with what stands out in its selected item.
+/// Reads the highlight of the selected item.
 #[tactic(auto, unfolding(crate::specs::Items::ListFields::marked_list))]
 fn read_marks<'v>(
     alloc: Global,
@@ -106,15 +106,15 @@ fn read_marks<'v>(
     Ok(marked(alloc, list, symbol, style, repeats, spacing)?)
 }
 
-/// The list with its direction and its padding.
-#[tactic(auto, unfolding(crate::specs::Items::ListFields::turned_list))]
-fn read_turn<'v>(
+/// Reads the direction and the scroll padding of the list.
+#[tactic(auto, unfolding(crate::specs::Items::ListFields::directed_list))]
+fn read_direction<'v>(
     alloc: Global,
     list: List<'v>,
     item: Option<usize>,
     value: &'v Value,
 ) -> Result<List<'v>, InputError<BadField>>
-    ensures { Gives list_data result (turned_list (list_data list.entry) item (view value.now)) }
+    ensures { Gives list_data result (directed_list (list_data list.entry) item (view value.now)) }
 {
     let direction: Option<ListDirection> = optional_named(alloc, item, Field::Direction, value)?;
     let padding: Option<u64> = optional(alloc, item, Field::ScrollPadding, value)?;
@@ -141,7 +141,7 @@ fn read_state<'v>(
     )
 }
 
-/// The list and the state that it begins with.
+/// Reads a list and its initial state.
 #[tactic(auto, unfolding(crate::specs::Items::ListFields::shown_list))]
 pub(crate) fn read_list<'v>(
     alloc: Global,
@@ -152,6 +152,6 @@ pub(crate) fn read_list<'v>(
 {
     let list = read_items(alloc, item, value)?;
     let list = read_marks(alloc, list, item, value)?;
-    let list = read_turn(alloc, list, item, value)?;
+    let list = read_direction(alloc, list, item, value)?;
     Ok((list, read_state(alloc, item, value)?))
 }

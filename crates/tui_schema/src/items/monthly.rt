@@ -6,13 +6,13 @@ ghost use Rattle.serde_json.specs.View.{view};
 ghost use Rattle.tui_calendar.specs.CalendarEventStore.{dated_styles};
 ghost use Rattle.tui_calendar.specs.Monthly.{monthly_data};
 ghost use Rattle.tui_frames.specs.Block.{block_data};
-ghost use Rattle.tui_schema.specs.Items.MonthlyFields.{calendar_data, dressed_month, month_with_events, shown_monthly};
-ghost use Rattle.tui_schema.specs.Kinds.Event.{event_data, with_events};
+ghost use Rattle.tui_schema.specs.Items.MonthlyFields.{calendar_data, styled_month, month_with_events, shown_monthly};
+ghost use Rattle.tui_schema.specs.Kinds.StyledDate.{event_data, with_events};
 ghost use Rattle.tui_json.specs.Refusals.{Gives};
 
 use crate::bad_field::BadField;
 use crate::field::Field;
-use crate::kinds::Event;
+use crate::kinds::StyledDate;
 use jiff::civil::Date;
 use serde_json::Value;
 use std::alloc::Global;
@@ -21,11 +21,11 @@ use tui_cells::{Mem, Style};
 use tui_frames::Block;
 use tui_json::{InputError, optional, required};
 
-/// A month by the styles that a store keeps.
+/// A month whose event styles are in a store.
 type Calendar<'v> = Monthly<'v, CalendarEventStore>;
 
-/// A store of the events, a later one in place of an earlier one of its day.
-fn stored(alloc: Global, events: &[Event]) -> Mem<CalendarEventStore>
+/// Returns a store of the events. If several have the same day, the last one counts.
+fn stored(alloc: Global, events: &[StyledDate]) -> Mem<CalendarEventStore>
     ensures { IfOk result (λ store. dated_styles store ≡ with_events [] (map event_data events.now)) }
 {
     let mut store = CalendarEventStore::new(alloc);
@@ -47,7 +47,7 @@ fn in_block<'v>(month: Calendar<'v>, block: Option<Block<'v>>) -> Calendar<'v>
     }
 }
 
-/// A month with its events, in its block.
+/// Reads a month with its events and its block.
 #[tactic(auto, unfolding(crate::specs::Items::MonthlyFields::month_with_events))]
 fn read_month<'v>(
     alloc: Global,
@@ -58,13 +58,13 @@ fn read_month<'v>(
 {
     let block: Option<Block<'v>> = optional(alloc, item, Field::Block, value)?;
     let date: Date = required(alloc, item, Field::Date, value)?;
-    let events: Option<Vec<Event>> = optional(alloc, item, Field::Events, value)?;
+    let events: Option<Vec<StyledDate>> = optional(alloc, item, Field::Events, value)?;
     let store = stored(alloc, events.unwrap_or(Vec::new(alloc)).as_slice())?;
     Ok(in_block(Monthly::new(date, store), block))
 }
 
-/// The month with these headers and days around it, where they are shown.
-fn showing<'v>(
+/// Returns the month with these headers and with the days around it, as far as they are shown.
+fn with_headers<'v>(
     month: Calendar<'v>,
     surrounding: Option<Style>,
     month_header: Option<Style>,
@@ -91,21 +91,21 @@ fn showing<'v>(
     }
 }
 
-/// A month with the styles of its days and headers.
-#[tactic(auto, unfolding(crate::specs::Items::MonthlyFields::dressed_month))]
-fn read_dress<'v>(
+/// Reads the styles of the days and the headers.
+#[tactic(auto, unfolding(crate::specs::Items::MonthlyFields::styled_month))]
+fn read_styles<'v>(
     alloc: Global,
     month: Calendar<'v>,
     item: Option<usize>,
     value: &'v Value,
 ) -> Result<Calendar<'v>, InputError<BadField>>
-    ensures { Gives calendar_data result (dressed_month (calendar_data month.entry) item (view value.now)) }
+    ensures { Gives calendar_data result (styled_month (calendar_data month.entry) item (view value.now)) }
 {
     let around: Option<Style> = optional(alloc, item, Field::ShowSurrounding, value)?;
     let header: Option<Style> = optional(alloc, item, Field::ShowMonthHeader, value)?;
     let weekdays: Option<Style> = optional(alloc, item, Field::ShowWeekdaysHeader, value)?;
     let style: Option<Style> = optional(alloc, item, Field::DefaultStyle, value)?;
-    Ok(showing(month, around, header, weekdays).default_style(style.unwrap_or(Style::new())))
+    Ok(with_headers(month, around, header, weekdays).default_style(style.unwrap_or(Style::new())))
 }
 
 #[tactic(auto, unfolding(crate::specs::Items::MonthlyFields::shown_monthly))]
@@ -117,5 +117,5 @@ pub(crate) fn read_monthly<'v>(
     ensures { Gives calendar_data result (shown_monthly item (view value.now)) }
 {
     let month = read_month(alloc, item, value)?;
-    read_dress(alloc, month, item, value)
+    read_styles(alloc, month, item, value)
 }

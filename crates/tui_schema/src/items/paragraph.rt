@@ -18,7 +18,7 @@ use tui_json::{InputError, optional, optional_named, required};
 use tui_para::{Paragraph, Wrap};
 use tui_text::{Alignment, Text};
 
-/// A paragraph with these fields, and the defaults of `Paragraph::new` for the others.
+/// Returns a paragraph with these fields, and with the defaults of `Paragraph::new` for the others.
 fn paragraph_with<'v>(
     text: Text<'v>,
     style: Option<Style>,

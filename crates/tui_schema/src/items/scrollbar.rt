@@ -3,7 +3,7 @@
 ghost use Rattle.std.specs.Prelude.{◌≡◌, option_map, unwrap_or};
 ghost use Rattle.serde_json.specs.View.{view};
 ghost use Rattle.tui_lists.specs.Scrollbar.{scrollbar_data};
-ghost use Rattle.tui_schema.specs.Items.ScrollbarFields.{dressed_scrollbar, scrollbar_state_of, shown_scrollbar, signed_scrollbar};
+ghost use Rattle.tui_schema.specs.Items.ScrollbarFields.{styled_scrollbar, scrollbar_state_of, shown_scrollbar, scrollbar_with_symbols};
 ghost use Rattle.tui_json.specs.Refusals.{Gives};
 
 use crate::bad_field::BadField;
@@ -62,14 +62,14 @@ fn with_end<'v>(bar: Scrollbar<'v>, symbol: Option<Option<Symbol<'v>>>) -> Scrol
     }
 }
 
-#[tactic(auto, unfolding(crate::specs::Items::ScrollbarFields::signed_scrollbar))]
+#[tactic(auto, unfolding(crate::specs::Items::ScrollbarFields::scrollbar_with_symbols))]
 fn read_symbols<'v>(
     alloc: Global,
     bar: Scrollbar<'v>,
     item: Option<usize>,
     value: &'v Value,
 ) -> Result<Scrollbar<'v>, InputError<BadField>>
-    ensures { Gives scrollbar_data result (signed_scrollbar (scrollbar_data bar.entry) item (view value.now)) }
+    ensures { Gives scrollbar_data result (scrollbar_with_symbols (scrollbar_data bar.entry) item (view value.now)) }
 {
     let thumb: Option<Symbol<'v>> = optional(alloc, item, Field::ThumbSymbol, value)?;
     let track: Option<Option<Symbol<'v>>> = given(alloc, item, Field::TrackSymbol, value)?;
@@ -79,8 +79,8 @@ fn read_symbols<'v>(
     Ok(with_end(with_begin(bar, begin), end))
 }
 
-/// A scrollbar with these styles, where they are given.
-fn dressed<'v>(
+/// Returns the scrollbar with these styles, if they are given.
+fn styled<'v>(
     bar: Scrollbar<'v>,
     thumb: Option<Style>,
     track: Option<Style>,
@@ -112,20 +112,20 @@ fn dressed<'v>(
     }
 }
 
-#[tactic(auto, unfolding(crate::specs::Items::ScrollbarFields::dressed_scrollbar))]
+#[tactic(auto, unfolding(crate::specs::Items::ScrollbarFields::styled_scrollbar))]
 fn read_styles<'v>(
     alloc: Global,
     bar: Scrollbar<'v>,
     item: Option<usize>,
     value: &'v Value,
 ) -> Result<Scrollbar<'v>, InputError<BadField>>
-    ensures { Gives scrollbar_data result (dressed_scrollbar (scrollbar_data bar.entry) item (view value.now)) }
+    ensures { Gives scrollbar_data result (styled_scrollbar (scrollbar_data bar.entry) item (view value.now)) }
 {
     let thumb: Option<Style> = optional(alloc, item, Field::ThumbStyle, value)?;
     let track: Option<Style> = optional(alloc, item, Field::TrackStyle, value)?;
     let begin: Option<Style> = optional(alloc, item, Field::BeginStyle, value)?;
     let end: Option<Style> = optional(alloc, item, Field::EndStyle, value)?;
-    Ok(dressed(bar, thumb, track, begin, end))
+    Ok(styled(bar, thumb, track, begin, end))
 }
 
 #[tactic(auto, unfolding(crate::specs::Items::ScrollbarFields::scrollbar_state_of))]
@@ -146,7 +146,7 @@ fn read_state(
     )
 }
 
-/// The scrollbar and what it shows.
+/// Reads a scrollbar and its state.
 #[tactic(auto, unfolding(crate::specs::Items::ScrollbarFields::shown_scrollbar))]
 pub(crate) fn read_scrollbar<'v>(
     alloc: Global,

@@ -18,7 +18,7 @@ use tui_cells::{Style, bar};
 use tui_frames::Block;
 use tui_json::{InputError, optional, optional_named, required};
 
-/// A sparkline of bars in a block, with a style and a greatest value.
+/// Returns a sparkline of bars in a block, with a style and a maximum.
 fn framed<'v>(
     alloc: Global,
     bars: Vec<SparklineBar>,
@@ -60,7 +60,7 @@ fn read_bars<'v>(
     Ok(framed(alloc, bars, block, style, max))
 }
 
-/// A sparkline with these symbols, where they are given.
+/// Returns the sparkline with these symbols, if they are given.
 fn with_symbols<'v>(
     sparkline: Sparkline<'v>,
     absent: Option<Symbol<'v>>,

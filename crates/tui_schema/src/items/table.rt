@@ -32,7 +32,7 @@ use tui_layout::{Constraint, Flex, HighlightSpacing};
 use tui_table::{Row, Table, TableState, WidthsError};
 use tui_text::Text;
 
-/// A table of rows in columns of these widths.
+/// Returns a table of rows in columns of these widths.
 fn in_widths<'v>(
     alloc: Global,
     item: Option<usize>,
@@ -61,7 +61,7 @@ fn in_block<'v>(table: Table<'v>, block: Option<Block<'v>>) -> Table<'v>
     }
 }
 
-/// A table with its header and its footer.
+/// Returns a table with its header and its footer.
 fn with_edges<'v>(
     alloc: Global,
     item: Option<usize>,
@@ -107,7 +107,7 @@ fn read_widths(
     Ok(widths.unwrap_or(Vec::new(alloc)))
 }
 
-/// A table of its rows, with its header and its footer, in columns of its widths.
+/// Reads the rows, the header, the footer and the column widths of a table.
 #[tactic(auto, unfolding(crate::specs::Items::TableFields::table_with_rows))]
 fn read_rows<'v>(
     alloc: Global,
@@ -123,7 +123,7 @@ fn read_rows<'v>(
     with_edges(alloc, item, rows, header, footer, widths)
 }
 
-/// The table with its block and its style.
+/// Reads a table with its block and its style.
 #[tactic(auto, unfolding(crate::specs::Items::TableFields::framed_table))]
 fn read_frame<'v>(
     alloc: Global,
@@ -138,7 +138,7 @@ fn read_frame<'v>(
     Ok(in_block(table, block).style(style.unwrap_or(Style::new())))
 }
 
-/// The table with a spacing of its columns, and with the styles of its selected row, column and cell.
+/// Returns the table with a column spacing, and with the styles of its selected row, column and cell.
 fn marked<'v>(table: Table<'v>, spacing: u16, row: Style, column: Style, cell: Style) -> Table<'v>
     ensures { table_data result ≡ record (table_data table.entry) {
       spacing = spacing;
@@ -154,7 +154,7 @@ fn marked<'v>(table: Table<'v>, spacing: u16, row: Style, column: Style, cell: S
         .cell_highlight_style(cell)
 }
 
-/// The table with what stands out in its selected row and column.
+/// Reads the column spacing, and the highlight of the selected row, column and cell.
 #[tactic(auto, unfolding(crate::specs::Items::TableFields::marked_table))]
 fn read_marks<'v>(
     alloc: Global,
@@ -174,9 +174,9 @@ fn read_marks<'v>(
     Ok(marked(table, spacing, row, column, cell.unwrap_or(Style::new())))
 }
 
-/// The table with the symbol beside its selected row, and with the places of its columns.
+/// Reads the symbol beside the selected row, and how the columns are placed.
 #[tactic(auto, unfolding(crate::specs::Items::TableFields::placed_table))]
-fn read_places<'v>(
+fn read_column_layout<'v>(
     alloc: Global,
     table: Table<'v>,
     item: Option<usize>,
@@ -218,7 +218,7 @@ fn read_state<'v>(
     )
 }
 
-/// The table and the state that it begins with.
+/// Reads a table and its initial state.
 #[tactic(auto, unfolding(crate::specs::Items::TableFields::shown_table))]
 pub(crate) fn read_table<'v>(
     alloc: Global,
@@ -229,6 +229,6 @@ pub(crate) fn read_table<'v>(
 {
     let table = read_frame(alloc, item, value)?;
     let table = read_marks(alloc, table, item, value)?;
-    let table = read_places(alloc, table, item, value)?;
+    let table = read_column_layout(alloc, table, item, value)?;
     Ok((table, read_state(alloc, item, value)?))
 }

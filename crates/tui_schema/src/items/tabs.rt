@@ -61,8 +61,8 @@ fn padding_of<'v>(alloc: Global, symbol: Option<Symbol<'v>>) -> Mem<Line<'v>>
     }
 }
 
-/// The tabs with these texts between two titles, and at the left and at the right of each.
-fn beside<'v>(
+/// Returns the tabs with these texts between two titles, and left and right of each title.
+fn with_padding<'v>(
     alloc: Global,
     tabs: Tabs<'v>,
     divider: Option<Symbol<'v>>,
@@ -80,7 +80,7 @@ fn beside<'v>(
     Ok(tabs.divider(divider_of(divider)).padding(left, right))
 }
 
-/// The titles, with their block and their style.
+/// Reads the titles, with their block and their style.
 #[tactic(auto, unfolding(crate::specs::Items::TabsFields::tabs_with_titles))]
 fn read_titles<'v>(
     alloc: Global,
@@ -96,7 +96,7 @@ fn read_titles<'v>(
     Ok(in_block(tabs, block).style(style.unwrap_or(Style::new())))
 }
 
-/// The tabs with the selected title and its style.
+/// Reads the selected title and its style.
 #[tactic(auto, unfolding(crate::specs::Items::TabsFields::marked_tabs))]
 fn read_selection<'v>(
     alloc: Global,
@@ -112,7 +112,7 @@ fn read_selection<'v>(
     Ok(with_selection(tabs, selected).highlight_style(style.unwrap_or(reversed)))
 }
 
-/// The tabs with what stands beside the titles.
+/// Reads what is beside the titles.
 #[tactic(auto, unfolding(crate::specs::Items::TabsFields::spaced_tabs))]
 fn read_space<'v>(
     alloc: Global,
@@ -125,7 +125,7 @@ fn read_space<'v>(
     let divider: Option<Symbol<'v>> = optional(alloc, item, Field::Divider, value)?;
     let left: Option<Symbol<'v>> = optional(alloc, item, Field::PaddingLeft, value)?;
     let right: Option<Symbol<'v>> = optional(alloc, item, Field::PaddingRight, value)?;
-    Ok(beside(alloc, tabs, divider, left, right)?)
+    Ok(with_padding(alloc, tabs, divider, left, right)?)
 }
 
 #[tactic(auto, unfolding(crate::specs::Items::TabsFields::shown_tabs))]

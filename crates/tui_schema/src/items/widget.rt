@@ -1,4 +1,4 @@
-//! The names of widgets.
+//! The names of the widgets.
 
 ghost use Rattle.std.specs.Prelude.{◌≡◌};
 ghost use Rattle.tui_schema.specs.Items.Names.{widget_names};
@@ -54,9 +54,9 @@ impl<'v> Kind<'v, Field> for Widget {
     ghost use Rattle.tui_schema.specs.declared.items.widget.Widget.{Widget};
     ghost use Rattle.tui_schema.specs.Items.Names.{widget_of};
 
-    ghost Seen = { Widget };
+    ghost AsData = { Widget };
 
-    ghost seen = { λ widget. widget };
+    ghost as_data = { λ widget. widget };
 
     ghost kind = { widget_of };
 

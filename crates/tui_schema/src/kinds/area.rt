@@ -12,9 +12,9 @@ use tui_json::{Kind, KindError, elements};
 impl<'v> Kind<'v, Field> for Rect {
     ghost use Rattle.tui_cells.specs.declared.rect.Rect.{Rect};
 
-    ghost Seen = { Rect };
+    ghost AsData = { Rect };
 
-    ghost seen = { λ area. area };
+    ghost as_data = { λ area. area };
 
     ghost kind = { area_in };
 

@@ -37,9 +37,9 @@ fn with_text<'v>(bar: Bar<'v>, text: Option<&'v str>) -> Bar<'v>
 impl<'v> Kind<'v, Field> for Bar<'v> {
     ghost use Rattle.tui_bars.specs.BarChart.{BarData};
 
-    ghost Seen = { BarData };
+    ghost AsData = { BarData };
 
-    ghost seen = { bar_data };
+    ghost as_data = { bar_data };
 
     ghost kind = { bar_of };
 
@@ -66,9 +66,9 @@ impl<'v> Kind<'v, Field> for Bar<'v> {
 impl<'v> Kind<'v, Field> for BarGroup<'v> {
     ghost use Rattle.tui_bars.specs.BarChart.{GroupData, group_data};
 
-    ghost Seen = { GroupData };
+    ghost AsData = { GroupData };
 
-    ghost seen = { group_data };
+    ghost as_data = { group_data };
 
     ghost kind = { group_of };
 
@@ -91,9 +91,9 @@ impl<'v> Kind<'v, Field> for BarGroup<'v> {
 impl<'v> Kind<'v, Field> for SparklineBar {
     ghost use Rattle.tui_bars.specs.Sparkline.{SparklineBarData, sparkline_bar_data};
 
-    ghost Seen = { SparklineBarData };
+    ghost AsData = { SparklineBarData };
 
-    ghost seen = { sparkline_bar_data };
+    ghost as_data = { sparkline_bar_data };
 
     ghost kind = { sparkline_bar_of };
 
@@ -129,9 +129,9 @@ fn three_levels<'a>() -> bar::Set<'a>
 impl<'v> Kind<'v, Field> for bar::Set<'v> {
     ghost use Rattle.tui_cells.specs.Symbols.{BarData as BarSymbols};
 
-    ghost Seen = { BarSymbols };
+    ghost AsData = { BarSymbols };
 
-    ghost seen = { symbols_of };
+    ghost as_data = { symbols_of };
 
     ghost kind = { bar_set_of };
 

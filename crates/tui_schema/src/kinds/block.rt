@@ -17,7 +17,7 @@ use tui_frames::{Block, BorderType, Borders, Padding, Shadow, Title, TitlePositi
 use tui_json::{Kind, KindError};
 use tui_text::Alignment;
 
-/// The block with its borders.
+/// Reads the borders of a block.
 #[tactic(auto, unfolding(crate::specs::Kinds::Block::bordered_of))]
 fn read_borders<'v>(
     alloc: Global,
@@ -37,7 +37,7 @@ fn read_borders<'v>(
     )
 }
 
-/// The block with its style and its padding.
+/// Reads the style and the padding of a block.
 #[tactic(auto, unfolding(crate::specs::Kinds::Block::spaced_of))]
 fn read_space<'v>(alloc: Global, block: Block<'v>, value: &'v Value) -> Result<Block<'v>, KindError>
     ensures { Reads block_data result (spaced_of (block_data block.entry) (view value.now)) }
@@ -51,7 +51,7 @@ fn read_space<'v>(alloc: Global, block: Block<'v>, value: &'v Value) -> Result<B
     )
 }
 
-/// The block with its titles.
+/// Reads the titles of a block.
 #[tactic(auto, unfolding(crate::specs::Kinds::Block::titled_of))]
 fn read_titles<'v>(
     alloc: Global,
@@ -73,7 +73,7 @@ fn read_titles<'v>(
     )
 }
 
-/// The block with a way to join borders, and with a shadow, if there is one.
+/// Returns the block with a merge strategy of its borders, and with a shadow, if there is one.
 fn joined<'v>(block: Block<'v>, strategy: MergeStrategy, shadow: Option<Shadow<'v>>) -> Block<'v>
     ensures { block_data result ≡ record (block_data block.entry) {
       strategy = strategy;
@@ -90,9 +90,9 @@ fn joined<'v>(block: Block<'v>, strategy: MergeStrategy, shadow: Option<Shadow<'
 impl<'v> Kind<'v, Field> for Block<'v> {
     ghost use Rattle.tui_frames.specs.Block.{BlockData};
 
-    ghost Seen = { BlockData };
+    ghost AsData = { BlockData };
 
-    ghost seen = { block_data };
+    ghost as_data = { block_data };
 
     ghost kind = { block_of };
 

@@ -38,9 +38,9 @@ fn all_sides(names: &[Value]) -> Option<Borders>
 impl<'v> Kind<'v, Field> for Borders {
     ghost use Rattle.tui_frames.specs.declared.borders.Borders.{Borders};
 
-    ghost Seen = { Borders };
+    ghost AsData = { Borders };
 
-    ghost seen = { λ borders. borders };
+    ghost as_data = { λ borders. borders };
 
     ghost kind = { sides_of };
 

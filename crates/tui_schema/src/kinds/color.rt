@@ -1,4 +1,4 @@
-//! Colours: a name, `#` and six hexadecimal digits, or a place in the palette.
+//! Colours: a name, `#` and six hexadecimal digits, or an index of the palette.
 
 ghost use Rattle.std.specs.Prelude.{◌≡◌};
 ghost use Rattle.tui_schema.specs.Kinds.Color.{byte_of, color_named, color_of, color_of_hex, digit_of};
@@ -71,9 +71,9 @@ fn hex_color(text: &str) -> Option<Color>
 impl<'v> Kind<'v, Field> for Color {
     ghost use Rattle.tui_cells.specs.declared.color.Color.{Color};
 
-    ghost Seen = { Color };
+    ghost AsData = { Color };
 
-    ghost seen = { λ color. color };
+    ghost as_data = { λ color. color };
 
     ghost kind = { color_of };
 

@@ -11,7 +11,7 @@ use serde_json::Value;
 use std::alloc::Global;
 use tui_json::{Kind, KindError, elements};
 
-/// The date with these numbers, if the calendar has it.
+/// Returns the date with these numbers, if the calendar has it.
 fn civil_date(year: i16, month: i8, day: i8) -> Option<Date>
     ensures { option_map date_data result ≡ civil_of year month day }
 {
@@ -21,9 +21,9 @@ fn civil_date(year: i16, month: i8, day: i8) -> Option<Date>
 impl<'v> Kind<'v, Field> for Date {
     ghost use Rattle.tui_calendar.specs.Month.{DateData};
 
-    ghost Seen = { DateData };
+    ghost AsData = { DateData };
 
-    ghost seen = { date_data };
+    ghost as_data = { date_data };
 
     ghost kind = { date_of };
 

@@ -1,6 +1,6 @@
 //! Dates with a style: `{"date": .., "style": ..}`.
 
-ghost use Rattle.tui_schema.specs.Kinds.Event.{event_of};
+ghost use Rattle.tui_schema.specs.Kinds.StyledDate.{event_of};
 
 use crate::field::Field;
 use crate::kinds::member::member;
@@ -12,26 +12,26 @@ use tui_json::{Kind, KindError};
 
 /// A date with a style.
 #[derive(Drop)]
-pub(crate) struct Event {
+pub(crate) struct StyledDate {
     pub(crate) date: Date,
     pub(crate) style: Style,
 }
 
-impl<'v> Kind<'v, Field> for Event {
+impl<'v> Kind<'v, Field> for StyledDate {
     ghost use Rattle.tui_calendar.specs.Month.{DateData};
     ghost use Rattle.tui_cells.specs.declared.style.Style.{Style};
-    ghost use Rattle.tui_schema.specs.Kinds.Event.{event_data};
+    ghost use Rattle.tui_schema.specs.Kinds.StyledDate.{event_data};
 
-    ghost Seen = { DateData × Style };
+    ghost AsData = { DateData × Style };
 
-    ghost seen = { event_data };
+    ghost as_data = { event_data };
 
     ghost kind = { event_of };
 
-    #[tactic(auto, unfolding(crate::specs::Kinds::Event::event_of))]
-    fn read(alloc: Global, value: &'v Value) -> Result<Event, KindError> {
+    #[tactic(auto, unfolding(crate::specs::Kinds::StyledDate::event_of))]
+    fn read(alloc: Global, value: &'v Value) -> Result<StyledDate, KindError> {
         let date: Date = member(alloc, value, "date")?;
         let style: Style = member(alloc, value, "style")?;
-        Ok(Event { date, style })
+        Ok(StyledDate { date, style })
     }
 }

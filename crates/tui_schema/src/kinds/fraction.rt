@@ -12,9 +12,9 @@ use tui_layout::Fraction;
 impl<'v> Kind<'v, Field> for Fraction {
     ghost use Rattle.tui_layout.specs.declared.fraction.Fraction.{Fraction};
 
-    ghost Seen = { Fraction };
+    ghost AsData = { Fraction };
 
-    ghost seen = { λ fraction. fraction };
+    ghost as_data = { λ fraction. fraction };
 
     ghost kind = { fraction_of };
 

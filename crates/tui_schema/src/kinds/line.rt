@@ -1,6 +1,9 @@
-//! Lines: a text, an array of spans, or an object with `spans` and perhaps `style` and `alignment`.
+//! Lines: a string, an array of spans, or an object with `spans` and optionally `style` and `alignment`.
 
-ghost use Rattle.tui_schema.specs.Kinds.Line.{line_of};
+ghost use Rattle.serde_json.specs.View.{view};
+ghost use Rattle.tui_json.specs.Kinds.{Reads};
+ghost use Rattle.tui_schema.specs.Kinds.Line.{line_of, line_with_spans};
+ghost use Rattle.tui_text.specs.Line.{line_data};
 
 use crate::field::Field;
 use crate::kinds::member::{member, optional_member, optional_named_member, read};
@@ -10,12 +13,26 @@ use tui_cells::Style;
 use tui_json::{Kind, KindError};
 use tui_text::{Alignment, Line, Span};
 
+#[tactic(auto, unfolding(crate::specs::Kinds::Line::line_with_spans))]
+fn line_with_spans<'v>(alloc: Global, value: &'v Value) -> Result<Line<'v>, KindError>
+    ensures { Reads line_data result (line_with_spans (view value.now)) }
+{
+    let spans: Vec<Span<'v>> = member(alloc, value, "spans")?;
+    let style: Option<Style> = optional_member(alloc, value, "style")?;
+    let alignment: Option<Alignment> = optional_named_member(alloc, value, "alignment")?;
+    let line = Line::from(spans).style(style.unwrap_or(Style::new()));
+    match alignment {
+        Some(alignment) => Ok(line.alignment(alignment)),
+        None => Ok(line),
+    }
+}
+
 impl<'v> Kind<'v, Field> for Line<'v> {
-    ghost use Rattle.tui_text.specs.Line.{LineData, line_data};
+    ghost use Rattle.tui_text.specs.Line.{LineData};
 
-    ghost Seen = { LineData };
+    ghost AsData = { LineData };
 
-    ghost seen = { line_data };
+    ghost as_data = { line_data };
 
     ghost kind = { line_of };
 
@@ -27,20 +44,7 @@ impl<'v> Kind<'v, Field> for Line<'v> {
                 let spans: Vec<Span<'v>> = read(alloc, value)?;
                 Ok(Line::from(spans))
             }
-            _ => {
-                let spans: Vec<Span<'v>> = member(alloc, value, "spans")?;
-                let style: Option<Style> = optional_member(alloc, value, "style")?;
-                let alignment: Option<Alignment> = optional_named_member(
-                    alloc,
-                    value,
-                    "alignment",
-                )?;
-                let line = Line::from(spans).style(style.unwrap_or(Style::new()));
-                Ok(match alignment {
-                    Some(alignment) => line.alignment(alignment),
-                    None => line,
-                })
-            }
+            _ => line_with_spans(alloc, value),
         }
     }
 }

@@ -1,4 +1,4 @@
-//! Items of a list: an object with `text` and perhaps `style`, or else a text.
+//! Items of a list: an object with `text` and optionally `style`, or else text.
 
 ghost use Rattle.tui_schema.specs.Kinds.ListItem.{list_item_of};
 
@@ -14,9 +14,9 @@ use tui_text::Text;
 impl<'v> Kind<'v, Field> for ListItem<'v> {
     ghost use Rattle.tui_lists.specs.ListItem.{ListItemData, list_item_data};
 
-    ghost Seen = { ListItemData };
+    ghost AsData = { ListItemData };
 
-    ghost seen = { list_item_data };
+    ghost as_data = { list_item_data };
 
     ghost kind = { list_item_of };
 

@@ -11,36 +11,36 @@ use serde_json::Value;
 use std::alloc::Global;
 use tui_json::{Kind, KindError, Named};
 
-/// The value as a kind.
+/// Reads a value as a kind.
 pub(crate) fn read<'v, T: Kind<'v, Field>>(alloc: Global, value: &'v Value) -> Result<T, KindError>
-    ensures { Reads T.seen result (T.kind (view value.now)) }
+    ensures { Reads T.as_data result (T.kind (view value.now)) }
 {
     T::read(alloc, value)
 }
 
-/// The member of this name, which has to be there. What is no object has no members.
+/// Reads the member of this name, which has to be there. A value that is no object has no members.
 pub(crate) fn member<'v, T: Kind<'v, Field>>(
     alloc: Global,
     value: &'v Value,
     name: &str,
 ) -> Result<T, KindError>
-    ensures { Reads T.seen result (member T.kind name.now (view value.now)) }
+    ensures { Reads T.as_data result (member T.kind name.now (view value.now)) }
 {
     tui_json::member::<T, Field>(alloc, value, name)
 }
 
-/// The member of this name, which may be absent or null.
+/// Reads the member of this name, which may be absent or null.
 pub(crate) fn optional_member<'v, T: Kind<'v, Field>>(
     alloc: Global,
     value: &'v Value,
     name: &str,
 ) -> Result<Option<T>, KindError>
-    ensures { Reads (option_map T.seen) result (optional_member T.kind name.now (view value.now)) }
+    ensures { Reads (option_map T.as_data) result (optional_member T.kind name.now (view value.now)) }
 {
     tui_json::optional_member::<T, Field>(alloc, value, name)
 }
 
-/// The member of this name, which may be absent or null, as an enum by the name of its variant.
+/// Reads the member of this name, which may be absent or null, as an enum by the name of its variant.
 pub(crate) fn optional_named_member<'v, T: Named<Field>>(
     alloc: Global,
     value: &'v Value,

@@ -43,9 +43,9 @@ fn all_modifiers(names: &[Value]) -> Option<Modifier>
 impl<'v> Kind<'v, Field> for Modifier {
     ghost use Rattle.tui_cells.specs.declared.modifier.Modifier.{Modifier};
 
-    ghost Seen = { Modifier };
+    ghost AsData = { Modifier };
 
-    ghost seen = { λ modifier. modifier };
+    ghost as_data = { λ modifier. modifier };
 
     ghost kind = { modifiers_of };
 

@@ -1,4 +1,4 @@
-//! The enums of widgets, by the name of the variant.
+//! The enums of widgets, by the names of their variants.
 
 ghost use Rattle.tui_json.specs.Named.{reads_named};
 ghost use Rattle.tui_schema.specs.Kinds.Names.{alignments, border_types, list_directions, orientations, render_directions, sizes, title_positions};

@@ -12,9 +12,9 @@ use tui_json::{Kind, KindError, elements};
 impl<'v> Kind<'v, Field> for Padding {
     ghost use Rattle.tui_frames.specs.declared.padding.Padding.{Padding};
 
-    ghost Seen = { Padding };
+    ghost AsData = { Padding };
 
-    ghost seen = { λ padding. padding };
+    ghost as_data = { λ padding. padding };
 
     ghost kind = { padding_of };
 

@@ -1,4 +1,4 @@
-//! Shadows: an object with `effect` and perhaps `symbol`, `style` and `offset`.
+//! Shadows: an object with `effect` and optionally `symbol`, `style` and `offset`.
 
 ghost use Rattle.std.specs.Prelude.{option_map};
 ghost use Rattle.serde_json.specs.View.{view};
@@ -15,7 +15,7 @@ use tui_cells::{Offset, Style};
 use tui_frames::Shadow;
 use tui_json::{Kind, KindError};
 
-/// A shadow with the effect of a value, and the defaults besides.
+/// Reads a shadow's effect. The other settings of the shadow are the defaults.
 #[tactic(auto, unfolding(crate::specs::Kinds::Shadow::effect_of))]
 fn read_effect<'v>(alloc: Global, value: &'v Value) -> Result<Shadow<'v>, KindError>
     ensures { Reads shadow_data result (option_map new_shadow (effect_of (view value.now))) }
@@ -39,9 +39,9 @@ fn read_effect<'v>(alloc: Global, value: &'v Value) -> Result<Shadow<'v>, KindEr
 impl<'v> Kind<'v, Field> for Shadow<'v> {
     ghost use Rattle.tui_frames.specs.Shadow.{ShadowData, shadow_data};
 
-    ghost Seen = { ShadowData };
+    ghost AsData = { ShadowData };
 
-    ghost seen = { shadow_data };
+    ghost as_data = { shadow_data };
 
     ghost kind = { shadow_of };
 

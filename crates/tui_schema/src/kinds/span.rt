@@ -1,6 +1,9 @@
-//! Spans: a text, or an object with `text` and perhaps `style`.
+//! Spans: a string, or an object with `text` and optionally `style`.
 
-ghost use Rattle.tui_schema.specs.Kinds.Span.{span_of};
+ghost use Rattle.serde_json.specs.View.{view};
+ghost use Rattle.tui_json.specs.Kinds.{Reads};
+ghost use Rattle.tui_schema.specs.Kinds.Span.{span_of, span_with_text};
+ghost use Rattle.tui_text.specs.Span.{span_data};
 
 use crate::field::Field;
 use crate::kinds::member::{member, optional_member};
@@ -10,22 +13,29 @@ use tui_cells::Style;
 use tui_json::{Kind, KindError};
 use tui_text::Span;
 
+#[tactic(auto, unfolding(crate::specs::Kinds::Span::span_with_text))]
+fn span_with_text<'v>(alloc: Global, value: &'v Value) -> Result<Span<'v>, KindError>
+    ensures { Reads span_data result (span_with_text (view value.now)) }
+{
+    let content: &'v str = member(alloc, value, "text")?;
+    let style: Option<Style> = optional_member(alloc, value, "style")?;
+    Ok(Span::styled(content, style.unwrap_or(Style::new())))
+}
+
 impl<'v> Kind<'v, Field> for Span<'v> {
-    ghost use Rattle.tui_text.specs.Span.{SpanData, span_data};
+    ghost use Rattle.tui_text.specs.Span.{SpanData};
 
-    ghost Seen = { SpanData };
+    ghost AsData = { SpanData };
 
-    ghost seen = { span_data };
+    ghost as_data = { span_data };
 
     ghost kind = { span_of };
 
     #[tactic(auto, unfolding(crate::specs::Kinds::Span::span_of))]
     fn read(alloc: Global, value: &'v Value) -> Result<Span<'v>, KindError> {
-        if let Value::String(content) = value {
-            return Ok(Span::raw(content));
+        match value {
+            Value::String(content) => Ok(Span::raw(content)),
+            _ => span_with_text(alloc, value),
         }
-        let content: &'v str = member(alloc, value, "text")?;
-        let style: Option<Style> = optional_member(alloc, value, "style")?;
-        Ok(Span::styled(content, style.unwrap_or(Style::new())))
     }
 }

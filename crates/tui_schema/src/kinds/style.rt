@@ -1,7 +1,7 @@
 //! Styles: objects of colours and modifiers.
 
 ghost use Rattle.std.specs.Prelude.{◌≡◌};
-ghost use Rattle.tui_schema.specs.Kinds.Style.{dressed, modifiers_or_none, style_of};
+ghost use Rattle.tui_schema.specs.Kinds.Style.{styled, modifiers_or_none, style_of};
 
 use crate::field::Field;
 use crate::kinds::member::optional_member;
@@ -10,15 +10,15 @@ use std::alloc::Global;
 use tui_cells::{Color, Modifier, Style};
 use tui_json::{Kind, KindError};
 
-/// The colours with modifiers that are added first and then removed.
-#[tactic(auto, using(crate::proofs::Dressing::both_none, crate::proofs::Dressing::none_other))]
-fn dressed(
+/// Returns a style of these colours, in which modifiers are added first, and then others removed.
+#[tactic(auto, using(crate::proofs::Styling::both_none, crate::proofs::Styling::none_other))]
+fn styled(
     fg: Option<Color>,
     bg: Option<Color>,
     added: Option<Modifier>,
     removed: Option<Modifier>,
 ) -> Style
-    ensures { result ≡ dressed fg bg (modifiers_or_none added) (modifiers_or_none removed) }
+    ensures { result ≡ styled fg bg (modifiers_or_none added) (modifiers_or_none removed) }
 {
     let colors = Style {
         fg,
@@ -33,9 +33,9 @@ fn dressed(
 impl<'v> Kind<'v, Field> for Style {
     ghost use Rattle.tui_cells.specs.declared.style.Style.{Style};
 
-    ghost Seen = { Style };
+    ghost AsData = { Style };
 
-    ghost seen = { λ style. style };
+    ghost as_data = { λ style. style };
 
     ghost kind = { style_of };
 
@@ -48,6 +48,6 @@ impl<'v> Kind<'v, Field> for Style {
         let bg = optional_member(alloc, value, "bg")?;
         let add = optional_member(alloc, value, "add")?;
         let sub = optional_member(alloc, value, "sub")?;
-        Ok(dressed(fg, bg, add, sub))
+        Ok(styled(fg, bg, add, sub))
     }
 }

@@ -1,4 +1,4 @@
-//! Symbols: short texts for cells.
+//! Symbols: short strings for cells.
 
 ghost use Rattle.std.specs.Prelude.{◌≡◌};
 ghost use Rattle.tui_schema.specs.Kinds.Symbol.{is_control, is_symbol, symbol_of};
@@ -8,7 +8,7 @@ use serde_json::Value;
 use std::alloc::Global;
 use tui_json::{Kind, KindError};
 
-/// A text of at most 32 bytes without control characters.
+/// A string of at most 32 bytes without control characters.
 #[derive(Drop)]
 pub(crate) struct Symbol<'v>(pub &'v str);
 
@@ -28,9 +28,9 @@ fn is_symbol(text: &str) -> bool
 impl<'v> Kind<'v, Field> for Symbol<'v> {
     ghost use Rattle.std.specs.Prelude.{ℕ, List};
 
-    ghost Seen = { List ℕ };
+    ghost AsData = { List ℕ };
 
-    ghost seen = { λ symbol. symbol.0.now };
+    ghost as_data = { λ symbol. symbol.0.now };
 
     ghost kind = { symbol_of };
 

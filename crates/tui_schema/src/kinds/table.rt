@@ -1,4 +1,5 @@
-//! Cells of a table, an object with `text` or else a text; and its rows, an array of cells or an object with `cells`.
+//! Cells of a table: an object with `text`, or else text. Rows of a table: an array of cells, or an object with
+//! `cells`.
 
 ghost use Rattle.tui_schema.specs.Kinds.Table.{row_of, table_cell_of};
 
@@ -14,9 +15,9 @@ use tui_text::Text;
 impl<'v> Kind<'v, Field> for Cell<'v> {
     ghost use Rattle.tui_table.specs.Cell.{CellData, cell_data};
 
-    ghost Seen = { CellData };
+    ghost AsData = { CellData };
 
-    ghost seen = { cell_data };
+    ghost as_data = { cell_data };
 
     ghost kind = { table_cell_of };
 
@@ -38,9 +39,9 @@ impl<'v> Kind<'v, Field> for Cell<'v> {
 impl<'v> Kind<'v, Field> for Row<'v> {
     ghost use Rattle.tui_table.specs.Row.{RowData, row_data};
 
-    ghost Seen = { RowData };
+    ghost AsData = { RowData };
 
-    ghost seen = { row_data };
+    ghost as_data = { row_data };
 
     ghost kind = { row_of };
 

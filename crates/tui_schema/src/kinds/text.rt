@@ -1,6 +1,10 @@
-//! Texts: a text that is cut into lines, an array of lines, or an object with `lines` and perhaps `style` and `alignment`.
+//! Text: a string, which is split into lines; an array of lines; or an object with `lines` and optionally `style` and
+//! `alignment`.
 
-ghost use Rattle.tui_schema.specs.Kinds.Text.{text_of};
+ghost use Rattle.serde_json.specs.View.{view};
+ghost use Rattle.tui_json.specs.Kinds.{Reads};
+ghost use Rattle.tui_schema.specs.Kinds.Text.{text_of, text_with_lines};
+ghost use Rattle.tui_text.specs.Text.{text_data};
 
 use crate::field::Field;
 use crate::kinds::member::{member, optional_member, optional_named_member, read};
@@ -10,12 +14,26 @@ use tui_cells::Style;
 use tui_json::{Kind, KindError};
 use tui_text::{Alignment, Line, Text};
 
+#[tactic(auto, unfolding(crate::specs::Kinds::Text::text_with_lines))]
+fn text_with_lines<'v>(alloc: Global, value: &'v Value) -> Result<Text<'v>, KindError>
+    ensures { Reads text_data result (text_with_lines (view value.now)) }
+{
+    let lines: Vec<Line<'v>> = member(alloc, value, "lines")?;
+    let style: Option<Style> = optional_member(alloc, value, "style")?;
+    let alignment: Option<Alignment> = optional_named_member(alloc, value, "alignment")?;
+    let text = Text::from(lines).style(style.unwrap_or(Style::new()));
+    match alignment {
+        Some(alignment) => Ok(text.alignment(alignment)),
+        None => Ok(text),
+    }
+}
+
 impl<'v> Kind<'v, Field> for Text<'v> {
-    ghost use Rattle.tui_text.specs.Text.{TextData, text_data};
+    ghost use Rattle.tui_text.specs.Text.{TextData};
 
-    ghost Seen = { TextData };
+    ghost AsData = { TextData };
 
-    ghost seen = { text_data };
+    ghost as_data = { text_data };
 
     ghost kind = { text_of };
 
@@ -27,20 +45,7 @@ impl<'v> Kind<'v, Field> for Text<'v> {
                 let lines: Vec<Line<'v>> = read(alloc, value)?;
                 Ok(Text::from(lines))
             }
-            _ => {
-                let lines: Vec<Line<'v>> = member(alloc, value, "lines")?;
-                let style: Option<Style> = optional_member(alloc, value, "style")?;
-                let alignment: Option<Alignment> = optional_named_member(
-                    alloc,
-                    value,
-                    "alignment",
-                )?;
-                let text = Text::from(lines).style(style.unwrap_or(Style::new()));
-                Ok(match alignment {
-                    Some(alignment) => text.alignment(alignment),
-                    None => text,
-                })
-            }
+            _ => text_with_lines(alloc, value),
         }
     }
 }

@@ -1,4 +1,4 @@
-//! Titles: an object with `line` and perhaps `position`, or else a line.
+//! Titles: an object with `line` and optionally `position`, or else a line.
 
 ghost use Rattle.tui_schema.specs.Kinds.Title.{title_of};
 
@@ -13,9 +13,9 @@ use tui_text::Line;
 impl<'v> Kind<'v, Field> for Title<'v> {
     ghost use Rattle.tui_frames.specs.Block.{TitleData, title_data};
 
-    ghost Seen = { TitleData };
+    ghost AsData = { TitleData };
 
-    ghost seen = { title_data };
+    ghost as_data = { title_data };
 
     ghost kind = { title_of };
 

@@ -1,4 +1,4 @@
-//! How lines are broken: an object with the member `trim`, and maybe `hyphens`.
+//! How lines are wrapped: an object with the member `trim`, and optionally `hyphens`.
 
 ghost use Rattle.tui_schema.specs.Kinds.Wrap.{wrap_of};
 
@@ -12,9 +12,9 @@ use tui_para::Wrap;
 impl<'v> Kind<'v, Field> for Wrap {
     ghost use Rattle.tui_para.specs.declared.wrap.Wrap.{Wrap};
 
-    ghost Seen = { Wrap };
+    ghost AsData = { Wrap };
 
-    ghost seen = { λ wrap. wrap };
+    ghost as_data = { λ wrap. wrap };
 
     ghost kind = { wrap_of };
 

@@ -2,19 +2,19 @@
 use Rattle.std.specs.Prelude.{ℕ, zero, suc, ◌+◌, ◌*◌, ◌%◌, List, [], ◌∷◌, map}
 use Rattle.std.specs.List.{join_with_byte, range_with_len, repeat}
 
--- the letter number i mod 26, from a on
+-- the letter with the number i mod 26, from a on
 abbrev pub letter : ℕ → ℕ
 letter i = 97 + i % 26
 
--- of n words, word i is its letter, this many times
+-- the number of letters of word i of n
 abbrev pub times : ℕ → ℕ → ℕ
 times n i = 1 + (7 * i + n) % 9
 
--- word i of n: its letter, this many times
+-- word i of n: its letter, repeated
 abbrev pub word : ℕ → ℕ → List ℕ
 word n i = repeat (times n i) (letter i ∷ [])
 
--- the words before word k, with a blank between each two
+-- the words before word k, with a space between each two
 abbrev pub words_before : ℕ → ℕ → List ℕ
 words_before n k = join_with_byte 32 (map (word n) (range_with_len 0 k))
 
@@ -22,7 +22,7 @@ words_before n k = join_with_byte 32 (map (word n) (range_with_len 0 k))
 abbrev pub demo_text : ℕ → List ℕ
 demo_text n = words_before n n
 
--- what stands before word i: a blank, but nothing before the first
+-- what is before word i: a space, but nothing before the first word
 abbrev pub gap : ℕ → List ℕ
 gap zero = []
 gap (suc i) = 32 ∷ []

@@ -13,7 +13,7 @@ use tui_cells::Mem;
 use tui_lists::ListItem;
 use tui_text::{Line, Text};
 
-/// The items 0 to n - 1.
+/// Returns the items 0 to n - 1.
 pub(crate) fn demo_items<'t>(alloc: Global, n: u32) -> Mem<Vec<ListItem<'t>>>
     ensures { IfOk result (λ items. map list_item_data items.items ≡ demo_items n) }
 {
@@ -24,7 +24,7 @@ pub(crate) fn demo_items<'t>(alloc: Global, n: u32) -> Mem<Vec<ListItem<'t>>>
     Ok(items)
 }
 
-/// An item has one to three lines in turn, and in each its letter.
+/// Returns item i. It has one, two or three lines, in rotation, and each is the item's letter.
 fn demo_item<'t>(alloc: Global, i: u32) -> Mem<ListItem<'t>>
     ensures { IfOk result (λ item. list_item_data item ≡ demo_item i) }
 {
@@ -32,7 +32,7 @@ fn demo_item<'t>(alloc: Global, i: u32) -> Mem<ListItem<'t>>
     Ok(ListItem::new(item_text(alloc, letter, 1 + i % 3)?))
 }
 
-/// A text of `count` lines. One line stands in its text, and takes no memory.
+/// Returns a text of `count` lines. A single line is stored in the text itself, which doesn't allocate.
 fn item_text<'t>(alloc: Global, line: &'t str, count: u32) -> Mem<Text<'t>>
     ensures { IfOk result (λ text. text_data text ≡ record empty_text { lines = repeat count (raw_line line.now ∷ []) }) }
 {
@@ -51,7 +51,7 @@ fn one_line<'t>(alloc: Global, line: &'t str) -> Mem<Text<'t>>
     Ok(text)
 }
 
-/// `count` lines of a text.
+/// Returns `count` lines that are all `text`.
 fn repeated<'t>(alloc: Global, text: &'t str, count: u32) -> Mem<Vec<Line<'t>>>
     ensures { IfOk result (λ lines. map line_data lines.items ≡ repeat count (raw_line text.now ∷ [])) }
 {

@@ -3,7 +3,7 @@
 ghost use Rattle.std.specs.Prelude.{◌≡◌, [], ◌∷◌};
 ghost use Rattle.tui_show_run.specs.Demo.Text.{letter};
 
-/// The letter of a word or an item as a text: a for the first, and from the 27th on again from a.
+/// Returns the letter of a word or an item as a string: a for the first, and again for the 27th.
 pub(crate) fn letter_text(i: u32) -> &'static str
     ensures { result.now ≡ letter i ∷ [] }
 {

@@ -6,8 +6,8 @@ ghost use Rattle.tui_show_run.specs.Demo.Line.{demo_line};
 use std::alloc::Global;
 use tui_cells::Mem;
 
-/// The line that says how many items there are, the first one that is shown, and how many lines the words take. `NoMemory` where
-/// there is none for it.
+/// Returns the line that says how many items there are, which one is shown first, and how many lines the words take.
+/// Fails with `NoMemory` if the line can't be allocated.
 pub fn demo_line(alloc: Global, n: u32, offset: usize, lines: usize) -> Mem<String>
     ensures { IfOk result (λ line. string_bytes line ≡ demo_line n offset lines) }
 {

@@ -13,7 +13,7 @@ use tui_para::{Paragraph, Wrap, text_wraps_exactly_once};
 use tui_scene::{Item, Placed, Scene};
 use tui_text::{Line, Text};
 
-/// The columns of the list, and as many of the words beside it.
+/// The columns of the list, and those of the words beside it.
 const WIDTH: u16 = 20;
 
 const HEIGHT: u16 = 8;
@@ -27,8 +27,8 @@ pub struct Demo<'t> {
     pub lines: usize,
 }
 
-/// The scene of n items in 20 columns, the middle one selected, and of n words in 20 columns beside them, both 8 rows high.
-/// `NoMemory` where there is none for the items.
+/// Returns the scene: n items in 20 columns, the middle one selected, and n words in 20 columns beside them, both 8
+/// rows high. Fails with `NoMemory` if the items can't be allocated.
 pub fn demo_scene<'t>(alloc: Global, n: u32, text: &'t str) -> Mem<Demo<'t>>
     requires n { n ≤ 100000 }
     requires text { text.now ≡ demo_text n }
@@ -51,7 +51,7 @@ pub fn demo_scene<'t>(alloc: Global, n: u32, text: &'t str) -> Mem<Demo<'t>>
     Ok(Demo { scene, lines })
 }
 
-/// The words, wrapped without the blanks at which lines break.
+/// Returns the words as a paragraph, wrapped without the spaces at which lines break.
 fn demo_paragraph<'t>(alloc: Global, text: &'t str) -> Mem<Paragraph<'t>>
     ensures { IfOk result (λ paragraph. paragraph_data paragraph ≡ demo_paragraph text.now) }
 {
@@ -63,7 +63,7 @@ fn demo_paragraph<'t>(alloc: Global, text: &'t str) -> Mem<Paragraph<'t>>
     }))
 }
 
-/// The number of lines of the words, which is far below the greatest number of 64 bits.
+/// Returns the number of lines of the words, which is far below 2^64.
 fn lines_of(alloc: Global, n: u32, paragraph: &Paragraph<'_>) -> Mem<usize>
     requires n { n ≤ 100000 }
     requires is { paragraph_data paragraph.now ≡ demo_paragraph (demo_text n) }

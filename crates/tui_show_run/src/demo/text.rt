@@ -8,8 +8,9 @@ use crate::demo::letters::letter_text;
 use std::alloc::Global;
 use tui_cells::Mem;
 
-/// The words 0 to n - 1, with a blank between each two: word i is its letter, 1 + (7 i + n) mod 9 times. Memory is asked for
-/// once, since nine words in a row have 45 letters. `NoMemory` where there is none for the text.
+/// Returns the words 0 to n - 1, with a space between each two. Word i is its letter, 1 + (7 i + n) mod 9 times.
+/// Allocates once, since any nine consecutive words have 45 letters in all. Fails with `NoMemory` if the text can't be
+/// allocated.
 pub fn demo_text(alloc: Global, n: u32) -> Mem<String>
     requires { n ≤ 100000 }
     ensures { IfOk result (λ text. string_bytes text ≡ demo_text n) }
@@ -22,7 +23,7 @@ pub fn demo_text(alloc: Global, n: u32) -> Mem<String>
     Ok(text)
 }
 
-/// How many letters a word has.
+/// Returns the number of letters of a word.
 fn times(n: u32, i: u32) -> u32
     requires n { n ≤ 100000 }
     requires i { i ≤ 100000 }
@@ -31,7 +32,7 @@ fn times(n: u32, i: u32) -> u32
     1 + (7 * i + n) % 9
 }
 
-/// What parts a word from the one before it.
+/// Adds what separates a word from the one before it.
 fn push_gap(text: &mut String, i: u32) -> Mem<()>
     ensures { OnOk result (string_bytes text.new ≡ string_bytes text.old ++ gap i) }
 {
@@ -41,7 +42,7 @@ fn push_gap(text: &mut String, i: u32) -> Mem<()>
     Ok(())
 }
 
-/// A letter, this many times.
+/// Adds a letter, `count` times.
 fn push_times(text: &mut String, letter: &str, count: u32) -> Mem<()>
     ensures { OnOk result (string_bytes text.new ≡ string_bytes text.old ++ repeat count letter.now) }
 {

@@ -3,7 +3,7 @@
 ghost use Rattle.std.specs.Prelude.{◌≡◌, ◌*◌, ◌≤◌, IfOk, option_map};
 ghost use Rattle.tui_cells.specs.Rect.{farthest_edge};
 ghost use Rattle.tui_table.specs.Areas.{body_of, cells_if, column_count, columns_in, gutter_of, height_if, room_of};
-ghost use Rattle.tui_table.specs.Moves.{cut_to};
+ghost use Rattle.tui_table.specs.Moves.{clamp_to};
 ghost use Rattle.tui_table.specs.Row.{row_data};
 ghost use Rattle.tui_table.specs.Table.{table_data};
 
@@ -14,7 +14,7 @@ use tui_cells::{FARTHEST_EDGE, Mem, Rect};
 use tui_layout::{Constraint, Segment, split};
 
 impl<'a> Table<'a> {
-    /// The columns of the screen that are kept for the highlight symbol.
+    /// Returns how many columns of the screen are reserved for the highlight symbol.
     #[tactic(auto, unfolding(crate::specs::Areas::gutter_of))]
     pub(crate) fn gutter(&self, width: u16, selected: Option<usize>) -> u16
         ensures { result ≡ gutter_of (table_data self.now) width selected }
@@ -25,7 +25,7 @@ impl<'a> Table<'a> {
         self.highlight_symbol.width().min(usize::from(width)) as u16
     }
 
-    /// The most cells of any row, header or footer.
+    /// Returns the greatest number of cells in a row, the header or the footer.
     #[tactic(auto, unfolding(crate::specs::Areas::column_count))]
     pub(crate) fn column_count(&self) -> usize
         ensures { result ≡ column_count (table_data self.now) }
@@ -34,7 +34,7 @@ impl<'a> Table<'a> {
         self.rows.most_cells().max(edges)
     }
 
-    /// The rows of the screen that the header and the footer leave.
+    /// Returns how many rows of the screen the header and the footer leave.
     pub(crate) fn room(&self, height: u16) -> u16
         ensures { result ≡ room_of (table_data self.now) height }
     {
@@ -42,7 +42,7 @@ impl<'a> Table<'a> {
         left.saturating_sub(height_if(&self.footer)) as u16
     }
 
-    /// The area of the rows.
+    /// Returns the area of the rows.
     pub(crate) fn body(&self, inner: Rect) -> Rect
         ensures { result ≡ body_of (table_data self.now) inner }
     {
@@ -50,7 +50,7 @@ impl<'a> Table<'a> {
         inner.rows_from(above, self.room(inner.height))
     }
 
-    /// The columns, counted from behind the highlight symbol's.
+    /// Returns the columns, counted from the end of the highlight symbol's columns.
     #[tactic(auto, unfolding(crate::specs::Areas::columns_in))]
     pub(crate) fn columns(
         &self,
@@ -73,7 +73,7 @@ impl<'a> Table<'a> {
     }
 }
 
-/// The rows of the screen that a header or a footer asks for.
+/// Returns how many rows of the screen a header or a footer takes, if there is one.
 pub(crate) fn height_if(row: &Option<Row<'_>>) -> u128
     ensures rows { result ≡ height_if (option_map row_data row.now) }
     ensures small { result ≤ 3 * farthest_edge }
@@ -93,9 +93,10 @@ fn cells_if(row: &Option<Row<'_>>) -> usize
     }
 }
 
-/// A selection among this many: past the last it is the last, and there is none where there are none.
-pub(crate) fn cut_to(count: usize, selected: Option<usize>) -> Option<usize>
-    ensures { result ≡ cut_to count selected }
+/// Limits a selection to `count` entries. A selection past the last entry becomes the last; if there are no entries,
+/// nothing is selected.
+pub(crate) fn clamp_to(count: usize, selected: Option<usize>) -> Option<usize>
+    ensures { result ≡ clamp_to count selected }
 {
     match selected {
         None => None,

@@ -26,7 +26,7 @@ ghost use Rattle.tui_table.specs.Areas.{columns_in, gutter_of};
 ghost use Rattle.tui_table.specs.Drawing.{table_drawing, table_moving};
 ghost use Rattle.tui_table.specs.Moves.{column_after, row_after, table_after, table_window};
 ghost use Rattle.tui_table.specs.Row.{heights_of, row_data};
-ghost use Rattle.tui_table.specs.State.{at_rest};
+ghost use Rattle.tui_table.specs.State.{default_state};
 ghost use Rattle.tui_table.specs.Strokes.{
   body_if,
   body_layers,
@@ -51,14 +51,14 @@ use crate::row::Row;
 use crate::row_kind::RowKind;
 use crate::state::TableState;
 use crate::table::Table;
-use crate::table::areas::{cut_to, height_if};
+use crate::table::areas::{clamp_to, height_if};
 use std::alloc::Global;
 use tui_cells::{Buffer, Mem, Rect, StatefulWidget, Style, Widget};
 use tui_frames::paint_frame;
 use tui_layout::Window;
 
 impl<'a> Table<'a> {
-    /// The highlight symbol over the row's own style, if the row is selected.
+    /// Draws the highlight symbol over the row's own style, if the row is selected.
     fn paint_symbol(
         &self,
         buf: &mut Buffer,
@@ -79,7 +79,7 @@ impl<'a> Table<'a> {
         }
     }
 
-    /// A row in its area.
+    /// Draws a row in its area.
     #[tactic(auto, unfolding(crate::specs::Strokes::row_layers))]
     fn paint_row(
         &self,
@@ -98,7 +98,7 @@ impl<'a> Table<'a> {
         paint_cells(buf, area, grid, self.column_spacing, kind, &row.cells)
     }
 
-    /// The header or the footer, if there is one, behind this many rows of the screen.
+    /// Draws the header or the footer, if there is one, after `from` rows of the screen.
     #[tactic(auto, unfolding(crate::specs::Strokes::edge_layers))]
     fn paint_edge(
         &self,
@@ -119,7 +119,7 @@ impl<'a> Table<'a> {
         }
     }
 
-    /// The rows from one place up to another.
+    /// Draws the rows `first..end`.
     fn paint_rows(
         &self,
         buf: &mut Buffer,
@@ -146,7 +146,7 @@ impl<'a> Table<'a> {
         Ok(())
     }
 
-    /// The selected row, the selected column, and the cell of both.
+    /// Highlights the selected row, the selected column, and the cell where they meet.
     #[tactic(auto, unfolding(crate::specs::Strokes::highlight_layers))]
     fn paint_highlights(&self, buf: &mut Buffer, row: Option<Rect>, column: Option<Rect>)
         ensures { Painted (highlight_layers (table_data self.now) row column) buf.old buf.new }
@@ -156,7 +156,7 @@ impl<'a> Table<'a> {
         dress_if_some(buf, self.cell_highlight_style, both_areas(row, column));
     }
 
-    /// The rows of the screen of the rows from one place up to another.
+    /// Returns how many rows of the screen the rows `first..s` take.
     fn rows_between(&self, first: usize, s: usize) -> u128
         requires within { s ≤ length (table_data self.now).rows }
         ensures total { result ≡ total (heights_of (table_data self.now).rows) first s }
@@ -173,7 +173,7 @@ impl<'a> Table<'a> {
         sum
     }
 
-    /// The area of the selected row, where the first row that is shown is known.
+    /// Returns the area of the selected row, if row `first` is the first that is shown.
     fn selected_row(&self, body: Rect, first: usize, selected: Option<usize>) -> Option<Rect>
         ensures { result ≡ selected_row (table_data self.now) body first selected }
     {
@@ -189,7 +189,7 @@ impl<'a> Table<'a> {
         }
     }
 
-    /// The rows of the window and one more, which is cut, and then the highlights.
+    /// Draws the rows of the window and one more, which is cut off, and then the highlights.
     fn paint_body(
         &self,
         buf: &mut Buffer,
@@ -213,7 +213,7 @@ impl<'a> Table<'a> {
         Ok(())
     }
 
-    /// The rows and the highlights, if there are rows.
+    /// Draws the rows and the highlights, if there are rows.
     fn paint_body_if(
         &self,
         buf: &mut Buffer,
@@ -237,20 +237,20 @@ impl<'a> Table<'a> {
         self.paint_body(buf, body, grid, selected, column, window)
     }
 
-    /// The selected row and column that a drawing leaves.
+    /// Returns the selected row that a drawing leaves.
     fn row_after(&self, state: TableState) -> Option<usize>
         ensures { result ≡ row_after (table_data self.now) state }
     {
-        cut_to(self.rows.as_slice().len(), state.selected())
+        clamp_to(self.rows.as_slice().len(), state.selected())
     }
 
     fn column_after(&self, state: TableState) -> Option<usize>
         ensures { result ≡ column_after (table_data self.now) state }
     {
-        cut_to(self.column_count(), state.selected_column())
+        clamp_to(self.column_count(), state.selected_column())
     }
 
-    /// Header, rows and footer. Answers the state that is left.
+    /// Draws the header, the rows and the footer. Returns the state that the drawing leaves.
     fn paint_content(
         &self,
         alloc: Global,
@@ -275,10 +275,10 @@ impl<'a> Table<'a> {
         self.paint_body_if(buf, inner, grid, state, window)?;
         let below = height_if(&self.header) + u128::from(room);
         self.paint_edge(buf, inner, grid, below, &self.footer)?;
-        Ok(TableState::drawn(window.first, selected, self.column_after(state)))
+        Ok(TableState::after_drawing(window.first, selected, self.column_after(state)))
     }
 
-    /// The same where the area is not empty; else the state stays.
+    /// Draws the content if its area is not empty. Otherwise the state is unchanged.
     fn paint_inside(
         &self,
         alloc: Global,
@@ -296,7 +296,7 @@ impl<'a> Table<'a> {
         self.paint_content(alloc, buf, inner, state)
     }
 
-    /// The style, the block, and the content inside it. Answers the state that is left.
+    /// Draws the style, the block, and the content inside it. Returns the state that the drawing leaves.
     fn paint_in(
         &self,
         alloc: Global,
@@ -320,7 +320,7 @@ impl<'a> Table<'a> {
 impl<'a> StatefulWidget for Table<'a> {
     type State = TableState;
 
-    ghost moving = { λ table. table_moving (table_data table) };
+    ghost stateful_drawing = { λ table. table_moving (table_data table) };
 
     fn render(
         &self,
@@ -346,7 +346,7 @@ impl<'a> Widget for Table<'a> {
     }
 }
 
-/// What row i of the body is.
+/// Returns the role of row `i` of the body.
 fn kind_at(selected: Option<usize>, i: usize) -> RowKind
     ensures { result ≡ kind_at selected i }
 {
@@ -357,7 +357,7 @@ fn kind_at(selected: Option<usize>, i: usize) -> RowKind
     }
 }
 
-/// One more, where there are that many.
+/// Returns one more than `last`, at most `count`.
 fn one_more(last: usize, count: usize) -> usize
     requires { last ≤ count }
     ensures { result ≡ min (last + 1) count }
@@ -365,7 +365,7 @@ fn one_more(last: usize, count: usize) -> usize
     if last < count { last + 1 } else { count }
 }
 
-/// The area of the selected column.
+/// Returns the area of the selected column, if there is one.
 fn selected_column(body: Rect, grid: Grid<'_>, selected: Option<usize>) -> Option<Rect>
     ensures { result ≡ selected_column body grid.entry.gutter grid.entry.columns.now selected }
 {
@@ -381,7 +381,7 @@ fn selected_column(body: Rect, grid: Grid<'_>, selected: Option<usize>) -> Optio
     }
 }
 
-/// A style on an area, if there is one.
+/// Sets a style on an area, if there is one.
 fn dress_if_some(buf: &mut Buffer, style: Style, area: Option<Rect>)
     ensures { Painted (dress_if_some style area) buf.old buf.new }
 {

@@ -1,6 +1,6 @@
 use Rattle.std.proofs.Common.{take}
-use Rattle.tui_app.proofs.Taking.{HasFed}
+use Rattle.tui_app.proofs.Taking.{HasHandled}
 use Rattle.tui_app.proofs.feed.feed_bytes.Given as goal
 
 abbrev pub invariant-bytes : goal.invariant-bytes
-invariant-bytes g l = HasFed g.A.App.behaviour l.fn.app l.fn.keys (take l.i l.bytes) l.app l.fed l.pending
+invariant-bytes g l = HasHandled g.A.App.behaviour l.fn.app l.fn.keys (take l.i l.bytes) l.app l.reaction l.pending

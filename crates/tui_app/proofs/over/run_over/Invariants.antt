@@ -1,5 +1,5 @@
 use Rattle.std.proofs.Common.{[], ◌∷◌, ◌++◌, map, take}
-use Rattle.tui_app.specs.Over.{DrawsOver, IsSized, stand_at}
+use Rattle.tui_app.specs.Over.{DrawsOver, IsSized, state_at}
 use Rattle.tui_cells.specs.Rect.{area_of}
 use Rattle.tui_app.proofs.over.run_over.Given as goal
 
@@ -7,6 +7,6 @@ abbrev pub invariant-reads : goal.invariant-reads
 invariant-reads g l =
     record {
       draws : DrawsOver g.A.App.behaviour l.fn.app (area_of 0 0 l.fn.width l.fn.height) (map (λ bytes. bytes.now) (take l.i l.reads))
-          (stand_at l.app l.last) (l.screens.items ++ l.last.shown ∷ []);
+          (state_at l.app l.last) (l.screens.items ++ l.last.shown ∷ []);
       sized : IsSized l.last;
     }

@@ -1,7 +1,7 @@
 use Rattle.std.proofs.Common.{Err, ap}
-use Rattle.tui_browse_run.proofs.Saying.{over_pieces, unput}
+use Rattle.tui_browse_run.proofs.Parsing.{over_pieces, unput}
 use Rattle.tui_browse_run.proofs.browsing.browse_pieces_of.Goals as goal
-use Rattle.tui_browse_run.specs.Ends.{refused, wanting}
+use Rattle.tui_browse_run.specs.Ends.{refused, out_of_memory}
 use Rattle.tui_browse_run.specs.declared.refusal.Refusal.TheVariants.{TooLong}
 
 pub returns-in-Ok : goal.returns-in-Ok
@@ -10,7 +10,7 @@ returns-in-Ok g c =
 
 pub returns-in-Err-TooMany : goal.returns-in-Err-TooMany
 returns-in-Err-TooMany g c =
-    refused TooLong c.refuse.result (c.in-Err-TooMany.ensures.many (ap (λ x. Err x) c.in-Err-TooMany.field-0-is)) c.refuse.ensures
+    refused TooLong c.reject.result (c.in-Err-TooMany.ensures.many (ap (λ x. Err x) c.in-Err-TooMany.field-0-is)) c.reject.ensures
 
 pub returns-in-Err-NoMemory : goal.returns-in-Err-NoMemory
-returns-in-Err-NoMemory g c = wanting (unput _)
+returns-in-Err-NoMemory g c = out_of_memory (unput _)

@@ -1,4 +1,4 @@
-use Rattle.tui_browse_run.proofs.Saying.{over_text}
+use Rattle.tui_browse_run.proofs.Parsing.{over_text}
 use Rattle.tui_browse_run.proofs.browsing.browse_text.Goals as goal
 use Rattle.tui_browse_run.specs.Ends.{refused}
 use Rattle.tui_browse_run.specs.declared.refusal.Refusal.TheVariants.{NotText}
@@ -9,4 +9,4 @@ returns-in-Ok g c =
     c.browse_pieces_of.ensures
 
 pub returns-in-Err : goal.returns-in-Err
-returns-in-Err g c = refused NotText c.refuse.result (λ utf8. c.in-Err.ensures.cases.0 utf8) c.refuse.ensures
+returns-in-Err g c = refused NotText c.reject.result (λ utf8. c.in-Err.ensures.cases.0 utf8) c.reject.ensures

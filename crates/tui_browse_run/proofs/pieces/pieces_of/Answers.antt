@@ -15,7 +15,7 @@ returns-then-is_empty-clause-ok c =
 pub overflow_add-line : goal.overflow_add-line
 overflow_add-line c =
     let few = few_feeds c.pieces.rest.now c.first_piece-cut.result.len c.first_piece-cut.ensures.ends in
-    let is = c.first_piece-cut.ensures.feeds in
+    let is = c.first_piece-cut.ensures.line_feeds in
     let low = c.pieces.invariant.1.low in
     let below = c.pieces-test.true in
     omega arith
@@ -24,8 +24,8 @@ pub pieces-preserved : goal.pieces-preserved
 pieces-preserved c = (
   subst IsUtf8 (sym c.split_at.ensures.back) (IsUtf8-drop c.pieces.rest.now c.first_piece-cut.result.len c.pieces.invariant.0 c.first_piece-cut.ensures.boundary),
   next_is c.args.text.now c.pieces._i c.pieces.pieces.items c.push.new.self.items c.pieces.line c.pieces.rest.now c.split_at.result.1.now
-      c.first_piece-cut.result.len c.first_piece-cut.result.feeds c.split_at.result.0 c.pieces.invariant.1 c.first_piece-cut.ensures.ends
-      c.first_piece-cut.ensures.feeds c.split_at.ensures.front c.split_at.ensures.back c.in_ok-push.ensures.items,
+      c.first_piece-cut.result.len c.first_piece-cut.result.line_feeds c.split_at.result.0 c.pieces.invariant.1 c.first_piece-cut.ensures.ends
+      c.first_piece-cut.ensures.line_feeds c.split_at.ensures.front c.split_at.ensures.back c.in_ok-push.ensures.items,
 )
 
 pub returns-then-is_empty-2-clause-ok : goal.returns-then-is_empty-2-clause-ok

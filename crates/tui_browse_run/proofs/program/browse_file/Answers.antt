@@ -1,5 +1,5 @@
 use Rattle.std.proofs.Common.{Err, ap, refl, rules}
-use Rattle.tui_browse_run.proofs.Saying.{unput}
+use Rattle.tui_browse_run.proofs.Parsing.{unput}
 use Rattle.tui_browse_run.proofs.program.browse_file.Goals as goal
 use Rattle.tui_browse_run.specs.Ends.{past, refused, unfinished, unread, whole}
 use Rattle.tui_browse_run.specs.declared.refusal.Refusal.TheVariants.{TooLong}
@@ -17,7 +17,7 @@ returns-in-Err-ReadFault g c =
 pub returns-in-Err-TooLong : goal.returns-in-Err-TooLong
 returns-in-Err-TooLong g c =
     let gave = c.in-Err-TooLong.ensures.too_long (ap (λ x. Err x) c.in-Err-TooLong.field-0-is) in
-    past c.refuse.result (record { gave = gave; quiet = search rules }) (refused TooLong c.refuse.result refl c.refuse.ensures)
+    past c.reject.result (record { gave = gave; quiet = search rules }) (refused TooLong c.reject.result refl c.reject.ensures)
 
 pub returns-in-Err-NoMemory : goal.returns-in-Err-NoMemory
 returns-in-Err-NoMemory g c =

@@ -1,5 +1,5 @@
 use Rattle.std.proofs.Common.{map}
-use Rattle.tui_browse_run.proofs.Saying.{not_shown, shown_by}
+use Rattle.tui_browse_run.proofs.Parsing.{not_shown, shown_by}
 use Rattle.tui_browse_run.proofs.session.show.Goals as goal
 use Rattle.tui_pager_lib.specs.Entry.{entry_data}
 

@@ -1,5 +1,5 @@
 use Rattle.std.proofs.Common.{◌≡◌, length, refl, sym, ◌∙◌, arith}
-use Rattle.tui_clusters.proofs.Leads.{sign_plain}
+use Rattle.tui_clusters.proofs.LeadBytes.{sign_plain}
 use Rattle.tui_clusters.proofs.PlainChars.{lone_char_is, no_char_in_nothing, IsPlainChar-from}
 use Rattle.tui_clusters.proofs.plain.is_plain_char.Goals as goal
 

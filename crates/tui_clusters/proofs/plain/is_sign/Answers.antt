@@ -1,6 +1,6 @@
 use Rattle.std.proofs.Common.{◌≡◌, length, get_or, sym, ap, ◌∙◌, arith}
 use Rattle.tui_clusters.specs.Plain.{is_sign_start}
-use Rattle.tui_clusters.proofs.Leads.{sign_char}
+use Rattle.tui_clusters.proofs.LeadBytes.{sign_char}
 use Rattle.tui_clusters.proofs.plain.is_sign.Goals as goal
 
 pub returns : goal.returns

@@ -1,7 +1,7 @@
-use Rattle.tui_display.proofs.Puts.{writes_then}
+use Rattle.tui_display.proofs.Writing.{writes_then}
 use Rattle.tui_display.proofs.runs.leave_refused.Goals as goal
 
 pub returns : goal.returns
 returns g c =
     let first = c.in_ok-leave.ensures.ok in
-    writes_then (g.K.Sink.told c.args.sink.now) (g.K.Sink.told c.leave.new.sink) (g.K.Sink.told c.put_all.new.sink) c.put_all.result _ _ first.0 first.1 c.put_all.ensures
+    writes_then (g.K.Sink.observed c.args.sink.now) (g.K.Sink.observed c.leave.new.sink) (g.K.Sink.observed c.write_all.new.sink) c.write_all.result _ _ first.0 first.1 c.write_all.ensures

@@ -10,12 +10,12 @@ use Rattle.tui_lists.specs.ListItem.{ListItemData}
 
 pub returns-clause-ok : goal.returns-clause-ok
 returns-clause-ok c =
-    let same = c.in_ok-list.ensures ∙ ap (λ (xs : List ListItemData). list_over xs c.args.title.now) c.in_ok-items.ensures in
-    list_drawn (list_data c.in_ok-list.list) (list_over (map row_item (map row_label c.args.rows.now)) c.args.title.now) c.args.state.now c.render.new.state
+    let same = c.in_ok-list.ensures ∙ ap (λ (xs : List ListItemData). list_over xs c.args.names.title.now) c.in_ok-items.ensures in
+    list_drawn (list_data c.in_ok-list.list) (list_over (map row_item (map row_label c.args.names.rows.now)) c.args.names.title.now) c.args.state.now c.render.new.state
     (intersection_of c.args.area c.args.buf.now.area) c.args.buf.now c.render.new.buf same c.in_ok-render.ensures.state c.in_ok-render.ensures.ok
 
 pub returns-clause-moves : goal.returns-clause-moves
 returns-clause-moves c =
-    let same = c.in_ok-list.ensures ∙ ap (λ (xs : List ListItemData). list_over xs c.args.title.now) c.in_ok-items.ensures in
+    let same = c.in_ok-list.ensures ∙ ap (λ (xs : List ListItemData). list_over xs c.args.names.title.now) c.in_ok-items.ensures in
     subst (λ (l : ListData). ListMoves l (inner_of l.block (intersection_of c.args.area c.args.buf.now.area)) c.args.state.now c.render.new.state) same
     c.in_ok-render.ensures.shows

@@ -2,7 +2,7 @@ use Rattle.std.proofs.Common.{Err, ap}
 use Rattle.serde_json.specs.View.{view}
 use Rattle.tui_form_run.proofs.Ending.{over_json, unput}
 use Rattle.tui_form_run.proofs.asking.ask_by_bytes.Goals as goal
-use Rattle.tui_form_run.specs.Ends.{refused, wanting}
+use Rattle.tui_form_run.specs.Ends.{refused, out_of_memory}
 use Rattle.tui_form_run.specs.declared.refusal.Refusal.TheVariants.{NotJson}
 
 pub returns-in-Ok : goal.returns-in-Ok
@@ -12,7 +12,7 @@ returns-in-Ok g c =
 
 pub returns-in-Err-NotJson : goal.returns-in-Err-NotJson
 returns-in-Err-NotJson g c =
-    refused NotJson c.refuse.result (c.in-Err-NotJson.ensures.not_json (ap (λ x. Err x) c.in-Err-NotJson.field-0-is)) c.refuse.ensures (unput _)
+    refused NotJson c.reject.result (c.in-Err-NotJson.ensures.not_json (ap (λ x. Err x) c.in-Err-NotJson.field-0-is)) c.reject.ensures (unput _)
 
 pub returns-in-Err-NoMemory : goal.returns-in-Err-NoMemory
-returns-in-Err-NoMemory g c = wanting (unput _) (unput _)
+returns-in-Err-NoMemory g c = out_of_memory (unput _) (unput _)

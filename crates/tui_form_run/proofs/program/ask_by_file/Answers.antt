@@ -17,7 +17,7 @@ returns-in-Err-ReadFault g c =
 pub returns-in-Err-TooLong : goal.returns-in-Err-TooLong
 returns-in-Err-TooLong g c =
     let gave = c.in-Err-TooLong.ensures.too_long (ap (λ x. Err x) c.in-Err-TooLong.field-0-is) in
-    past c.refuse.result (record { gave = gave; quiet = search rules }) (refused TooLong c.refuse.result refl c.refuse.ensures (unput _))
+    past c.reject.result (record { gave = gave; quiet = search rules }) (refused TooLong c.reject.result refl c.reject.ensures (unput _))
 
 pub returns-in-Err-NoMemory : goal.returns-in-Err-NoMemory
 returns-in-Err-NoMemory g c =

@@ -5,5 +5,5 @@ use Rattle.tui_form_run.proofs.program.run_program.Goals as goal
 
 pub returns-in-Ok : goal.returns-in-Ok
 returns-in-Ok g c =
-    let first = c.as_slice.ensures.value ∙ c.first_words-words.ensures in
+    let first = c.as_slice.ensures.value ∙ c.first_arguments-arguments.ensures in
     rw c.in-Ok.is (ends_by_all c.args.setting (drop 1 (into_iter_items c.in-Ok.all)) c.as_slice.result.now _ _ _ c.run_form.result first c.run_form.ensures)

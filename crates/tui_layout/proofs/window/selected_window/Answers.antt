@@ -1,7 +1,7 @@
 use Rattle.std.proofs.Common.{◌-◌, ◌≡◌, arith, length, min}
 use Rattle.std.proofs.lemmas.Grind.{common_steps}
 use Rattle.tui_layout.proofs.Windows.{shown_reached, tall_reached}
-use Rattle.tui_layout.proofs.Halving.{probing_three}
+use Rattle.tui_layout.proofs.BinarySearchLaws.{probing_three}
 use Rattle.tui_layout.proofs.window.selected_window.Goals as goal
 
 pub returns-then-not-fits-clause-first : goal.returns-then-not-fits-clause-first

@@ -1,5 +1,5 @@
 use Rattle.tui_layout.proofs.Found.{is_found}
-use Rattle.tui_layout.proofs.Settling.{begins_within, ends_in_order}
+use Rattle.tui_layout.proofs.StableWindow.{begins_within, ends_in_order}
 use Rattle.tui_layout.proofs.window.window_of.Goals as goal
 
 pub returns-clause-found : goal.returns-clause-found

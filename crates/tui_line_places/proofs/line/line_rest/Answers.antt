@@ -12,7 +12,7 @@ returns-in-Some-clause-goes_on c =
     let g = c.in-Grapheme.grapheme in
     subst (GoesOnInLine c.args.text.now) (sym c.left_from.ensures)
     (left_on c.args.lines.width c.args.lines.trim c.args.text.now c.graphemes.word.now c.graphemes.rest.now c.graphemes.counter c.graphemes.invariant
-    g.behind.now c.word_from-word.result.now g.width g.blank c.in-Grapheme.ensures c.word_from-word.ensures c.in-Some.end)
+    g.after.now c.word_from-word.result.now g.width g.blank c.in-Grapheme.ensures c.word_from-word.ensures c.in-Some.end)
 
 pub returns-in-Some-clause-first : goal.returns-in-Some-clause-first
 returns-in-Some-clause-first c =
@@ -22,7 +22,7 @@ returns-in-Some-clause-first c =
     let g = c.in-Grapheme.grapheme in
     subst (λ (t : List ℕ). FirstThen (cluster_rule w trim) (shown_in w text) (shown_in w t)) (sym c.left_from.ensures)
     (line_ends w trim text c.graphemes.word.now c.graphemes.rest.now c.graphemes.counter c.graphemes.invariant
-    g.behind.now c.word_from-word.result.now g.width g.blank c.in-Grapheme.ensures c.word_from-word.ensures c.in-Some.end
+    g.after.now c.word_from-word.result.now g.width g.blank c.in-Grapheme.ensures c.word_from-word.ensures c.in-Some.end
     (c.in-Some.ensures.end (fits w trim text c.graphemes.word.now c.graphemes.rest.now c.graphemes.counter c.graphemes.invariant)))
 
 pub graphemes-preserved : goal.graphemes-preserved
@@ -30,7 +30,7 @@ graphemes-preserved c =
     let g = c.in-Grapheme.grapheme in
     let fit = fits c.args.lines.width c.args.lines.trim c.args.text.now c.graphemes.word.now c.graphemes.rest.now c.graphemes.counter c.graphemes.invariant in
     line_goes c.args.lines.width c.args.lines.trim c.args.text.now c.graphemes.word.now c.graphemes.rest.now c.graphemes.counter c.graphemes.invariant
-    g.behind.now c.word_from-word.result.now g.width g.blank c.in-Grapheme.ensures c.word_from-word.ensures
+    g.after.now c.word_from-word.result.now g.width g.blank c.in-Grapheme.ensures c.word_from-word.ensures
     c.read_in_line.result c.read_in_line.new.self c.in_default-read_in_line.not-Some (c.read_in_line.ensures.end fit) (c.read_in_line.ensures.new fit)
 
 pub returns-clause-first : goal.returns-clause-first

@@ -1,5 +1,5 @@
-use Rattle.tui_lists.proofs.ListShown.{inside_is_dressed, selected_is_shown, strokes_stay}
+use Rattle.tui_lists.proofs.ListShown.{items_are_over_styles, selected_is_shown, redraw_keeps_strokes}
 use Rattle.tui_lists.proofs.laws.list_laws.Goals as goal
 
 pub returns : goal.returns
-returns c = record { selected = selected_is_shown; again = strokes_stay; inside = inside_is_dressed }
+returns c = record { selected = selected_is_shown; again = redraw_keeps_strokes; inside = items_are_over_styles }

@@ -1,5 +1,5 @@
 use Rattle.std.proofs.Common.{◌≡◌, ℕ, List, ◌++◌, drop}
-use Rattle.tui_outside.specs.Gathers.{Gathers}
+use Rattle.tui_io.specs.Prints.{Prints}
 use Rattle.tui_pager_run.specs.Printed.{key_lines}
 use Rattle.tui_pager_run.proofs.printing.add_states.Given as goal
 
@@ -7,4 +7,4 @@ abbrev pub invariant-states : goal.invariant-states
 invariant-states g l =
     let k = g.K.Sink in
     (done : List ℕ) × (key_lines 0 l.states ≡ done ++ key_lines l.number (drop l.number l.states))
-    × Gathers (k.told l.fn.sink) (k.told l.sink) l.fn.print l.print done
+    × Prints (k.observed l.fn.sink) (k.observed l.sink) l.fn.print l.print done

@@ -5,7 +5,7 @@ use Rattle.tui_cells.specs.Rect.{covers}
 use Rattle.tui_pages_lib.specs.Strokes.{cells_layers}
 use Rattle.tui_pages_lib.proofs.drawing.draw_cells.Given as goal
 
--- the cells that are left complete the whole
+-- the remaining cells complete the record
 abbrev pub invariant-cells : goal.invariant-cells
 invariant-cells l = record {
   rest : (final : Screen) → Painted (cells_layers l.line l.fn.buf.area l.rows (drop l.i l.places) (drop l.i (map (λ cell. cell.now) l.cells))) l.buf final

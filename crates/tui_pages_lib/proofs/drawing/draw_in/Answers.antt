@@ -3,7 +3,7 @@ use Rattle.tui_pages_lib.proofs.Drawn.{kept_in}
 use Rattle.tui_pages_lib.proofs.drawing.draw_in.Goals as goal
 
 pub returns-clause-ok : goal.returns-clause-ok
-unfolding Rattle.tui_pages_lib.specs.Strokes.drawn_in
+unfolding Rattle.tui_pages_lib.specs.Strokes.paragraph_in
 returns-clause-ok c = c.render.ensures.ok
 
 pub returns-clause-kept : goal.returns-clause-kept

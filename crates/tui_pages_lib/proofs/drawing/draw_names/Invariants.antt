@@ -6,7 +6,7 @@ use Rattle.tui_pages_lib.specs.Report.{column_data}
 use Rattle.tui_pages_lib.specs.Strokes.{names_layers}
 use Rattle.tui_pages_lib.proofs.drawing.draw_names.Given as goal
 
--- the names that are left complete the whole
+-- the remaining names complete the row
 abbrev pub invariant-names : goal.invariant-names
 invariant-names l = record {
   rest : (final : Screen) → Painted (names_layers l.fn.buf.area l.row (drop l.i l.places) (drop l.i (map column_data l.columns))) l.buf final

@@ -7,7 +7,7 @@ use Rattle.tui_pages_lib.specs.Report.{cells_of}
 use Rattle.tui_pages_lib.specs.Strokes.{pieces_layers}
 use Rattle.tui_pages_lib.proofs.drawing.draw_pieces.Given as goal
 
--- the pieces that are left complete the whole
+-- the remaining pieces complete the page
 abbrev pub invariant-pieces : goal.invariant-pieces
 invariant-pieces l = record {
   rest : (final : Screen) → Painted (pieces_layers l.fn.buf.area l.page l.places (map cells_of l.records) l.row (drop l.i l.pieces)) l.buf final

@@ -10,4 +10,4 @@ returns-then-width-eq0 c = λ pieces have last.
 pub returns : goal.returns
 returns c = λ pieces have last.
     next_starts c.args.places.now (map cells_of c.args.records.now) pieces c.args.known.now c.args.piece c.args.before c.in-Some.cell.now
-    _ _ _ c.moved_on.result c.requires have last (sym c.in-Some.ensures) c.moved_on.ensures.begins c.place_before-start.ensures.line c.place_before-start.ensures.place c.moved_on.ensures.further
+    _ _ _ c.start_after_lines.result c.requires have last (sym c.in-Some.ensures) c.start_after_lines.ensures.begins c.known_start-start.ensures.line c.known_start-start.ensures.place c.start_after_lines.ensures.further

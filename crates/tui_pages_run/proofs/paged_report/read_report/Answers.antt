@@ -1,7 +1,7 @@
 use Rattle.std.proofs.Common.{◌≤◌, ◌∙◌, Err, ap, arith, inl, inr, refl, subst}
 use Rattle.std.specs.Prelude.{All}
 use Rattle.serde_json.specs.View.{view}
-use Rattle.tui_pages_lib.specs.Heights.{heights_of, most_lines}
+use Rattle.tui_pages_lib.specs.Heights.{heights_of, max_lines}
 use Rattle.tui_pages_lib.specs.Report.{ReportData, places_of, report_heights}
 use Rattle.tui_pages_run.specs.Input.{input_data, report_in}
 use Rattle.tui_pages_run.proofs.Bounds.{input_least}
@@ -19,9 +19,9 @@ unfolding report_in
 returns-in-Ok-clause-gives c =
     let input = input_data c.in_ok-input.input in
     let heights = heights_of (places_of input.sheet.width input.columns) input.records in
-    let low : All (λ lines. lines ≤ most_lines) heights =
-    subst (λ (r : ReportData). All (λ lines. lines ≤ most_lines) (report_heights r)) c.in-Ok.ensures.ok c.in-Ok.ensures.low in
-    rw (c.in_ok-input.ensures, none_is heights low, c.in-Ok.ensures.ok) refl
+    let bounded : All (λ lines. lines ≤ max_lines) heights =
+    subst (λ (r : ReportData). All (λ lines. lines ≤ max_lines) (report_heights r)) c.in-Ok.ensures.ok c.in-Ok.ensures.bounded in
+    rw (c.in_ok-input.ensures, none_is heights bounded, c.in-Ok.ensures.ok) refl
 
 pub returns-in-Err-TooTall-clause-gives : goal.returns-in-Err-TooTall-clause-gives
 unfolding report_in

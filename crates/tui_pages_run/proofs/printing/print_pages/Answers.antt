@@ -1,5 +1,5 @@
 use Rattle.std.proofs.Common.{arith}
-use Rattle.tui_outside.proofs.Gathering.{Gathers-none, Gathers-then}
+use Rattle.tui_io.proofs.Printing.{Prints-none, Prints-then}
 use Rattle.tui_pages_run.specs.Printed.{first_pages}
 use Rattle.tui_pages_run.proofs.PageRows.{body_is}
 use Rattle.tui_pages_run.proofs.Pages.{ended_early, ended_whole, one_more}
@@ -8,11 +8,11 @@ use Rattle.tui_pages_run.proofs.printing.print_pages.Goals as goal
 pub pages-init : goal.pages-init
 unfolding first_pages
 pages-init g c =
-    (c.in_ok-page.ensures, rw c.new-print.ensures (Gathers-none _ _))
+    (c.in_ok-page.ensures, rw c.new-print.ensures (Prints-none _ _))
 
 pub pages-preserved : goal.pages-preserved
 pages-preserved g c =
-    (c.in-Ok.ensures.head, rw (one_more c.args.report.now c.pages.at) (Gathers-then c.pages.invariant.1 c.put_page.ensures))
+    (c.in-Ok.ensures.head, rw (one_more c.args.report.now c.pages.at) (Prints-then c.pages.invariant.1 c.emit_page.ensures))
 
 pub returns-in-Err : goal.returns-in-Err
 returns-in-Err g c =
@@ -26,5 +26,5 @@ returns g c =
     let end = c.ended-2.ensures in
     ended_whole r _ _ _ _ c.pages.at end.0 _ c.ended-2.result (omega (arith, c.pages-test.false, c.page_count-at-end.ensures)) c.pages.invariant.1 end.1 end.2
 
-pub turn_to-requires-clause-body : goal.turn_to-requires-clause-body
-turn_to-requires-clause-body g c = body_is c.args.report.now c.args.area c.rows_from-body.result c.requires c.rows_from-body.ensures
+pub draw_page-requires-clause-body : goal.draw_page-requires-clause-body
+draw_page-requires-clause-body g c = body_is c.args.report.now c.args.area c.rows_from-body.result c.requires c.rows_from-body.ensures

@@ -1,5 +1,5 @@
 use Rattle.tui_scene.specs.Item.{placed_data}
-use Rattle.tui_panes_lib.proofs.Put.{kept_there, moved_there, put_back}
+use Rattle.tui_panes_lib.proofs.ReplacedLeaf.{kept_there, moved_there, restored}
 use Rattle.tui_panes_lib.proofs.drawing.redraw.Goals as goal
 
 pub returns-in-Ok-clause-state : goal.returns-in-Ok-clause-state
@@ -14,4 +14,4 @@ returns-in-Err-clause-err c =
 
 pub returns-in-Err-clause-err_state : goal.returns-in-Err-clause-err_state
 returns-in-Err-clause-err_state c =
-    put_back c.args.scene.now _ _ _ c.args.at _ _ c.replace-old.ensures.new c.replace-old.ensures.old c.in-Err.ensures.err_state c.replace.ensures.new
+    restored c.args.scene.now _ _ _ c.args.at _ _ c.replace-old.ensures.new c.replace-old.ensures.old c.in-Err.ensures.err_state c.replace.ensures.new

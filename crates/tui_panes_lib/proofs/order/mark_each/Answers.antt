@@ -9,10 +9,10 @@ returns-then-leaf-marks-clause-other c =
     elim c.then-leaf-marks.branch [
       | then-leaf-marks-via-then-leaf-marks w ↦
           λ _. past (length c.args.marks.now) c.marking.leaf-index leaf c.args.order.now c.marking-test.true refl
-          (omega (arith, w.if-leaf-marks.true, c.marking.invariant.as_many))
+          (omega (arith, w.if-leaf-marks.true, c.marking.invariant.same_length))
       | then-leaf-marks-via-else-leaf-marks+then-marks-leaf w ↦
           λ _. twice c.marking.marks c.args.order.now _ c.marking.leaf-index leaf c.marking-test.true refl w.if-leaf-marks.false
-          c.marking.invariant.as_many w.if-marks-leaf.true c.marking.invariant.marked
+          c.marking.invariant.same_length w.if-marks-leaf.true c.marking.invariant.marked
     ]
 
 pub marking-preserved : goal.marking-preserved
@@ -21,5 +21,5 @@ marking-preserved c =
     record {
       marked = marked_more c.marking.marks c.args.order.now c.marking.leaf-index leaf c.marking-test.true refl c.if-leaf-marks.false
           c.if-marks-leaf.false c.marking.invariant.marked;
-      as_many = search rules;
+      same_length = search rules;
     }

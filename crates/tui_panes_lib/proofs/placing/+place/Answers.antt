@@ -1,13 +1,13 @@
 use Rattle.std.proofs.Common.{◌<◌, arith, refl, ap, ◌∙◌, length}
 use Rattle.tui_layout.specs.Columns.{columns_of}
 use Rattle.tui_panes_lib.specs.Pane.{sizes_data}
-use Rattle.tui_panes_lib.proofs.Placed.{as_many, column_inside, leaf_placed, near_fits, pane_placed, part_placed}
+use Rattle.tui_panes_lib.proofs.Placed.{same_length, column_inside, leaf_placed, near_fits, pane_placed, part_placed}
 use Rattle.tui_panes_lib.proofs.placing.+place.Goals as goal
 
 pub placing-init : goal.placing-init
 placing-init t c =
     let given = c.into_iter-part-iterator.ensures.into_iter_gives in
-    (refl, as_many _ _ _ _ _ _ _ (c.in_ok-sizes-in-Split.ensures ∙ ap sizes_data c.deref.ensures.value) (c.in_ok-columns-in-Split.ensures.columns ∙ ap (λ cs. columns_of c.side.result c.in-Split.spacing cs c.in-Split.flex) c.deref-in-Split.ensures.value) given.0, omega (arith, given.1, ap length given.0))
+    (refl, same_length _ _ _ _ _ _ _ (c.in_ok-sizes-in-Split.ensures ∙ ap sizes_data c.deref.ensures.value) (c.in_ok-columns-in-Split.ensures.columns ∙ ap (λ cs. columns_of c.side.result c.in-Split.spacing cs c.in-Split.flex) c.deref-in-Split.ensures.value) given.0, omega (arith, given.1, ap length given.0))
 
 pub part_area-requires : goal.part_area-requires
 part_area-requires t c =

@@ -4,7 +4,7 @@ use Rattle.tui_panes_lib.specs.Pane.{parts_of}
 use Rattle.tui_panes_lib.specs.Place.{place_parts}
 use Rattle.tui_panes_lib.proofs.placing.+place.Given as goal
 
--- the parts so far are placed, and with those to come, on the columns to come, all are
+-- the first parts are placed; placing the others on the remaining columns completes the pane
 abbrev pub invariant-placing : goal.invariant-placing
 invariant-placing l =
     (l.scene ++ place_parts l.direction l.area (drop l.at l.columns.items) (parts_of (into_iter_items l.part-iterator))

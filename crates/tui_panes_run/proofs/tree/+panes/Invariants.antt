@@ -17,7 +17,7 @@ decreases-read_parts l = 4 * l.room + 4
 abbrev pub decreases-read_part : goal.decreases-read_part
 decreases-read_part l = 4 * l.room + 3
 
--- the parts so far are read, and with those to come all are
+-- the parts so far are read, and with the rest all are
 abbrev pub invariant-read_parts-loop-value : goal.invariant-read_parts-loop-value
 invariant-read_parts-loop-value l =
     after l.parts.items (parts_in (pane_in l.room) l.number (counts_data l.at) (items_view (drop l.value-index l.values)))

@@ -21,10 +21,10 @@ loop-grapheme-init c =
 
 pub loop-grapheme-preserved-then-mark-width : goal.loop-grapheme-preserved-then-mark-width
 loop-grapheme-preserved-then-mark-width c =
-    let mark = c.mark-behind.ensures in
+    let mark = c.mark-after.ensures in
     record {
-      numbers = one_read c.args.width c.args.wrap c.loop-grapheme.hyphenation c.mark-behind.result.1 c.mark-behind.result.0 (glyph_of c.in-Some.grapheme) (glyphs_left c.next.new.self) (glyphs_left c.loop-grapheme.grapheme-iterator)
-          c.in-Some.ensures.steps mark.mark c.loop-grapheme.counter c.read.new.self mark.behind c.if-mark-width.true c.read.ensures.step ∙ c.loop-grapheme.invariant.numbers;
+      numbers = one_read c.args.width c.args.wrap c.loop-grapheme.hyphenation c.mark-after.result.1 c.mark-after.result.0 (glyph_of c.in-Some.grapheme) (glyphs_left c.next.new.self) (glyphs_left c.loop-grapheme.grapheme-iterator)
+          c.in-Some.ensures.steps mark.mark c.loop-grapheme.counter c.read.new.self mark.after c.if-mark-width.true c.read.ensures.step ∙ c.loop-grapheme.invariant.numbers;
       fits = c.read.ensures.fits;
     }
 

@@ -1,7 +1,7 @@
 use Rattle.std.proofs.Common.{[], ◌∷◌, ◌++◌, map, refl, Some, None}
 use Rattle.tui_text.specs.Grapheme.{glyph_of}
 use Rattle.tui_para.specs.Lines.{glyph_line}
-use Rattle.tui_para.proofs.Answering.{AllReady-first, AllReady-step, all_may}
+use Rattle.tui_para.proofs.IteratorSteps.{AllReady-first, AllReady-step, all_may}
 use Rattle.tui_para.proofs.ends.read_lines.Goals as goal
 
 pub read_line-requires : goal.read_line-requires

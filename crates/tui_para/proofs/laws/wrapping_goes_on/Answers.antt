@@ -1,4 +1,4 @@
-use Rattle.tui_para.proofs.LinesBehind.{goes_on_after}
+use Rattle.tui_para.proofs.LinesAfter.{goes_on_after}
 use Rattle.tui_para.proofs.laws.wrapping_goes_on.Goals as goal
 
 pub returns : goal.returns

@@ -1,5 +1,5 @@
-use Rattle.tui_outside.proofs.Gathering.{Gathers-then, Gathers-writes}
+use Rattle.tui_io.proofs.Printing.{Prints-then, Prints-writes}
 use Rattle.tui_rows.proofs.write.write_rows.Goals as goal
 
 pub returns : goal.returns
-returns g c = Gathers-writes c.new-print.ensures (Gathers-then c.text.ensures c.put_rows.ensures) c.end.ensures.puts
+returns g c = Prints-writes c.new-print.ensures (Prints-then c.text.ensures c.emit_rows.ensures) c.end.ensures.writes_if

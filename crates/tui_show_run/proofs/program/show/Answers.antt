@@ -13,5 +13,5 @@ pub returns-clause-usage : goal.returns-clause-usage
 returns-clause-usage g c = λ wrong.
     elim (c.run.ensures.usage (name_none _ wrong)) [
       | inl usage ↦ inl (usage_is c.into.result (c.into.ensures ∙ usage))
-      | inr fault ↦ inr (fault_is c.into.result (c.into.ensures ∙ fault))
+      | inr io_error ↦ inr (fault_is c.into.result (c.into.ensures ∙ io_error))
     ]

@@ -6,7 +6,7 @@ use Rattle.tui_table.specs.Cell.{cell_data}
 use Rattle.tui_table.specs.Strokes.{cells_layers}
 use Rattle.tui_table.proofs.cells.paint_cells.Given as goal
 
--- the cells that are left complete the whole
+-- painting the remaining cells completes the whole
 abbrev pub invariant-cells : goal.invariant-cells
 invariant-cells l = record {
   rest : (final : Screen) → Painted (cells_layers l.area l.grid.gutter l.spacing l.kind (drop l.used l.grid.columns.now) (drop l.i (map cell_data l.cells))) l.buf final

@@ -4,7 +4,7 @@ use Rattle.tui_cells.specs.Cell.{Look}
 use Rattle.tui_terminal.proofs.Walking.{dropped}
 use Rattle.tui_terminal.proofs.changed.changed_end.Goals as goal
 
--- both rows from another column on, which is the same number
+-- both rows from a column on, where the column is given in two ways
 moved : (olds news : List Look) (i k : ℕ) → i ≡ k → drop i olds ≡ drop i news → drop k olds ≡ drop k news
 moved olds news i k is same = sym (ap (λ n. drop n olds) is) ∙ (same ∙ ap (λ n. drop n news) is)
 
@@ -24,11 +24,11 @@ places-preserved c =
     let lt : back < length news = search (rules, arith) in
     let on : c.is_same.result ≡ true = search rules in
     let same = c.is_same.ensures.0 on in
-    let behind = moved olds news (length news - back) (place + 1) (omega (arith, lt)) c.places.invariant in
+    let following = moved olds news (length news - back) (place + 1) (omega (arith, lt)) c.places.invariant in
     let len = c.requires in
     let first = dropped olds place c.index-old-place.result (omega (arith, lt, len)) c.index-old-place.is in
     let second = dropped news place c.index-new-place.result (omega (arith, lt)) c.index-new-place.is in
-    moved olds news place (length news - (back + 1)) (omega (arith, lt)) (first ∙ ((λ j. same j ∷ behind j) ∙ sym second))
+    moved olds news place (length news - (back + 1)) (omega (arith, lt)) (first ∙ ((λ j. same j ∷ following j) ∙ sym second))
 
 pub returns-then-not-is_same : goal.returns-then-not-is_same
 returns-then-not-is_same c =

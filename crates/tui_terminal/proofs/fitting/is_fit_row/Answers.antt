@@ -8,7 +8,7 @@ columns-preserved c =
     let row = c.args.row.now in
     let lt : l.column < length row = search (rules, arith) in
     let on : c.is_fit.result ≡ true = search rules in
-    sym (fit_more c.args.trust row l.column (length row - l.column) c.index-row-column.result true lt c.index-row-column.is refl (sym c.is_fit.ensures ∙ on)) ∙ l.invariant
+    sym (fit_more c.args.widths row l.column (length row - l.column) c.index-row-column.result true lt c.index-row-column.is refl (sym c.is_fit.ensures ∙ on)) ∙ l.invariant
 
 pub returns-then-not-is_fit : goal.returns-then-not-is_fit
 returns-then-not-is_fit c =
@@ -16,10 +16,10 @@ returns-then-not-is_fit c =
     let row = c.args.row.now in
     let lt : l.column < length row = search (rules, arith) in
     let off : c.is_fit.result ≡ false = search rules in
-    sym (fit_more c.args.trust row l.column (length row - l.column) c.index-row-column.result false lt c.index-row-column.is refl (sym c.is_fit.ensures ∙ off)) ∙ l.invariant
+    sym (fit_more c.args.widths row l.column (length row - l.column) c.index-row-column.result false lt c.index-row-column.is refl (sym c.is_fit.ensures ∙ off)) ∙ l.invariant
 
 pub returns : goal.returns
 returns c =
     let l = c.columns in
     let past : length c.args.row.now ≤ l.column = search (rules, arith) in
-    fit_all c.args.trust c.args.row.now l.column past ∙ l.invariant
+    fit_all c.args.widths c.args.row.now l.column past ∙ l.invariant

@@ -2,6 +2,6 @@ use Rattle.std.proofs.Common.{◌≡◌, drop}
 use Rattle.tui_terminal.specs.Fitting.{are_fit}
 use Rattle.tui_terminal.proofs.fitting.is_fit_row.Given as goal
 
--- the cells that are still to come decide
+-- the remaining cells decide
 abbrev pub invariant-columns : goal.invariant-columns
-invariant-columns l = are_fit l.trust (drop l.column l.row) ≡ are_fit l.trust l.row
+invariant-columns l = are_fit l.widths (drop l.column l.row) ≡ are_fit l.widths l.row

@@ -1,5 +1,5 @@
 use Rattle.std.proofs.Common.{ap}
-use Rattle.tui_tty.specs.Pens.{pen_of}
+use Rattle.tui_terminal_model.specs.Pens.{pen_of}
 use Rattle.tui_terminal.proofs.styled.is_same_pen.Goals as goal
 
 pub returns-then-is_same : goal.returns-then-is_same

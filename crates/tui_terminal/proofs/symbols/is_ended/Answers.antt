@@ -2,7 +2,7 @@ use Rattle.std.proofs.Common.{not, sym, ap, ◌∙◌}
 use Rattle.std.proofs.lemmas.Iterator.{YieldsList-from_chars}
 use Rattle.std.proofs.lemmas.Iterator.Consumers.{YieldsList-end}
 use Rattle.std.proofs.lemmas.List.{map-id}
-use Rattle.tui_tty.specs.Symbols.{ends_chars, is_ended}
+use Rattle.tui_terminal_model.specs.Symbols.{ends_chars, is_ended}
 use Rattle.tui_terminal.proofs.SymbolLemmas.{ends_more}
 use Rattle.tui_terminal.proofs.symbols.is_ended.Goals as goal
 

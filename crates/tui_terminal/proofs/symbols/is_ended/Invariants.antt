@@ -1,5 +1,5 @@
 use Rattle.std.proofs.Common.{◌≡◌}
-use Rattle.tui_tty.specs.Symbols.{ends_chars}
+use Rattle.tui_terminal_model.specs.Symbols.{ends_chars}
 use Rattle.tui_terminal.proofs.symbols.is_ended.Given as goal
 
 -- the last character so far

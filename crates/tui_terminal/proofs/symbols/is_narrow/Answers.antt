@@ -5,4 +5,4 @@ use Rattle.tui_terminal.proofs.symbols.is_narrow.Goals as goal
 pub returns-then-is_ascii : goal.returns-then-is_ascii
 returns-then-is_ascii c =
     let on : c.is_ascii.result ≡ true = search rules in
-    on ∙ sym (byte_narrow c.args.trust c.args.symbol.now (sym c.is_ascii.ensures ∙ on))
+    on ∙ sym (byte_narrow c.args.widths c.args.symbol.now (sym c.is_ascii.ensures ∙ on))

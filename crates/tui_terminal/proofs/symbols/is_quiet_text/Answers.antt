@@ -1,6 +1,6 @@
 use Rattle.std.proofs.Common.{◌≡◌, ◌+◌, ◌<◌, ◌≤◌, ◌==◌, get_or, length, drop, rules, false, sym, ap, ◌∙◌, arith}
 use Rattle.std.proofs.lemmas.Bool.{and_left}
-use Rattle.tui_tty.specs.Symbols.{is_quiet, is_quiet_byte, is_quiet_from}
+use Rattle.tui_terminal_model.specs.Symbols.{is_quiet, is_quiet_byte, is_quiet_from}
 use Rattle.tui_terminal.proofs.SymbolLemmas.{quiet_end, quiet_step}
 use Rattle.tui_terminal.proofs.symbols.is_quiet_text.Goals as goal
 

@@ -3,7 +3,7 @@ use Rattle.std.proofs.lemmas.Bool.Decides.{nat_tests}
 use Rattle.std.proofs.lemmas.Iterator.{YieldsList-from_chars}
 use Rattle.std.proofs.lemmas.Iterator.Consumers.{YieldsList-end}
 use Rattle.std.proofs.lemmas.List.{map-id}
-use Rattle.tui_tty.specs.Terminal.{reach, reach_of}
+use Rattle.tui_terminal_model.specs.Terminal.{reach, reach_of}
 use Rattle.tui_terminal.proofs.SymbolLemmas.{reach_more}
 use Rattle.tui_terminal.proofs.symbols.is_within_reach.Goals as goal
 

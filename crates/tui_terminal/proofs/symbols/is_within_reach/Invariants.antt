@@ -1,5 +1,5 @@
 use Rattle.std.proofs.Common.{◌≡◌, map, sum, min}
-use Rattle.tui_tty.specs.Terminal.{reach_of}
+use Rattle.tui_terminal_model.specs.Terminal.{reach_of}
 use Rattle.tui_terminal.proofs.symbols.is_within_reach.Given as goal
 
 -- the columns of the characters so far

@@ -1,7 +1,7 @@
 use Rattle.std.proofs.Common.{◌∙◌, ap, arith, map, sym}
 use Rattle.tui_cells.proofs.Painting.{KeptOutside-then, KeptOutside-weaker}
 use Rattle.tui_text.specs.Line.{line_data}
-use Rattle.tui_text.specs.Setting.{AreLight}
+use Rattle.tui_text.specs.Setting.{AreAllocationFree}
 use Rattle.tui_text.proofs.Elements.{none_from, seen_at, seen_from}
 use Rattle.tui_text.proofs.RowStays.{below_out}
 use Rattle.tui_text.proofs.TextRows.{lines_done, lines_ended, lines_more}
@@ -10,10 +10,10 @@ use Rattle.tui_text.proofs.painting.paint_lines.Goals as goal
 pub returns-then-is_empty-clause-ok : goal.returns-then-is_empty-clause-ok
 returns-then-is_empty-clause-ok c = c.loop-line.invariant.rest _ (lines_ended _ _ _ _ (sym c.is_empty.ensures ∙ c.if-is_empty.true))
 
-pub returns-in_err-paint_row-clause-light : goal.returns-in_err-paint_row-clause-light
-returns-in_err-paint_row-clause-light c all =
+pub returns-in_err-paint_row-clause-allocation_free : goal.returns-in_err-paint_row-clause-allocation_free
+returns-in_err-paint_row-clause-allocation_free c all =
     let broken =
-    c.in_err-paint_row.ensures.light (seen_at line_data (λ l. AreLight l.spans) c.args.lines.now c.loop-line.line-index _ _ (omega arith) c.line-item.is all) in
+    c.in_err-paint_row.ensures.allocation_free (seen_at line_data (λ l. AreAllocationFree l.spans) c.args.lines.now c.loop-line.line-index _ _ (omega arith) c.line-item.is all) in
     cc
 
 pub loop-line-preserved : goal.loop-line-preserved

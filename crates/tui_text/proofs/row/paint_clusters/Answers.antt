@@ -3,7 +3,7 @@ use Rattle.tui_text.proofs.Elements.{if_ok}
 use Rattle.tui_text.proofs.PaintedRuns.{painted_first}
 use Rattle.tui_text.proofs.RowStrokes.{shown_then}
 use Rattle.tui_clusters.proofs.Runs.{run_alone}
-use Rattle.tui_text.proofs.Runs.{light_behind}
+use Rattle.tui_text.proofs.Runs.{allocation_free_after}
 use Rattle.tui_text.proofs.row.paint_clusters.Goals as goal
 
 pub returns-then-is_empty-clause-shown : goal.returns-then-is_empty-clause-shown
@@ -18,5 +18,5 @@ returns-clause-shown c =
     let run = painted_first _ _ _ _ c.args.style c.split_run.result.0.now _ _ _ _ c.split_run.ensures.clusters c.paint_bytes.ensures.shown in
     if_ok c.paint_others.result (λ next p more. shown_then (run more) (p more)) c.paint_others.ensures.shown
 
-pub returns-clause-light : goal.returns-clause-light
-returns-clause-light c = λ all. c.paint_others.ensures.light (light_behind c.split_run.result.0.now _ _ c.split_run.ensures.clusters all)
+pub returns-clause-allocation_free : goal.returns-clause-allocation_free
+returns-clause-allocation_free c = λ all. c.paint_others.ensures.allocation_free (allocation_free_after c.split_run.result.0.now _ _ c.split_run.ensures.clusters all)

@@ -1,5 +1,5 @@
 use Rattle.std.proofs.Common.{All, ap, arith, flat_map, map, refl}
-use Rattle.tui_cells.specs.Cell.{IsLight}
+use Rattle.tui_cells.specs.Cell.{IsAllocationFree}
 use Rattle.tui_cells.specs.Style.{no_style}
 use Rattle.tui_cells.proofs.Painting.{KeptOutside-then}
 use Rattle.tui_clusters.specs.Shown.{clusters}
@@ -15,11 +15,11 @@ returns-then-place-end-clause-ok c =
     let far = c.if-place-end.true in
     c.loop-span.invariant.shown.done _ (shown_ended _ _ _ _ _ (omega (arith, far)))
 
-pub returns-in_err-place-clause-light : goal.returns-in_err-place-clause-light
-returns-in_err-place-clause-light c all =
+pub returns-in_err-place-clause-allocation_free : goal.returns-in_err-place-clause-allocation_free
+returns-in_err-place-clause-allocation_free c all =
     let broken =
-    c.in_err-place.ensures.light
-    (seen_at span_data (λ s. All IsLight (clusters s.content)) c.args.spans.now c.loop-span.span-index _ _ (omega arith) refl all) in
+    c.in_err-place.ensures.allocation_free
+    (seen_at span_data (λ s. All IsAllocationFree (clusters s.content)) c.args.spans.now c.loop-span.span-index _ _ (omega arith) refl all) in
     cc
 
 pub loop-span-preserved : goal.loop-span-preserved

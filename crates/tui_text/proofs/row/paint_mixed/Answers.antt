@@ -1,6 +1,6 @@
 use Rattle.std.proofs.Common.{All, arith, subst}
 use Rattle.std.proofs.lemmas.List.Elements.{All-tail}
-use Rattle.tui_cells.specs.Cell.{IsLight}
+use Rattle.tui_cells.specs.Cell.{IsAllocationFree}
 use Rattle.tui_cells.proofs.Painting.{KeptOutside-then}
 use Rattle.tui_text.proofs.PaintedRuns.{painted_next}
 use Rattle.tui_text.proofs.RowStrokes.{shown_then, shown_whole}
@@ -18,6 +18,6 @@ clusters-preserved c =
       shown = λ more. shown_then
           (shown_then (c.clusters.invariant.shown more) (painted_next _ _ _ _ c.args.style _ _ _ _ _ steps c.in_ok-next.ensures.shown more))
           (c.paint_run-place.ensures.shown more);
-      light = λ all. c.paint_run-place.ensures.light (All-tail IsLight _ _ (subst (λ cs. All IsLight cs) steps (c.clusters.invariant.light all)));
+      allocation_free = λ all. c.paint_run-place.ensures.allocation_free (All-tail IsAllocationFree _ _ (subst (λ cs. All IsAllocationFree cs) steps (c.clusters.invariant.allocation_free all)));
       kept = KeptOutside-then (KeptOutside-then c.clusters.invariant.kept c.in_ok-next.ensures.kept) c.paint_run-place.ensures.kept;
     }

@@ -1,5 +1,5 @@
 use Rattle.std.proofs.Common.{All, List, length, map, ◌++◌}
-use Rattle.tui_cells.specs.Cell.{IsLight}
+use Rattle.tui_cells.specs.Cell.{IsAllocationFree}
 use Rattle.tui_cells.specs.Layers.{KeptOutside}
 use Rattle.tui_text.specs.Grapheme.{Glyph}
 use Rattle.tui_clusters.specs.Clusters.{clusters_left}
@@ -14,7 +14,7 @@ abbrev pub invariant-clusters : goal.invariant-clusters
 invariant-clusters l = record {
   shown : (more : List Glyph) → ShownUpTo l.row l.skip l.start (map (glyph_in l.style) (clusters l.text) ++ more)
       l.place (map (glyph_in l.style) (clusters_left l.clusters) ++ more) l.fn.buf l.buf;
-  light : All IsLight (clusters l.text) → All IsLight (clusters_left l.clusters);
+  allocation_free : All IsAllocationFree (clusters l.text) → All IsAllocationFree (clusters_left l.clusters);
   kept : KeptOutside (row_part l.row) l.fn.buf l.buf;
 }
 

@@ -1,5 +1,5 @@
-use Rattle.tui_text.proofs.Runs.{light_behind}
+use Rattle.tui_text.proofs.Runs.{allocation_free_after}
 use Rattle.tui_text.proofs.row.paint_run.Goals as goal
 
-pub returns-clause-light : goal.returns-clause-light
-returns-clause-light c = light_behind c.next_run-run.result.now _ _ c.next_run-run.ensures.clusters
+pub returns-clause-allocation_free : goal.returns-clause-allocation_free
+returns-clause-allocation_free c = allocation_free_after c.next_run-run.result.now _ _ c.next_run-run.ensures.clusters

@@ -1,6 +1,6 @@
 use Rattle.std.proofs.Common.{All, sym, subst, ◌∙◌, arith}
 use Rattle.std.proofs.lemmas.List.Elements.{All-tail}
-use Rattle.tui_cells.specs.Cell.{IsLight}
+use Rattle.tui_cells.specs.Cell.{IsAllocationFree}
 use Rattle.tui_cells.proofs.Painting.{KeptOutside-then}
 use Rattle.tui_text.proofs.Settings.{end_more, end_none, end_stop, kept_first, kept_run, set_more, set_none, set_stop}
 use Rattle.tui_text.proofs.setting.set_mixed.Goals as goal
@@ -23,13 +23,13 @@ pub returns-then-width-left-clause-end : goal.returns-then-width-left-clause-end
 returns-then-width-left-clause-end c =
     sym (end_stop _ _ _ _ _ c.in-Some.ensures.steps (rw c.cell_width-width.ensures at c.if-width-left.true)) ∙ c.clusters.invariant.end
 
-pub returns-in_err-put_cluster-clause-kept : goal.returns-in_err-put_cluster-clause-kept
-returns-in_err-put_cluster-clause-kept c =
+pub returns-in_err-write_cluster-clause-kept : goal.returns-in_err-write_cluster-clause-kept
+returns-in_err-write_cluster-clause-kept c =
     let columns = c.clusters.invariant.columns in
     let left = c.clusters.invariant.left in
     KeptOutside-then c.clusters.invariant.kept
     (kept_first c.args.at.x _ _ _ _ c.args.at.y _ _ _ _ _ (omega (arith, columns, left)) c.in-Some.ensures.steps c.cell_width-width.ensures c.if-width-left.false
-    c.clusters.invariant.end c.in_err-put_cluster.ensures.kept)
+    c.clusters.invariant.end c.in_err-write_cluster.ensures.kept)
 
 pub clusters-preserved : goal.clusters-preserved
 clusters-preserved c =
@@ -46,10 +46,10 @@ clusters-preserved c =
       left = omega (arith, left);
       end = end;
       rest = λ final q. c.clusters.invariant.rest final
-          (set_more _ _ _ _ _ _ _ _ _ _ _ final steps (omega (arith, wide, room)) (omega (arith, wide)) (omega (arith, wide)) c.in_ok-put_cluster.ensures.ok
+          (set_more _ _ _ _ _ _ _ _ _ _ _ final steps (omega (arith, wide, room)) (omega (arith, wide)) (omega (arith, wide)) c.in_ok-write_cluster.ensures.ok
           (c.set_run-run.ensures.rest final q));
-      light = λ all. c.set_run-run.ensures.light (All-tail IsLight _ _ (subst (λ cs. All IsLight cs) steps (c.clusters.invariant.light all)));
+      allocation_free = λ all. c.set_run-run.ensures.allocation_free (All-tail IsAllocationFree _ _ (subst (λ cs. All IsAllocationFree cs) steps (c.clusters.invariant.allocation_free all)));
       kept = KeptOutside-then (KeptOutside-then c.clusters.invariant.kept
-          (kept_first c.args.at.x _ _ _ _ c.args.at.y _ _ _ _ _ (omega (arith, columns, left)) steps wide room c.clusters.invariant.end c.in_ok-put_cluster.ensures.kept))
+          (kept_first c.args.at.x _ _ _ _ c.args.at.y _ _ _ _ _ (omega (arith, columns, left)) steps wide room c.clusters.invariant.end c.in_ok-write_cluster.ensures.kept))
           (kept_run c.args.at.x _ _ _ _ c.args.at.y _ _ _ (omega (arith, columns, left, room)) end c.set_run-run.ensures.kept);
     }

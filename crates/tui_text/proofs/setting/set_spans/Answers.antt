@@ -1,5 +1,5 @@
 use Rattle.std.proofs.Common.{All, ap, arith, map, refl, sym, ◌∙◌}
-use Rattle.tui_cells.specs.Cell.{IsLight}
+use Rattle.tui_cells.specs.Cell.{IsAllocationFree}
 use Rattle.tui_cells.proofs.Painting.{KeptOutside-then}
 use Rattle.tui_clusters.specs.Shown.{clusters}
 use Rattle.tui_text.specs.Setting.{in_line}
@@ -8,10 +8,10 @@ use Rattle.tui_text.proofs.Elements.{none_from, seen_at, seen_twice_from}
 use Rattle.tui_text.proofs.Settings.{kept_span, spans_done, spans_end_done, spans_end_more, spans_more}
 use Rattle.tui_text.proofs.setting.set_spans.Goals as goal
 
-pub returns-in_err-next-clause-light : goal.returns-in_err-next-clause-light
-returns-in_err-next-clause-light c all =
+pub returns-in_err-next-clause-allocation_free : goal.returns-in_err-next-clause-allocation_free
+returns-in_err-next-clause-allocation_free c all =
     let broken =
-    c.in_err-next.ensures.light (seen_at span_data (λ s. All IsLight (clusters s.content)) c.args.spans.now c.loop-span.span-index _ _ (omega arith) refl all) in
+    c.in_err-next.ensures.allocation_free (seen_at span_data (λ s. All IsAllocationFree (clusters s.content)) c.args.spans.now c.loop-span.span-index _ _ (omega arith) refl all) in
     cc
 
 pub returns-in_err-next-clause-kept : goal.returns-in_err-next-clause-kept

@@ -1,6 +1,6 @@
 use Rattle.std.proofs.Common.{All, [], rules, sym, ◌∙◌}
 use Rattle.std.proofs.lemmas.List.Elements.{All-head}
-use Rattle.tui_cells.specs.Cell.{IsLight}
+use Rattle.tui_cells.specs.Cell.{IsAllocationFree}
 use Rattle.tui_clusters.specs.Shown.{clusters}
 use Rattle.tui_text.specs.Setting.{styled_text}
 use Rattle.tui_text.proofs.Elements.{if_ok, on_ok}
@@ -23,5 +23,5 @@ pub returns-clause-part : goal.returns-clause-part
 returns-clause-part c = kept_part c.args.clip c.args.at (styled_text c.args.text.now c.args.style) c.args.room _ _ _ (search rules) (search rules)
     (one_kept _ _ _ _ _ _ c.set_clusters.ensures.kept)
 
-pub returns-clause-light : goal.returns-clause-light
-returns-clause-light c all = c.set_clusters.ensures.light (All-head (λ s. All IsLight (clusters s.content)) (record { content = c.args.text.now; style = c.args.style }) [] all)
+pub returns-clause-allocation_free : goal.returns-clause-allocation_free
+returns-clause-allocation_free c all = c.set_clusters.ensures.allocation_free (All-head (λ s. All IsAllocationFree (clusters s.content)) (record { content = c.args.text.now; style = c.args.style }) [] all)

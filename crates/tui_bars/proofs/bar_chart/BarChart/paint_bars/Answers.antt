@@ -2,7 +2,7 @@ use Rattle.std.proofs.Common.{arith}
 use Rattle.std.proofs.lemmas.List.{length-map}
 use Rattle.tui_cells.proofs.Painting.{KeptOutside-then}
 use Rattle.tui_bars.specs.BarChart.{bar_data, bar_chart_data}
-use Rattle.tui_bars.specs.ChartLight.{IsLightBar, direction_of}
+use Rattle.tui_bars.specs.AllocationFreeCharts.{IsAllocationFreeBar, direction_of}
 use Rattle.tui_text.proofs.Elements.{seen_at}
 use Rattle.tui_bars.specs.ChartStrokes.{bar_layers}
 use Rattle.tui_bars.proofs.Walks.{bar_done, bar_more}
@@ -19,9 +19,9 @@ bars-preserved c = record {
 pub returns-clause-ok : goal.returns-clause-ok
 returns-clause-ok c = c.bars.invariant.rest _ (bar_done bar_data c.args.shown.group.now.bars.items _ _ _ c.bars.j c.args.shown.count _ (omega arith) c.requires)
 
-pub returns-in_err-paint_bar-clause-light : goal.returns-in_err-paint_bar-clause-light
-returns-in_err-paint_bar-clause-light c levels all =
-    let broken = c.in_err-paint_bar.ensures.light levels
-    (seen_at bar_data (IsLightBar (direction_of c.args.walk.pass)) c.args.shown.group.now.bars.items c.bars.j c.index-bar.result.now c.index-bar.result.now
+pub returns-in_err-paint_bar-clause-allocation_free : goal.returns-in_err-paint_bar-clause-allocation_free
+returns-in_err-paint_bar-clause-allocation_free c levels all =
+    let broken = c.in_err-paint_bar.ensures.allocation_free levels
+    (seen_at bar_data (IsAllocationFreeBar (direction_of c.args.walk.pass)) c.args.shown.group.now.bars.items c.bars.j c.index-bar.result.now c.index-bar.result.now
     (omega (arith, length-map c.args.shown.group.now.bars.items bar_data)) (search) all) in
     cc

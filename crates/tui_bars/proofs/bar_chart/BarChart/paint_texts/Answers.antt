@@ -1,5 +1,5 @@
 use Rattle.tui_bars.proofs.GaugeStrokes.{ok_then}
-use Rattle.tui_bars.specs.Upright.{texts_layers}
+use Rattle.tui_bars.specs.VerticalBars.{texts_layers}
 use Rattle.tui_bars.proofs.bar_chart.BarChart.paint_texts.Goals as goal
 
 pub returns-clause-ok : goal.returns-clause-ok

@@ -1,7 +1,7 @@
 use Rattle.std.proofs.Common.{arith}
 use Rattle.tui_cells.proofs.Painting.{KeptOutside-then}
 use Rattle.tui_bars.specs.BarChart.{bar_chart_data, group_data}
-use Rattle.tui_bars.specs.ChartLight.{IsLightGroup, direction_of}
+use Rattle.tui_bars.specs.AllocationFreeCharts.{IsAllocationFreeGroup, direction_of}
 use Rattle.tui_text.proofs.Elements.{seen_at}
 use Rattle.tui_bars.specs.ChartStrokes.{group_layers}
 use Rattle.tui_bars.proofs.Walks.{group_done, group_more}
@@ -19,8 +19,8 @@ groups-preserved c = record {
 pub returns-clause-ok : goal.returns-clause-ok
 returns-clause-ok c = c.groups.invariant.rest _ (group_done group_data c.args.self.now.groups.items _ _ _ _ c.groups.i _ (omega arith))
 
-pub returns-in_err-paint_shown-clause-light : goal.returns-in_err-paint_shown-clause-light
-returns-in_err-paint_shown-clause-light c levels all =
-    let broken = c.in_err-paint_shown.ensures.light levels
-    (seen_at group_data (IsLightGroup (direction_of c.args.walk.pass)) c.args.self.now.groups.items c.groups.i c.index-group.result.now c.index-group.result.now (omega arith) (search) all) in
+pub returns-in_err-paint_shown-clause-allocation_free : goal.returns-in_err-paint_shown-clause-allocation_free
+returns-in_err-paint_shown-clause-allocation_free c levels all =
+    let broken = c.in_err-paint_shown.ensures.allocation_free levels
+    (seen_at group_data (IsAllocationFreeGroup (direction_of c.args.walk.pass)) c.args.self.now.groups.items c.groups.i c.index-group.result.now c.index-group.result.now (omega arith) (search) all) in
     cc

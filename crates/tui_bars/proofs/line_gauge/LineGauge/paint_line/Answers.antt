@@ -7,4 +7,4 @@ pub returns-clause-ok : goal.returns-clause-ok
 returns-clause-ok c =
     bar_painted _ c.args.area (line_gauge_data c.args.self.now) c.args.start _ _ _ _ _ _ _ _ _
     (c.saturating_sub-columns.ensures ∙ ap (λ (n : ℕ). n - c.args.start) c.right.ensures) c.whole_columns-count.ensures c.saturating_add.ensures c.saturating_sub.ensures
-    c.cells_at-filled.ensures c.cells_at-rest.ensures c.in_ok-put_in.ensures.ok c.put_in-2.ensures.ok
+    c.cells_at-filled.ensures c.cells_at-rest.ensures c.in_ok-fill_clipped.ensures.ok c.fill_clipped-2.ensures.ok

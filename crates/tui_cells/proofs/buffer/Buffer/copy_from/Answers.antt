@@ -7,5 +7,5 @@ invariant_of-self c =
     copied_buffer c.copy_rows.result c.self.inside.area c.deref.result.now _ c.copy_rows.new.rows.items _ c.other.inside.blanks.items
     c.self.invariant (search (rules, c.other.invariant)) c.copy_rows.ensures.ok c.copy_rows.ensures.err
 
-pub returns-clause-light : goal.returns-clause-light
-returns-clause-light c = λ light. c.copy_rows.ensures.light (search (rules, light))
+pub returns-clause-allocation_free : goal.returns-clause-allocation_free
+returns-clause-allocation_free c = λ allocation_free. c.copy_rows.ensures.allocation_free (search (rules, allocation_free))

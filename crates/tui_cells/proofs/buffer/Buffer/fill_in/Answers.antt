@@ -1,5 +1,5 @@
 use Rattle.std.proofs.Common.{rules}
-use Rattle.tui_cells.proofs.Dressing.{nothing_set}
+use Rattle.tui_cells.proofs.NoStyleLaws.{nothing_set}
 use Rattle.tui_cells.proofs.Painting.{Painted-then}
 use Rattle.tui_cells.proofs.buffer.Buffer.fill_in.Goals as goal
 

@@ -1,5 +1,5 @@
 use Rattle.std.proofs.Common.{inl, inr, rules}
-use Rattle.tui_cells.proofs.Spelling.{above_or_below, beside}
+use Rattle.tui_cells.proofs.RowWritingLaws.{above_or_below, beside}
 use Rattle.tui_cells.proofs.buffer.Buffer.set_ascii.Goals as goal
 use Rattle.tui_cells.proofs.buffer.Buffer.set_ascii.Goals.{then-at-self-via-then-at-self, then-at-self-via-else-at-self+then-bottom-at}
 

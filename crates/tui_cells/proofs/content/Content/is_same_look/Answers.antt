@@ -2,7 +2,7 @@ use Rattle.std.proofs.Common.{ap, sym, ◌∙◌, true≢false}
 use Rattle.tui_cells.specs.Attributes.{content_look}
 use Rattle.tui_cells.specs.Same.{attributes_self, same_attributes}
 use Rattle.tui_cells.specs.contracts.attributes.AttributesPartialEq as attributes
-use Rattle.tui_cells.proofs.Looking.{attributes_told, looks_same}
+use Rattle.tui_cells.proofs.Looking.{attributes_same, looks_same}
 use Rattle.tui_cells.proofs.content.Content.is_same_look.Goals as goal
 
 pub returns-then-eq : goal.returns-then-eq
@@ -25,5 +25,5 @@ returns-else-eq c =
     let x = c.attributes.result in
     let y = c.attributes-2.result in (
       (λ yes. absurd (true≢false (sym yes ∙ c.if-eq.false))),
-      (λ e. c.eq.ensures ∙ (ap (λ k. attributes.TheImpl.ghosts.eq x k) (sym (attributes_told a b x y c.attributes.ensures c.attributes-2.ensures e)) ∙ attributes_self x)),
+      (λ e. c.eq.ensures ∙ (ap (λ k. attributes.TheImpl.ghosts.eq x k) (sym (attributes_same a b x y c.attributes.ensures c.attributes-2.ensures e)) ∙ attributes_self x)),
     )

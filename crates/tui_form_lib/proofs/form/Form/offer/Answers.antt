@@ -4,7 +4,7 @@ use Rattle.tui_form_lib.proofs.Moved.{value_rests}
 use Rattle.tui_form_lib.proofs.form.Form.offer.Goals as goal
 use Rattle.tui_form_lib.specs.Field.{FieldData, field_data}
 use Rattle.tui_form_lib.specs.Form.{form_data}
-use Rattle.tui_form_lib.specs.Steps.{field_after, still_told}
+use Rattle.tui_form_lib.specs.Steps.{field_after, still_reported}
 use Rattle.tui_form_lib.specs.Value.{ValueData, value_data, value_takes}
 use Rattle.tui_form_lib.specs.declared.field.FormField.{FormField}
 
@@ -31,9 +31,9 @@ returns-clause-taken c =
     let within : s.focus < length s.fields.items = omega (arith, s.fields.ok.0) in
     let after = ap (λ (v : ValueData). record (field_data x) { value = v }) c.in_ok-take.ensures.ok in
     let fields = changed_set (field_after c.args.event) s.fields.items s.focus x (record x { value = c.take.new.self }) within c.index_mut.ensures.value after in
-    let told = c.still_told-self.ensures ∙ (ap (λ (xs : List FormField). still_told (map field_data xs) s.told) c.deref.ensures.value
-    ∙ ap (λ (fs : List FieldData). still_told fs s.told) fields) in
-    ap₂ (λ (fs : List FieldData) (t : Option ℕ). record (form_data s) { fields = fs; told = t }) fields told
+    let reported = c.still_reported-self.ensures ∙ (ap (λ (xs : List FormField). still_reported (map field_data xs) s.reported) c.deref.ensures.value
+    ∙ ap (λ (fs : List FieldData). still_reported fs s.reported) fields) in
+    ap₂ (λ (fs : List FieldData) (t : Option ℕ). record (form_data s) { fields = fs; reported = t }) fields reported
 
 pub returns-clause-takes : goal.returns-clause-takes
 returns-clause-takes c =

@@ -7,7 +7,7 @@ use Rattle.tui_frames.specs.Strokes.{titles_cut}
 use Rattle.tui_frames.specs.Titles.{titles_in}
 use Rattle.tui_frames.proofs.block.Block.paint_cut.Given as goal
 
--- the titles that are left complete the whole
+-- painting the titles that are left completes the whole
 abbrev pub invariant-loop-title : goal.invariant-loop-title
 invariant-loop-title l = record {
   rest : (final : Screen) →

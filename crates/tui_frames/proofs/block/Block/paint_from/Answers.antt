@@ -1,6 +1,6 @@
 use Rattle.std.proofs.Common.{arith}
 use Rattle.tui_cells.proofs.Painting.{KeptOutside-then}
-use Rattle.tui_text.specs.Setting.{AreLight}
+use Rattle.tui_text.specs.Setting.{AreAllocationFree}
 use Rattle.tui_text.proofs.Elements.{seen_at}
 use Rattle.tui_frames.specs.Block.{block_data, title_data}
 use Rattle.tui_frames.specs.Strokes.{titles_from}
@@ -11,12 +11,12 @@ pub returns-then-column-from-clause-ok : goal.returns-then-column-from-clause-ok
 returns-then-column-from-clause-ok c =
     c.loop-title.invariant.rest _ (from_ended (block_data c.args.self.now) c.args.strip.clip c.args.strip.row c.loop-title.column _ _ (omega arith))
 
-pub returns-in_err-column-clause-light : goal.returns-in_err-column-clause-light
-returns-in_err-column-clause-light c light =
+pub returns-in_err-column-clause-allocation_free : goal.returns-in_err-column-clause-allocation_free
+returns-in_err-column-clause-allocation_free c allocation_free =
     let at = rw c.deref-title-items.ensures.value at c.title-item.is in
     let broken =
-    c.in_err-column.ensures.light
-    (seen_at title_data (λ t. AreLight t.line.spans) c.args.self.now.titles.items c.loop-title.title-index _ _ (omega arith) at light) in
+    c.in_err-column.ensures.allocation_free
+    (seen_at title_data (λ t. AreAllocationFree t.line.spans) c.args.self.now.titles.items c.loop-title.title-index _ _ (omega arith) at allocation_free) in
     cc
 
 pub loop-title-preserved : goal.loop-title-preserved

@@ -1,6 +1,6 @@
 use Rattle.std.proofs.Common.{◌≡◌, ◌+◌, ◌-◌, ap, refl, sym, arith}
 use Rattle.tui_cells.proofs.Painting.{KeptOutside-then}
-use Rattle.tui_text.specs.Setting.{AreLight}
+use Rattle.tui_text.specs.Setting.{AreAllocationFree}
 use Rattle.tui_text.proofs.Elements.{seen_at}
 use Rattle.tui_frames.specs.Block.{block_data, title_data}
 use Rattle.tui_frames.specs.Titles.{spaced}
@@ -22,12 +22,12 @@ returns-then-after-from-clause-ok c =
     end_of_room b c.args.strip.clip c.args.strip.row c.args.place c.args.self.now.titles.items (c.len-count.result - c.loop-i.i) _ _
     (omega (arith, known.taken)) known.shown
 
-pub returns-in_err-after-clause-light : goal.returns-in_err-after-clause-light
-returns-in_err-after-clause-light c light =
+pub returns-in_err-after-clause-allocation_free : goal.returns-in_err-after-clause-allocation_free
+returns-in_err-after-clause-allocation_free c allocation_free =
     let broken =
-    c.in_err-after.ensures.light
-    (seen_at title_data (λ t. AreLight t.line.spans) c.args.self.now.titles.items (c.len-count.result - 1 - c.loop-i.i) _ _
-    (omega arith) c.index-title.ensures light) in
+    c.in_err-after.ensures.allocation_free
+    (seen_at title_data (λ t. AreAllocationFree t.line.spans) c.args.self.now.titles.items (c.len-count.result - 1 - c.loop-i.i) _ _
+    (omega arith) c.index-title.ensures allocation_free) in
     cc
 
 pub loop-i-preserved : goal.loop-i-preserved

@@ -6,7 +6,7 @@ use Rattle.tui_frames.specs.Strokes.{titles_to_end}
 use Rattle.tui_frames.specs.Titles.{spaced, titles_in}
 use Rattle.tui_frames.proofs.block.Block.paint_to_end.Given as goal
 
--- the last titles are painted, and `after` is what they take
+-- the last titles are painted, and `after` is the number of columns that they take
 abbrev pub invariant-loop-i : goal.invariant-loop-i
 invariant-loop-i l = record {
   shown : Painted (titles_to_end (block_data l.self) l.strip.clip l.strip.row

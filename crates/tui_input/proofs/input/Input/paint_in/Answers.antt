@@ -4,7 +4,7 @@ use Rattle.tui_frames.specs.InBlock.{inner_of}
 use Rattle.tui_frames.specs.InBlockStays.{nowhere_if}
 use Rattle.tui_frames.proofs.InBlock.{framed, inner_empty, inner_kept}
 use Rattle.tui_input.specs.Input.{input_data}
-use Rattle.tui_input.specs.Scroll.{shown_from}
+use Rattle.tui_input.specs.Scroll.{with_first}
 use Rattle.tui_input.specs.InputSettles.{empty_rests}
 use Rattle.tui_input.specs.InputStays.{input_stays}
 use Rattle.tui_input.proofs.input.Input.paint_in.Goals as goal
@@ -28,5 +28,5 @@ pub returns-then-is_empty-clause-state : goal.returns-then-is_empty-clause-state
 returns-then-is_empty-clause-state c =
     let i = input_data c.args.self.now in
     let s = c.args.state.now in
-    ap (shown_from s) c.first.ensures
+    ap (with_first s) c.first.ensures
     ∙ sym (empty_rests i s (inner_of i.block c.args.clip) (inner_empty i.block c.args.clip (sym c.is_empty.ensures ∙ c.if-is_empty.true)))

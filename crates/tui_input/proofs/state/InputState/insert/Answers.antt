@@ -1,10 +1,10 @@
 use Rattle.std.proofs.lemmas.Str.{IsUtf8-encode}
-use Rattle.tui_input.proofs.Splitting.{before_put, between_sides}
+use Rattle.tui_input.proofs.Splitting.{before_inserted, between_sides}
 use Rattle.tui_input.proofs.state.InputState.insert.Goals as goal
 
 pub cut-requires-clause-start : goal.cut-requires-clause-start
 cut-requires-clause-start c =
-    before_put c.args.self.now c.put.new.self c.args.c _ _ c.in_ok-put.ensures.ok c.sides.ensures.before c.sides-2.ensures.after (IsUtf8-encode c.args.c c.ranges.c.0)
+    before_inserted c.args.self.now c.insert_char.new.self c.args.c _ _ c.in_ok-insert_char.ensures.ok c.sides.ensures.before c.sides-2.ensures.after (IsUtf8-encode c.args.c c.ranges.c.0)
     c.sides-2.ensures.utf8
 
 pub cut-requires-clause-end : goal.cut-requires-clause-end

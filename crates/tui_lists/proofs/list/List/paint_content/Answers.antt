@@ -11,9 +11,9 @@ returns-then-len-eq0-clause-state c = c.default.ensures ∙ sym (after_none _ _ 
 
 pub returns-clause-ok : goal.returns-clause-ok
 returns-clause-ok c =
-    content_some _ _ _ c.window-window.result c.cut-selected.result _ _ _ (grind (arith, common_steps)) c.window-window.ensures.found c.cut-selected.ensures
+    content_some _ _ _ c.window-window.result c.clamp_selection-selected.result _ _ _ (grind (arith, common_steps)) c.window-window.ensures.found c.clamp_selection-selected.ensures
     (omega (arith, c.max-end.ensures, c.window-window.ensures.order)) c.in_ok-paint_items.ensures.ok
 
 pub returns-clause-state : goal.returns-clause-state
 returns-clause-state c =
-    after_is _ _ _ c.window-window.result c.cut-selected.result c.requires (grind (arith, common_steps)) c.window-window.ensures.found c.cut-selected.ensures
+    after_is _ _ _ c.window-window.result c.clamp_selection-selected.result c.requires (grind (arith, common_steps)) c.window-window.ensures.found c.clamp_selection-selected.ensures

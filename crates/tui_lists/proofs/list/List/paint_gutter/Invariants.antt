@@ -6,7 +6,7 @@ use Rattle.tui_lists.specs.List.{list_data}
 use Rattle.tui_lists.specs.ListStrokes.{gutter_layers}
 use Rattle.tui_lists.proofs.list.List.paint_gutter.Given as goal
 
--- the rows that are left complete the whole
+-- painting the remaining rows completes the whole
 abbrev pub invariant-rows : goal.invariant-rows
 invariant-rows l = record {
   rest : (final : Screen) → Painted (gutter_layers (list_data l.self) l.is_selected l.gutter l.j (l.gutter.height - l.j)) l.buf final

@@ -4,7 +4,7 @@ use Rattle.tui_frames.specs.InBlock.{inner_of}
 use Rattle.tui_frames.specs.InBlockStays.{nowhere_if}
 use Rattle.tui_frames.proofs.InBlock.{framed, inner_empty, inner_kept}
 use Rattle.tui_lists.specs.List.{list_data}
-use Rattle.tui_lists.specs.ListSettles.{list_rests}
+use Rattle.tui_lists.specs.ListIdempotence.{list_rests}
 use Rattle.tui_lists.specs.ListStays.{list_stays}
 use Rattle.tui_lists.proofs.list.List.paint_in.Goals as goal
 

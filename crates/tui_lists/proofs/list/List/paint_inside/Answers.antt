@@ -1,7 +1,7 @@
 use Rattle.std.proofs.Common.{◌∙◌, sym}
 use Rattle.tui_cells.proofs.Painting.{Painted-empty}
 use Rattle.tui_lists.specs.List.{list_data}
-use Rattle.tui_lists.specs.ListSettles.{list_rests}
+use Rattle.tui_lists.specs.ListIdempotence.{list_rests}
 use Rattle.tui_lists.specs.ListStays.{content_stays}
 use Rattle.tui_lists.proofs.list.List.paint_inside.Goals as goal
 

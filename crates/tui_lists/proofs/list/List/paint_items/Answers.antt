@@ -4,7 +4,7 @@ use Rattle.tui_cells.proofs.Painting.{KeptOutside-then, KeptOutside-weaker}
 use Rattle.tui_cells.proofs.Regions.{rows_out}
 use Rattle.tui_text.proofs.Elements.{seen_at}
 use Rattle.tui_lists.specs.List.{list_data}
-use Rattle.tui_lists.specs.ListDrawing.{IsLightItem}
+use Rattle.tui_lists.specs.ListDrawing.{IsAllocationFreeItem}
 use Rattle.tui_lists.specs.ListItem.{list_item_data}
 use Rattle.tui_lists.proofs.ListItems.{items_done, items_more}
 use Rattle.tui_lists.proofs.Selected.{compared}
@@ -24,12 +24,12 @@ items-preserved c =
       room = omega (arith, c.cut_height-height.ensures, c.items.invariant.room);
     }
 
-pub returns-in_err-paint_item-clause-light : goal.returns-in_err-paint_item-clause-light
-returns-in_err-paint_item-clause-light c light =
+pub returns-in_err-paint_item-clause-allocation_free : goal.returns-in_err-paint_item-clause-allocation_free
+returns-in_err-paint_item-clause-allocation_free c allocation_free =
     let items = c.args.self.now.items.items.items in
     let inside : c.items.i < length items = omega (arith, length-map items list_item_data, c.requires.within) in
     let broken =
-    c.in_err-paint_item.ensures.light light.symbol (seen_at list_item_data IsLightItem items c.items.i c.index-item.result.now c.index-item.result.now inside (search) light.items) in
+    c.in_err-paint_item.ensures.allocation_free allocation_free.symbol (seen_at list_item_data IsAllocationFreeItem items c.items.i c.index-item.result.now c.index-item.result.now inside (search) allocation_free.items) in
     cc
 
 pub returns-clause-ok : goal.returns-clause-ok

@@ -6,7 +6,7 @@ use Rattle.tui_lists.specs.List.{list_data}
 use Rattle.tui_lists.specs.ListStrokes.{items_layers}
 use Rattle.tui_lists.proofs.list.List.paint_items.Given as goal
 
--- the items that are left complete the whole
+-- painting the remaining items completes the whole
 abbrev pub invariant-items : goal.invariant-items
 invariant-items l = record {
   rest : (final : Screen) → Painted (items_layers (list_data l.self) l.inner l.selected l.i l.used (l.end - l.i) (drop l.i (list_data l.self).items)) l.buf final

@@ -6,7 +6,7 @@ use Rattle.tui_cells.specs.Rect.{covers}
 use Rattle.tui_lists.specs.ScrollbarStrokes.{run_layers}
 use Rattle.tui_lists.proofs.scrollbar.Scrollbar.paint_run.Given as goal
 
--- the places that are left complete the whole
+-- painting the remaining cells completes the whole
 abbrev pub invariant-places : goal.invariant-places
 invariant-places l = record {
   rest : (final : Screen) → Painted (run_layers l.self.orientation l.clip (option_copied l.symbol) l.style (l.first + l.i) (l.count - l.i)) l.buf final

@@ -1,7 +1,7 @@
 use Rattle.std.proofs.Common.{◌∙◌, ap, arith, map}
 use Rattle.tui_cells.proofs.Painting.{KeptOutside-then}
 use Rattle.tui_text.specs.Line.{line_data}
-use Rattle.tui_text.specs.Setting.{AreLight}
+use Rattle.tui_text.specs.Setting.{AreAllocationFree}
 use Rattle.tui_text.proofs.Elements.{none_from, seen_at, seen_from}
 use Rattle.tui_lists.specs.Tabs.{tabs_data}
 use Rattle.tui_lists.proofs.TabsPainted.{titles_done, titles_more, titles_past}
@@ -12,10 +12,10 @@ pub returns-then-x-right-clause-ok : goal.returns-then-x-right-clause-ok
 returns-then-x-right-clause-ok c =
     c.titles.invariant.rest _ (titles_past (tabs_data c.args.self.now) c.args.inner c.titles.i c.titles.x _ _ (omega (arith, c.right.ensures)))
 
-pub returns-in_err-x-clause-light : goal.returns-in_err-x-clause-light
-returns-in_err-x-clause-light c light =
+pub returns-in_err-x-clause-allocation_free : goal.returns-in_err-x-clause-allocation_free
+returns-in_err-x-clause-allocation_free c allocation_free =
     let titles = c.args.self.now.titles.items in
-    let broken = c.in_err-x.ensures.light light (seen_at line_data (λ l. AreLight l.spans) titles c.titles.i c.index.result.now c.index.result.now (omega arith) (search) light.titles) in
+    let broken = c.in_err-x.ensures.allocation_free allocation_free (seen_at line_data (λ l. AreAllocationFree l.spans) titles c.titles.i c.index.result.now c.index.result.now (omega arith) (search) allocation_free.titles) in
     cc
 
 pub titles-preserved : goal.titles-preserved

@@ -7,7 +7,7 @@ use Rattle.tui_lists.specs.TabsStrokes.{titles_layers}
 use Rattle.tui_text.specs.Line.{line_data}
 use Rattle.tui_lists.proofs.tabs.Tabs.paint_titles.Given as goal
 
--- the titles that are left complete the whole
+-- painting the remaining titles completes the whole
 abbrev pub invariant-titles : goal.invariant-titles
 invariant-titles l = record {
   rest : (final : Screen) → Painted (titles_layers (tabs_data l.self) l.inner l.i l.x (map line_data (drop l.i l.self.titles.items))) l.buf final

@@ -5,11 +5,11 @@ use Rattle.tui_cells.specs.Layers.{Painted}
 use Rattle.tui_cells.specs.declared.rect.Rect.{Rect}
 use Rattle.tui_pages_lib.specs.Pages.{all_pieces}
 use Rattle.tui_pages_lib.specs.Report.{ReportData, cells_of}
-use Rattle.tui_pages_lib.specs.Starts.{ArePartFrom}
+use Rattle.tui_pages_lib.specs.Starts.{IsSliceFrom}
 use Rattle.tui_pages_lib.specs.Strokes.{IsDrawable, body_layers}
 use Rattle.tui_pages_lib.proofs.DrawnPage.{body_drawn}
 use Rattle.tui_pages_lib.proofs.Fits.{page_fits}
-use Rattle.tui_pages_lib.proofs.GoingOn.{going_first}
+use Rattle.tui_pages_lib.proofs.ContinuedPieces.{continued_first}
 use Rattle.tui_pages_lib.proofs.Known.{page_row_read}
 use Rattle.tui_pages_lib.proofs.report.Report.draw_body.Goals as goal
 
@@ -30,10 +30,10 @@ draw_pieces-requires-clause-fit c =
 pub draw_pieces-requires-clause-starts : goal.draw_pieces-requires-clause-starts
 draw_pieces-requires-clause-starts c = λ p e on.
     let h = subst (λ (r : ReportData). c.args.at < length r.pages) (sym c.self.view_is) c.requires in
-    let first = going_first _ _ _ _ _ _ c.args.at c.page-pieces.result.now p c.self.invariant.0 h c.page-pieces.ensures e on in
+    let first = continued_first _ _ _ _ _ _ c.args.at c.page-pieces.result.now p c.self.invariant.0 h c.page-pieces.ensures e on in
     let there = ap (λ ps. slice_get ps c.pieces_before-before.result) c.pieces.ensures
     ∙ (ap (slice_get (all_pieces c.self.inside.pages)) c.pieces_before-before.ensures ∙ first.0) in
-    let part = subst (λ n. ArePartFrom ((n - (p.place + 1)) * c.len-columns.result) c.deref.result.now c.starts_from-starts.result.now)
+    let part = subst (λ n. IsSliceFrom ((n - (p.place + 1)) * c.len-columns.result) c.deref.result.now c.starts_from-starts.result.now)
     c.pieces_before-before.ensures (c.starts_from-starts.ensures p there on) in
     page_row_read c.self.inside.places.items c.deref-3.result.now c.self.inside.records.items c.deref-2.result.now (all_pieces c.self.inside.pages)
     c.self.inside.starts.items c.deref.result.now c.starts_from-starts.result.now _ c.len-columns.result p c.self.invariant.1.known first.1

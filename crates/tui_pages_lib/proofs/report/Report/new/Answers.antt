@@ -37,7 +37,7 @@ returns c =
     record {
       small = search rules;
       tall = search rules;
-      low = k.low;
+      bounded = k.bounded;
       ok = made_is c.args.width c.args.height c.args.title.now _ _ _ k;
       pages = k.are;
       fewest = made_fewest c.args.width c.args.height _ _ _ k;

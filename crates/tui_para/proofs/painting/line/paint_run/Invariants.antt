@@ -6,7 +6,7 @@ use Rattle.tui_text.specs.Grapheme.{glyph_of}
 use Rattle.tui_para.specs.Strokes.{run_layers}
 use Rattle.tui_para.proofs.painting.line.paint_run.Given as goal
 
--- what is left to paint completes the whole
+-- painting the remaining graphemes completes the whole
 abbrev pub invariant-loop-place : goal.invariant-loop-place
 invariant-loop-place l = record {
   rest : (final : Screen) → Painted (run_layers l.clip l.x l.at.y (drop l.place (map glyph_of l.run))) l.buf final

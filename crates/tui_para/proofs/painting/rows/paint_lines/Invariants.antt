@@ -6,11 +6,11 @@ use Rattle.tui_para.specs.Lines.{GlyphLine}
 use Rattle.tui_para.specs.Strokes.{glyph_lines_layers}
 use Rattle.tui_para.proofs.painting.rows.paint_lines.Given as goal
 
--- the lines that are left to paint complete the whole
+-- painting the remaining lines completes the whole
 abbrev pub invariant-rows : goal.invariant-rows
 invariant-rows g l = record {
-  ready : g.C.LineComposer.can_lend l.composer;
-  rest : (lines : List GlyphLine) → g.C.LineComposer.awaits l.fn.composer lines → (left : List GlyphLine) × g.C.LineComposer.awaits l.composer left
+  ready : g.C.LineComposer.can_yield l.composer;
+  rest : (lines : List GlyphLine) → g.C.LineComposer.must_yield l.fn.composer lines → (left : List GlyphLine) × g.C.LineComposer.must_yield l.composer left
       × ((final : Screen) → Painted (glyph_lines_layers l.rect l.y left) l.buf final → Painted (glyph_lines_layers l.rect l.rect.y (drop l.skipped lines)) l.fn.buf final);
   kept : KeptOutside (covers l.rect) l.fn.buf l.buf;
 }

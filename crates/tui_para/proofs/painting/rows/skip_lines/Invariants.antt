@@ -4,6 +4,6 @@ use Rattle.tui_para.proofs.painting.rows.skip_lines.Given as goal
 
 abbrev pub invariant-lines : goal.invariant-lines
 invariant-lines g l = record {
-  ready : g.C.LineComposer.can_lend l.composer;
-  skipped : (lines : List GlyphLine) → g.C.LineComposer.awaits l.fn.composer lines → g.C.LineComposer.awaits l.composer (drop l._line lines);
+  ready : g.C.LineComposer.can_yield l.composer;
+  skipped : (lines : List GlyphLine) → g.C.LineComposer.must_yield l.fn.composer lines → g.C.LineComposer.must_yield l.composer (drop l._line lines);
 }

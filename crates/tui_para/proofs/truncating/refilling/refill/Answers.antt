@@ -18,12 +18,12 @@ read_all : (start truncation : Truncation) (read shown : List Glyph) → ((rest 
 read_all start truncation read shown h =
     sym (ap (shown_of start) (sym (append-nil read)) ∙ (h [] ∙ (ap (λ k. shown ++ k) (same_if truncation.full) ∙ append-nil shown)))
 
--- where it is full, whatever is left
+-- if the line is full, whatever is left
 read_rest : (start truncation : Truncation) (read shown rest : List Glyph) → truncation.full ≡ true → shown_of start (read ++ rest) ≡ shown ++ shown_of truncation rest →
     shown ≡ shown_of start (read ++ rest)
 read_rest start truncation read shown rest full h = sym (h ∙ rw full (append-nil shown))
 
--- one grapheme more, of which this is shown
+-- one more grapheme, of which this is shown
 read_more : (start before after : Truncation) (taken : List StyledGrapheme) (x : StyledGrapheme) (shown more rest : List Glyph)
     → ((rest : List Glyph) → shown_of start (map glyph_of taken ++ rest) ≡ shown ++ shown_of before rest)
     → shown_of before (glyph_of x ∷ rest) ≡ more ++ shown_of after rest

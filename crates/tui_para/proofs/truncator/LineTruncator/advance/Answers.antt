@@ -1,8 +1,8 @@
 use Rattle.std.proofs.Common.{map, refl, ◌∙◌}
 use Rattle.tui_text.specs.Grapheme.{glyph_of}
-use Rattle.tui_para.proofs.Answering.{AllReady-first, AllReady-step, line_ended}
+use Rattle.tui_para.proofs.IteratorSteps.{AllReady-first, AllReady-step, line_ended}
 use Rattle.tui_para.proofs.TruncatedLines.{line_truncated, none_left}
-use Rattle.tui_para.proofs.Lending.{positive}
+use Rattle.tui_para.proofs.Yielding.{positive}
 use Rattle.tui_para.proofs.truncator.LineTruncator.advance.Goals as goal
 
 pub refill-requires : goal.refill-requires

@@ -1,9 +1,9 @@
 use Rattle.std.proofs.Common.{refl, sym, ◌∙◌, subst}
 use Rattle.std.specs.Prelude.{IfSome}
-use Rattle.tui_para.specs.Given.{Ready, line_answers}
-use Rattle.tui_para.proofs.Answering.{AllReady-first, AllReady-step, Gave-none, line_ended}
-use Rattle.tui_para.proofs.Beginning.{if_ok, line_begun, line_found, none_found}
-use Rattle.tui_para.proofs.Lending.{positive}
+use Rattle.tui_para.specs.Given.{Ready, line_yields}
+use Rattle.tui_para.proofs.IteratorSteps.{AllReady-first, AllReady-step, Gave-none, line_ended}
+use Rattle.tui_para.proofs.WrapperNextLine.{if_ok, line_begun, line_found, none_found}
+use Rattle.tui_para.proofs.Yielding.{positive}
 use Rattle.tui_para.proofs.wrapper.WordWrapper.find_line.Goals as goal
 
 pub returns-in-Some-clause-found : goal.returns-in-Some-clause-found
@@ -16,7 +16,7 @@ returns-then-self-clause-found g c =
     let s = c.args.self.now in
     let e = c.in_ok-part.ensures in
     none_found g.O.Iterator.next_gives g.I.Iterator.next_gives s (positive _ _ c.width.ensures c.if-width-eq0.false) c.advance.new.self e.width e.wrap s.lines s.done (rw c.in_default.is at e.found)
-    (Gave-none (line_answers g.O.Iterator.next_gives g.I.Iterator.next_gives s.done s.lines)) c.if-self.true
+    (Gave-none (line_yields g.O.Iterator.next_gives g.I.Iterator.next_gives s.done s.lines)) c.if-self.true
 
 pub advance-requires-in-Some-next : goal.advance-requires-in-Some-next
 advance-requires-in-Some-next g c κs = (

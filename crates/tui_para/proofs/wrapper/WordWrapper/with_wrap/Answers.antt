@@ -1,6 +1,6 @@
 use Rattle.tui_text.specs.declared.alignment.Alignment.TheVariants.{Left}
 use Rattle.tui_para.specs.Given.{IsGlyph, MayGive, MayBe, WillGive, WillBe}
-use Rattle.tui_para.proofs.Beginning.{fresh_wrapper}
+use Rattle.tui_para.proofs.WrapperNextLine.{fresh_wrapper}
 use Rattle.tui_para.proofs.wrapper.WordWrapper.with_wrap.Goals as goal
 
 pub returns-clause-may : goal.returns-clause-may

@@ -1,7 +1,7 @@
 use Rattle.serde_json.specs.View.{view}
 use Rattle.tui_schema.specs.Scene.{reading_data}
-use Rattle.tui_show_run.specs.Endings.{scene_job}
-use Rattle.tui_program.proofs.Endings.{answers_input}
+use Rattle.tui_show_run.specs.Outcomes.{scene_job}
+use Rattle.tui_program.proofs.Outcomes.{answers_input}
 use Rattle.tui_show_run.proofs.command.ShowCommandJob.answer.Goals as goal
 
 pub returns : goal.returns

@@ -7,7 +7,7 @@ use Rattle.tui_table.specs.contracts.row.RowPartialEq.TheImpl as rows
 use Rattle.tui_table.specs.contracts.table.TableEq.TheImpl.Laws.{laws-law}
 use Rattle.tui_table.proofs.table.Table.clone.Goals as goal
 
--- what is copied is equal, and the rest is the table's own
+-- what is copied is equal, and the rest is unchanged
 pub returns-clause-equal : goal.returns-clause-equal
 returns-clause-equal c =
     let t = c.args.self.now in

@@ -13,6 +13,6 @@ returns-clause-ok c =
 
 pub returns-clause-after : goal.returns-clause-after
 returns-clause-after c =
-    c.drawn.ensures
+    c.after_drawing.ensures
     ∙ after_is (table_data c.args.self.now) c.args.inner c.args.state c.window-window.result _ _ c.requires
     (rw (c.room-room.ensures, c.offset.ensures, c.selected.ensures) at c.window-window.ensures.found) c.row_after-selected.ensures c.column_after.ensures

@@ -2,7 +2,7 @@ use Rattle.std.proofs.Common.{sym, ◌∙◌}
 use Rattle.tui_cells.proofs.Painting.{KeptOutside-then, Painted-still}
 use Rattle.tui_frames.specs.InBlockStays.{nowhere_if}
 use Rattle.tui_frames.proofs.InBlock.{framed, inner_kept}
-use Rattle.tui_table.specs.Settles.{table_rests}
+use Rattle.tui_table.specs.Idempotence.{table_rests}
 use Rattle.tui_table.specs.Stays.{table_stays}
 use Rattle.tui_table.specs.Table.{table_data}
 use Rattle.tui_table.proofs.table.Table.paint_in.Goals as goal

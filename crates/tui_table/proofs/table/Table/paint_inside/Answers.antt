@@ -1,6 +1,6 @@
 use Rattle.std.proofs.Common.{sym, ◌∙◌}
 use Rattle.tui_cells.proofs.Painting.{Painted-empty}
-use Rattle.tui_table.specs.Settles.{after_empty}
+use Rattle.tui_table.specs.Idempotence.{after_empty}
 use Rattle.tui_table.specs.Stays.{content_stays}
 use Rattle.tui_table.specs.Table.{table_data}
 use Rattle.tui_table.proofs.table.Table.paint_inside.Goals as goal

@@ -7,7 +7,7 @@ use Rattle.tui_table.specs.Strokes.{rows_layers}
 use Rattle.tui_table.specs.Table.{table_data}
 use Rattle.tui_table.proofs.table.Table.paint_rows.Given as goal
 
--- the rows before are painted
+-- the rows before this one are painted
 abbrev pub invariant-rows : goal.invariant-rows
 invariant-rows l = record {
   painted : Painted (rows_layers (table_data l.self) l.body l.grid.gutter l.grid.columns.now l.selected l.first l.i) l.fn.buf l.buf;

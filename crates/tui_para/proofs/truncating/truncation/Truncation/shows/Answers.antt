@@ -10,7 +10,7 @@ use Rattle.tui_para.proofs.TruncatedOnce.{left_by_none}
 use Rattle.tui_para.proofs.truncating.truncation.Truncation.shows.Goals.{else-self-gt0-via-then-self-gt0+else-columns-self-2, else-self-gt0-via-else-self-gt0}
 use Rattle.tui_para.proofs.truncating.truncation.Truncation.shows.Goals as goal
 
--- a grapheme that isn't wider than a line, that the offset doesn't pass, and that fits
+-- a grapheme that isn't wider than a line, that the offset doesn't skip, and that fits
 shown_next : (truncation : Truncation) (g : Glyph) (rest : List Glyph) (columns : ℕ) → columns ≡ glyph_width g → truncation.full ≡ false → columns ≤ truncation.width → (truncation.offset ≡ 0) ⊎ (truncation.offset < columns) → nat_lt truncation.room columns ≡ false →
     shown_of truncation (g ∷ rest) ≡ g ∷ shown_of (record { width = truncation.width; offset = 0; room = truncation.room - columns; full = nat_lt truncation.room columns }) rest
 shown_next truncation g rest columns e some_room narrow stop fits =

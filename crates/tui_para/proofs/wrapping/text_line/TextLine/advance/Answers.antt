@@ -19,6 +19,6 @@ returns-then-is_none-clause-found g c =
 
 pub lines-preserved : goal.lines-preserved
 lines-preserved g c = record {
-  ready = c.in_ok-read_on.ensures.ready;
-  read = HasRead-then g.I.Iterator.next_gives c.args.self.now c.lines.self c.read_on.new.self c.lines.invariant.read c.in_ok-read_on.ensures.read;
+  ready = c.in_ok-read_more.ensures.ready;
+  read = HasRead-then g.I.Iterator.next_gives c.args.self.now c.lines.self c.read_more.new.self c.lines.invariant.read c.in_ok-read_more.ensures.read;
 }

@@ -1,7 +1,7 @@
 use Rattle.std.proofs.Common.{◌++◌, [], map, refl, sym, subst, Some, None}
 use Rattle.tui_text.specs.Grapheme.{glyph_of}
 use Rattle.tui_para.specs.Given.{IsGlyph, MayGive, SourceGives}
-use Rattle.tui_para.proofs.Answering.{all_may}
+use Rattle.tui_para.proofs.IteratorSteps.{all_may}
 use Rattle.tui_para.proofs.wrapping.text_line.TextLine.read_to_end.Goals as goal
 
 pub returns-in-Some : goal.returns-in-Some

@@ -1,5 +1,5 @@
 use Rattle.tui_table.specs.Table.{table_data}
-use Rattle.tui_table.proofs.Moving.{table_moves}
+use Rattle.tui_table.proofs.StatefulDrawing.{table_moves}
 use Rattle.tui_table.proofs.table.rendering.TableStatefulWidget.render.Goals as goal
 
 pub returns-clause-shows : goal.returns-clause-shows

@@ -1,0 +1,11 @@
+//! What stays the same in a session.
+
+use std::alloc::Global;
+use tui_terminal_model::Output;
+
+/// The allocator, and how screens are written.
+#[derive(Clone, Copy)]
+pub(crate) struct LoopSetup {
+    pub(crate) alloc: Global,
+    pub(crate) output: Output,
+}

@@ -1,6 +1,0 @@
-use Rattle.tui_cells.proofs.Making.{made_row}
-use Rattle.tui_cells.proofs.Spelling.{spelt_row}
-use Rattle.tui_cells.proofs.row.Row.put_ascii.Goals as goal
-
-pub invariant_of-self : goal.invariant_of-self
-invariant_of-self c = spelt_row _ _ _ _ _ c.args.text.now _ _ (made_row c.self.invariant c.make_cells.ensures) c.put_ascii.ensures

@@ -1,0 +1,5 @@
+pub mod Causes
+pub mod Prints
+pub mod Limits
+pub mod Memory
+pub mod Texts

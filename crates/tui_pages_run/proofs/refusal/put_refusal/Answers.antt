@@ -1,4 +1,0 @@
-use Rattle.tui_pages_run.proofs.refusal.put_refusal.Goals as goal
-
-pub returns-in-TooTall : goal.returns-in-TooTall
-returns-in-TooTall g c = rw c.in-TooTall.is c.put_too_tall.ensures

@@ -1,6 +1,0 @@
-use Rattle.tui_panes_run.specs.Found.{leaf_line}
-use Rattle.tui_panes_run.proofs.finding.put_leaf.Goals as goal
-
-pub returns-in-None : goal.returns-in-None
-unfolding leaf_line
-returns-in-None g c = rw c.in-None.is c.put_all.ensures

@@ -1,0 +1,8 @@
+use Rattle.tui_io.proofs.Printing.{Prints-then, Prints-writes}
+use Rattle.tui_program.specs.FieldLine.{refused_field}
+use Rattle.tui_program.proofs.field_line.write_name_at.Goals as goal
+
+pub returns : goal.returns
+unfolding refused_field
+returns g c =
+    Prints-writes c.new-print.ensures (Prints-then c.text.ensures (Prints-then c.text-2.ensures (Prints-then c.text-3.ensures (Prints-then c.number.ensures c.text-4.ensures)))) c.end.ensures.writes_if

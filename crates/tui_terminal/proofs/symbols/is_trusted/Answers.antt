@@ -1,8 +1,0 @@
-use Rattle.std.proofs.Common.{◌≡◌, rules, true, sym, ◌∙◌}
-use Rattle.tui_terminal.proofs.Looks.{byte_trusted}
-use Rattle.tui_terminal.proofs.symbols.is_trusted.Goals as goal
-
-pub returns-then-is_ascii : goal.returns-then-is_ascii
-returns-then-is_ascii c =
-    let on : c.is_ascii.result ≡ true = search rules in
-    on ∙ sym (byte_trusted c.args.trust c.args.symbol.now (sym c.is_ascii.ensures ∙ on))

@@ -1,0 +1,11 @@
+pub mod Terminal
+pub mod Encoding
+pub mod Colours
+pub mod Pens
+pub mod Symbols
+pub mod Pieces
+pub mod Shows
+pub mod Sends
+pub mod Calls
+pub mod Styled
+pub mod Session
