@@ -1,7 +1,4 @@
-pub mod Events
 pub mod Order
-pub mod Outputs
-pub mod Same
 pub mod Texts
 pub use Rattle.tui_bars.specs as bars
 pub use Rattle.tui_calendar.specs as calendar

@@ -9,6 +9,7 @@ mod iteration;
 mod memory_terminal;
 mod outcome;
 mod over;
+mod plain;
 mod runs;
 mod setup;
 mod shown;

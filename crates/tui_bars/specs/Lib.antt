@@ -16,3 +16,4 @@ pub mod AllocationFreeCharts
 pub mod Stays
 pub mod ChartStays
 pub mod Drawing
+pub mod Same

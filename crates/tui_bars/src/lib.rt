@@ -12,6 +12,7 @@ pub mod laws;
 mod levels;
 pub mod line_gauge;
 mod percent;
+mod plain;
 mod plan;
 pub mod render_direction;
 mod share;

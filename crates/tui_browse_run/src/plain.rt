@@ -7,27 +7,27 @@ use crate::ended::BrowseEnded;
 use crate::format::Format;
 use crate::pieces::PiecesError;
 use crate::refusal::Refusal;
-use tui_program::PlainValue;
+use tui_cells::Plain;
 
-impl PlainValue for Format {
+impl Plain for Format {
     ghost same = { Prim.search rules };
 
     ghost cloned = { Prim.search rules };
 }
 
-impl PlainValue for PiecesError {
+impl Plain for PiecesError {
     ghost same = { Prim.search rules };
 
     ghost cloned = { Prim.search rules };
 }
 
-impl PlainValue for Refusal {
+impl Plain for Refusal {
     ghost same = { same_refusal };
 
     ghost cloned = { Prim.search rules };
 }
 
-impl PlainValue for BrowseEnded {
+impl Plain for BrowseEnded {
     ghost same = { same_ended };
 
     ghost cloned = { Prim.search rules };

@@ -7,6 +7,7 @@ mod iteration;
 mod laws;
 mod outcome;
 mod painter;
+mod plain;
 mod runs;
 mod sending;
 mod setup;

@@ -9,39 +9,39 @@ use crate::ended::FormEnded;
 use crate::field_kind::FieldKind;
 use crate::key::FormKey;
 use crate::refusal::Refusal;
-use tui_program::PlainValue;
+use tui_cells::Plain;
 
-impl PlainValue for AnswersError {
+impl Plain for AnswersError {
     ghost same = { Prim.search rules };
 
     ghost cloned = { Prim.search rules };
 }
 
-impl PlainValue for FieldKind {
+impl Plain for FieldKind {
     ghost same = { Prim.search rules };
 
     ghost cloned = { Prim.search rules };
 }
 
-impl PlainValue for FormKey {
+impl Plain for FormKey {
     ghost same = { same_key };
 
     ghost cloned = { Prim.search rules };
 }
 
-impl PlainValue for BadForm {
+impl Plain for BadForm {
     ghost same = { same_bad_form };
 
     ghost cloned = { Prim.search rules };
 }
 
-impl PlainValue for Refusal {
+impl Plain for Refusal {
     ghost same = { same_refusal };
 
     ghost cloned = { Prim.search rules };
 }
 
-impl PlainValue for FormEnded {
+impl Plain for FormEnded {
     ghost same = { same_ended };
 
     ghost cloned = { Prim.search rules };

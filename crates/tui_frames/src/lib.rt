@@ -10,6 +10,7 @@ pub mod effect;
 pub mod fill;
 pub mod laws;
 pub mod padding;
+mod plain;
 pub mod shadow;
 pub mod title_position;
 

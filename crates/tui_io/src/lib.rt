@@ -3,6 +3,7 @@
 
 mod memory_sink;
 mod memory_source;
+mod plain;
 mod print;
 mod put;
 mod read;

@@ -11,6 +11,7 @@ mod named;
 mod number;
 mod numbered;
 mod object;
+mod plain;
 mod text;
 
 pub use array::{Counted, each, elements};

@@ -11,6 +11,7 @@ mod keys;
 mod laws;
 mod meaning;
 mod paste;
+mod plain;
 mod sequence;
 
 pub use event::{Event, Modifiers, Motion};

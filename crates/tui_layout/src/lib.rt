@@ -10,6 +10,7 @@ pub mod flex;
 pub mod fraction;
 pub mod highlight_spacing;
 pub mod laws;
+mod plain;
 mod plan;
 pub mod segment;
 pub mod selection;

@@ -6,6 +6,7 @@ mod line;
 pub mod lines;
 mod part;
 mod places;
+mod plain;
 mod rest;
 
 pub use lines::Lines;

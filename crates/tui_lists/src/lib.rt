@@ -5,6 +5,7 @@ pub mod direction;
 pub mod laws;
 pub mod list;
 mod painting;
+mod plain;
 pub mod scrollbar;
 pub mod tabs;
 

@@ -10,6 +10,7 @@ pub mod key;
 mod laws;
 pub mod pager;
 pub mod pager_error;
+mod plain;
 mod shown;
 pub mod size;
 mod sized;

@@ -6,27 +6,27 @@ use crate::bad_input::BadInput;
 use crate::command::PagerCommand;
 use crate::ended::PagerEnded;
 use crate::field::PagerField;
-use tui_program::PlainValue;
+use tui_cells::Plain;
 
-impl PlainValue for PagerCommand {
+impl Plain for PagerCommand {
     ghost same = { Prim.search rules };
 
     ghost cloned = { Prim.search rules };
 }
 
-impl PlainValue for PagerField {
+impl Plain for PagerField {
     ghost same = { Prim.search rules };
 
     ghost cloned = { Prim.search rules };
 }
 
-impl PlainValue for BadInput {
+impl Plain for BadInput {
     ghost same = { Prim.search rules };
 
     ghost cloned = { Prim.search rules };
 }
 
-impl PlainValue for PagerEnded {
+impl Plain for PagerEnded {
     ghost same = { Prim.search rules };
 
     ghost cloned = { Prim.search rules };

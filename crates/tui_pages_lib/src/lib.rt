@@ -8,6 +8,7 @@ mod laws;
 mod measuring;
 pub mod pages;
 pub mod piece;
+mod plain;
 pub mod records;
 pub mod report;
 pub mod report_error;

@@ -6,27 +6,27 @@ use crate::command::PagesCommand;
 use crate::ended::PagesEnded;
 use crate::field::ReportField;
 use crate::refusal::PagesRefusal;
-use tui_program::PlainValue;
+use tui_cells::Plain;
 
-impl PlainValue for PagesCommand {
+impl Plain for PagesCommand {
     ghost same = { Prim.search rules };
 
     ghost cloned = { Prim.search rules };
 }
 
-impl PlainValue for ReportField {
+impl Plain for ReportField {
     ghost same = { Prim.search rules };
 
     ghost cloned = { Prim.search rules };
 }
 
-impl PlainValue for PagesRefusal {
+impl Plain for PagesRefusal {
     ghost same = { Prim.search rules };
 
     ghost cloned = { Prim.search rules };
 }
 
-impl PlainValue for PagesEnded {
+impl Plain for PagesEnded {
     ghost same = { Prim.search rules };
 
     ghost cloned = { Prim.search rules };

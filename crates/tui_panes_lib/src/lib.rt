@@ -12,6 +12,7 @@ pub mod pane;
 pub mod panes;
 mod placed_leaves;
 pub mod placing;
+mod plain;
 
 pub use error::PanesError;
 pub use laws::{panes_laws, tree_laws};

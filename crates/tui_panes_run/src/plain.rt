@@ -8,33 +8,33 @@ use crate::ended::PanesEnded;
 use crate::field::PaneField;
 use crate::order::Order;
 use crate::refusal::PanesRefusal;
-use tui_program::PlainValue;
+use tui_cells::Plain;
 
-impl PlainValue for Order {
+impl Plain for Order {
     ghost same = { Prim.search rules };
 
     ghost cloned = { Prim.search rules };
 }
 
-impl PlainValue for PanesCommand {
+impl Plain for PanesCommand {
     ghost same = { Prim.search rules };
 
     ghost cloned = { Prim.search rules };
 }
 
-impl PlainValue for PaneField {
+impl Plain for PaneField {
     ghost same = { Prim.search rules };
 
     ghost cloned = { Prim.search rules };
 }
 
-impl PlainValue for PanesRefusal {
+impl Plain for PanesRefusal {
     ghost same = { same_refusal };
 
     ghost cloned = { Prim.search rules };
 }
 
-impl PlainValue for PanesEnded {
+impl Plain for PanesEnded {
     ghost same = { same_ended };
 
     ghost cloned = { Prim.search rules };

@@ -8,6 +8,7 @@ mod laws;
 pub mod logo;
 mod painting;
 pub mod paragraph;
+mod plain;
 pub mod size;
 pub mod text_lines;
 mod truncating;

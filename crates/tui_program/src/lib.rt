@@ -27,7 +27,6 @@ pub use job::{Job, run_json};
 pub use json::{JsonError, json_of};
 pub use numerals::{Numerals, number_after, numbers_after};
 pub use outcome::Outcome;
-pub use plain::PlainValue;
 pub use program::{run, run_program};
 pub use reader::JsonCommand;
 pub use stop::{Stop, outcome_after};

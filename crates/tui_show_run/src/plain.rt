@@ -5,15 +5,15 @@ ghost use Rattle.tui_show_run.specs.Same.{same_ended};
 
 use crate::command::ShowCommand;
 use crate::ended::Ended;
-use tui_program::PlainValue;
+use tui_cells::Plain;
 
-impl PlainValue for ShowCommand {
+impl Plain for ShowCommand {
     ghost same = { Prim.search rules };
 
     ghost cloned = { Prim.search rules };
 }
 
-impl PlainValue for Ended {
+impl Plain for Ended {
     ghost same = { same_ended };
 
     ghost cloned = { Prim.search rules };

@@ -4,9 +4,9 @@ ghost use Rattle.std.proofs.Common.{rules};
 ghost use Rattle.tui_system.specs.Same.{same_setting};
 
 use crate::settings::Setting;
-use tui_program::PlainValue;
+use tui_cells::Plain;
 
-impl PlainValue for Setting {
+impl Plain for Setting {
     ghost same = { same_setting };
 
     ghost cloned = { Prim.search rules };

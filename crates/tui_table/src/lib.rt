@@ -5,6 +5,7 @@ pub mod cell;
 mod cells;
 mod grid;
 pub mod laws;
+mod plain;
 pub mod row;
 mod row_kind;
 mod rows;

@@ -9,3 +9,4 @@ pub mod Sends
 pub mod Calls
 pub mod Styled
 pub mod Session
+pub mod Same

@@ -7,6 +7,7 @@
 mod cursor;
 mod depth;
 mod output;
+mod plain;
 mod widths;
 
 pub use cursor::Cursor;

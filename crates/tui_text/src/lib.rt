@@ -6,6 +6,7 @@ pub mod grapheme;
 pub mod graphemes;
 pub mod line;
 pub mod painting;
+mod plain;
 mod row;
 pub mod setting;
 pub mod span;

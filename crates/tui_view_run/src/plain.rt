@@ -6,21 +6,21 @@ ghost use Rattle.tui_view_run.specs.Same.{same_ended};
 use crate::command::ViewCommand;
 use crate::ended::ViewEnded;
 use crate::frames::Frames;
-use tui_program::PlainValue;
+use tui_cells::Plain;
 
-impl PlainValue for ViewCommand {
+impl Plain for ViewCommand {
     ghost same = { Prim.search rules };
 
     ghost cloned = { Prim.search rules };
 }
 
-impl PlainValue for Frames {
+impl Plain for Frames {
     ghost same = { Prim.search rules };
 
     ghost cloned = { Prim.search rules };
 }
 
-impl PlainValue for ViewEnded {
+impl Plain for ViewEnded {
     ghost same = { same_ended };
 
     ghost cloned = { Prim.search rules };
