@@ -121,14 +121,17 @@ class Tmux:
             print(f"{name}:\n{found}\nexpected:\n{expected}", flush=True)
 
     def running(self):
-        """Returns the processes on this terminal except its shell: the number and the command line of each."""
+        """Returns the processes on this terminal except its shell: the number, the parent's and the command line of each."""
         terminal = self.query(["pane_tty"]).partition("=")[2].removeprefix("/dev/")
-        found = subprocess.run(["ps", "-t", terminal, "-o", "pid=,args="], capture_output=True, text=True).stdout.splitlines()
-        return [tuple(line.split(None, 1)) for line in found if line.split(None, 1)[1] != "sh"]
+        found = subprocess.run(["ps", "-t", terminal, "-o", "pid=,ppid=,args="], capture_output=True, text=True).stdout.splitlines()
+        return [tuple(line.split(None, 2)) for line in found if line.split(None, 2)[2] != "sh"]
 
     def left(self):
-        return [command for _, command in self.running()]
+        return [command for *_, command in self.running()]
 
     def process(self, name):
-        """Returns the number of the first process whose command line contains a name."""
-        return int(next(number for number, command in self.running() if name in command))
+        """Returns the number of the process whose command line contains a name, and its parent's does not.
+
+        Subshells of ./live have its command line too. Their numbers are not always greater than its own."""
+        named = {number: parent for number, parent, command in self.running() if name in command}
+        return int(next(number for number, parent in named.items() if parent not in named))

@@ -3,7 +3,7 @@
 use crate::folders::MemFolders;
 use crate::last::ends_with;
 use std::alloc::Global;
-use tui_cells::Mem;
+use tui_cells::{Mem, Size};
 use tui_files_lib::FilesApp;
 
 struct Session {
@@ -163,7 +163,10 @@ fn goes_as_expected(alloc: Global, session: &Session) -> Mem<bool> {
 }
 
 fn leads_to(alloc: Global, app: &mut FilesApp<MemFolders>, session: &Session) -> Mem<bool> {
-    let size = (session.width, 6);
+    let size = Size {
+        width: session.width,
+        height: 6,
+    };
     if !ends_with(alloc, app, size, session.reads, session.rows)? {
         return Ok(false);
     }

@@ -14,7 +14,6 @@ const PREAMBLE: &str = "\x18\x1b\\\x1b[?2026l\x1b[?69l\x1b[?6l\x1b[4l\x1b[r\x1b(
 const COMMON: Output = Output {
     depth: Depth::True,
     widths: KnownWidths::Common,
-    cursor: Cursor::Keep,
     synchronized: false,
 };
 
@@ -42,8 +41,8 @@ const WRITTEN: &str =
 fn is_written(first: &Buffer, next: &Buffer, sink: &mut MemSink) -> bool
     requires { first.now.area ≡ next.now.area }
 {
-    write_full(first, COMMON, sink).is_ok()
-        && write_changes(first, next, COMMON, sink).is_ok()
+    write_full(first, COMMON, Cursor::Keep, sink).is_ok()
+        && write_changes(first, next, COMMON, Cursor::Keep, sink).is_ok()
         && settle(sink).is_ok()
 }
 

@@ -4,10 +4,15 @@ use crate::dot::Dot;
 use crate::trace::{ENTER, FULL, LEAVE, OUTPUT, TraceEntry, is_tape, terminal};
 use std::alloc::Global;
 use tui_app::{AppEnd, run};
-use tui_cells::Mem;
+use tui_cells::{Mem, Size};
 
 /// What is written of the first screen.
 const FIRST: &str = "\x1b[1;1H\x1b[0mx   \x1b[1;1H\x1b[?25h";
+
+const SIZE: Size = Size {
+    width: 4,
+    height: 1,
+};
 
 const READS: [&str; 3] = ["\x1b[C", "l", "q"];
 
@@ -52,7 +57,7 @@ fn ends(
     last: &str,
 ) -> Mem<bool> {
     let mut terminal = terminal(alloc, reads, failing)?;
-    let is_end = run(alloc, &mut Dot { column: 0 }, OUTPUT, 4, 1, &mut terminal) == end;
+    let is_end = run(alloc, &mut Dot { column: 0 }, OUTPUT, SIZE, &mut terminal) == end;
     Ok(is_end && is_tape(alloc, terminal.trace(), parts, last)?)
 }
 

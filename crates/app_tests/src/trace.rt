@@ -3,12 +3,11 @@
 use std::alloc::Global;
 use tui_app::MemTerminal;
 use tui_cells::Mem;
-use tui_terminal::{Cursor, Depth, KnownWidths, Output};
+use tui_terminal::{Depth, KnownWidths, Output};
 
 pub(crate) const OUTPUT: Output = Output {
     depth: Depth::True,
     widths: KnownWidths::Common,
-    cursor: Cursor::Keep,
     synchronized: false,
 };
 

@@ -4,7 +4,7 @@ use crate::last::ends_with;
 use crate::machine::Scripted;
 use std::alloc::Global;
 use std::cell::Cell;
-use tui_cells::Mem;
+use tui_cells::{Mem, Size};
 use tui_watch_lib::Watch;
 
 /// Since the machine began: 7.5 of 40 columns are 150 of 800 ticks; the new point of each sparkline is 12, 4 and 12 eighths high of 24.
@@ -84,7 +84,11 @@ fn goes_as_expected(alloc: Global, reads: &[&[u8]], rows: &str) -> Mem<bool> {
         readings: Cell::new(0),
     };
     let mut watch = Watch::new(alloc, machine)?;
-    ends_with(alloc, &mut watch, (40, 12), reads, rows)
+    let size = Size {
+        width: 40,
+        height: 12,
+    };
+    ends_with(alloc, &mut watch, size, reads, rows)
 }
 
 #[test]

@@ -236,28 +236,28 @@ fn write_frame<K: Sink>(shown: &Buffer, next: &Buffer, sink: &mut K) -> Result<(
     let output = Output {
         depth: Depth::Palette,
         widths: KnownWidths::Common,
-        cursor: Cursor::Hidden,
         synchronized: true,
     };
     if shown.area() == next.area() {
-        write_changes(shown, next, output, sink)
+        write_changes(shown, next, output, Cursor::Hidden, sink)
     } else {
-        write_full(next, output, sink)
+        write_full(next, output, Cursor::Hidden, sink)
     }
 }
 
 const INLINE: Output = Output {
     depth: Depth::Palette,
     widths: KnownWidths::Common,
-    cursor: Cursor::Hidden,
     synchronized: false,
 };
 
 /// Shows a frame. Sends only the changes if the frame that is shown has the same area.
 fn show<K: Sink>(shown: Option<&Buffer>, next: &Buffer, sink: &mut K) -> Result<(), WriteFault> {
     match shown {
-        Some(shown) if shown.area() == next.area() => write_changes(shown, next, INLINE, sink),
-        _ => write_full(next, INLINE, sink),
+        Some(shown) if shown.area() == next.area() => {
+            write_changes(shown, next, INLINE, Cursor::Hidden, sink)
+        }
+        _ => write_full(next, INLINE, Cursor::Hidden, sink),
     }
 }
 

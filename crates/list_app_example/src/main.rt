@@ -10,8 +10,8 @@ use std::io;
 use std::process::ExitCode;
 use tui::app::{App, AppEnd, Flow, IoTerminal, run};
 use tui::buffer::{Buffer, Mem};
-use tui::layout::Position;
-use tui::terminal::{Cursor, Depth, Event, KnownWidths, Output, StdSink, StdSource};
+use tui::layout::{Position, Size};
+use tui::terminal::{Depth, Event, KnownWidths, Output, StdSink, StdSource};
 use tui::text::{Line, Text};
 use tui::widgets::{List, ListItem, ListState, StatefulWidget};
 
@@ -56,13 +56,16 @@ fn main(rt: HostRuntime) -> ExitCode {
     let output = Output {
         depth: Depth::Palette,
         widths: KnownWidths::Common,
-        cursor: Cursor::Hidden,
         synchronized: true,
     };
     let mut app = Shopping {
         state: ListState::default().with_selected(Some(0)),
     };
-    match run(rt.alloc(), &mut app, output, 20, 4, &mut terminal) {
+    let size = Size {
+        width: 20,
+        height: 4,
+    };
+    match run(rt.alloc(), &mut app, output, size, &mut terminal) {
         AppEnd::Quit | AppEnd::Ended => ExitCode::SUCCESS,
         _ => ExitCode::FAILURE,
     }

@@ -1,7 +1,7 @@
 //! Rows of forms: what a form shows for the reads of a terminal, and its answers.
 
 use crate::members::{check_keys, member};
-use crate::sessions::tell_screens;
+use crate::sessions::write_screens;
 use anyhow::{Result, bail};
 use serde_json::Value;
 use std::alloc::Global;
@@ -31,7 +31,7 @@ pub(crate) fn show_form<W: Write>(alloc: Global, asking: &Value, out: &mut W) ->
 
 fn ask<W: Write>(alloc: Global, form: Form, asking: &Value, out: &mut W) -> Result<()> {
     let mut form = form;
-    tell_screens(alloc, &mut form, asking, out)?;
+    write_screens(alloc, &mut form, asking, out)?;
     match form.outcome() {
         Outcome::Open => writeln!(out, "open")?,
         Outcome::Left => writeln!(out, "left")?,

@@ -1,7 +1,6 @@
 //! Rows of frames: what is sent to show one scene on a terminal, and then the next.
 
-ghost use Rattle.std.specs.Prelude.{◌≡◌, IfOk};
-ghost use Rattle.tui_cells.specs.Buffer.{Screen};
+ghost use Rattle.std.specs.Prelude.{IfOk};
 ghost use Rattle.tui_terminal_model.specs.Shows.{IsCursorInside};
 
 use crate::members::{check_keys, flag, member, pair};
@@ -9,7 +8,7 @@ use anyhow::{Result, bail};
 use serde_json::Value;
 use std::alloc::Global;
 use std::io::Write;
-use tui_cells::{Buffer, Position, Rect};
+use tui_cells::{Buffer, Position};
 use tui_io::{MemSink, WriteFault};
 use tui_port::scene_of;
 use tui_scene::draw_new;
@@ -132,8 +131,8 @@ impl<'v> Frames<'v> {
 
     fn show_full<W: Write>(&self, alloc: Global, buffer: &Buffer, out: &mut W) -> Result<()> {
         let mut sink = MemSink::new(alloc, ROOM, Vec::new(alloc))?;
-        let output = self.output(buffer)?;
-        let answer = write_full(buffer, output, &mut sink);
+        let cursor = cursor_in(buffer, self.way.cursor)?;
+        let answer = write_full(buffer, self.output(), cursor, &mut sink);
         write_out(out, "full", answer, sink.bytes())
     }
 
@@ -148,37 +147,34 @@ impl<'v> Frames<'v> {
             return self.show_full(alloc, new, out);
         }
         let mut sink = MemSink::new(alloc, ROOM, Vec::new(alloc))?;
-        let output = self.output(new)?;
-        let answer = write_changes(old, new, output, &mut sink);
+        let cursor = cursor_in(new, self.way.cursor)?;
+        let answer = write_changes(old, new, self.output(), cursor, &mut sink);
         write_out(out, "then", answer, sink.bytes())
     }
 
     /// Returns how a buffer is sent.
-    fn output(&self, buffer: &Buffer) -> Result<Output>
-        ensures { IfOk result (λ output. IsCursorInside output.cursor buffer.now) }
-    {
-        Ok(Output {
+    fn output(&self) -> Output {
+        Output {
             depth: self.way.depth,
             widths: if self.way.ascii {
                 KnownWidths::Ascii
             } else {
                 KnownWidths::Common
             },
-            cursor: cursor_in(buffer.area(), self.way.cursor)?,
             synchronized: self.way.synchronized,
-        })
+        }
     }
 }
 
 /// Returns the cursor, which must be in the area.
-fn cursor_in(area: Rect, place: Option<(u16, u16)>) -> Result<Cursor>
-    ensures { IfOk result (λ cursor. (b : Screen) → b.area ≡ area → IsCursorInside cursor b) }
+fn cursor_in(buffer: &Buffer, place: Option<(u16, u16)>) -> Result<Cursor>
+    ensures { IfOk result (λ cursor. IsCursorInside cursor buffer.now) }
 {
     let Some((x, y)) = place else {
         return Ok(Cursor::Keep);
     };
     let position = Position { x, y };
-    if !area.contains(position) {
+    if !buffer.area().contains(position) {
         bail!("the cursor is outside");
     }
     Ok(Cursor::At(position))

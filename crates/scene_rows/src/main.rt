@@ -68,7 +68,7 @@ fn is_right<W: Write>(alloc: Global, case: &Case<'_>, out: &mut W) -> Result<boo
     if found.as_slice() == case.expected.as_bytes() {
         return Ok(true);
     }
-    tell_wrong(
+    write_wrong(
         case,
         text(&row, "name").unwrap_or(""),
         found.as_slice(),
@@ -81,7 +81,7 @@ fn row_of(alloc: Global, case: &Case<'_>) -> Result<Value> {
     Value::from_str(alloc, case.row).context(format_args!("line {}", case.line))
 }
 
-fn tell_wrong<W: Write>(case: &Case<'_>, name: &str, found: &[u8], out: &mut W) -> Result<()> {
+fn write_wrong<W: Write>(case: &Case<'_>, name: &str, found: &[u8], out: &mut W) -> Result<()> {
     writeln!(out, "== line {}: {name}", case.line)?;
     out.write_all(found)?;
     Ok(())

@@ -3,6 +3,7 @@
 use anyhow::{Result, bail};
 use serde_json::Value;
 use std::alloc::Global;
+use tui_cells::Size;
 
 /// A member; none if it is absent or null.
 pub(crate) fn member<'v>(value: &'v Value, key: &str) -> Option<&'v Value> {
@@ -94,9 +95,12 @@ pub(crate) fn texts<'v>(alloc: Global, value: &'v Value, key: &str) -> Result<Ve
 }
 
 /// The columns and rows of a screen.
-pub(crate) fn size(value: &Value) -> Result<(u16, u16)> {
+pub(crate) fn size(value: &Value) -> Result<Size> {
     match (member(value, "width"), member(value, "height")) {
-        (Some(width), Some(height)) => pair(width, height),
+        (Some(width), Some(height)) => {
+            let (width, height) = pair(width, height)?;
+            Ok(Size { width, height })
+        }
         _ => bail!("no size"),
     }
 }

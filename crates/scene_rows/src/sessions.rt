@@ -7,7 +7,7 @@ use std::alloc::Global;
 use std::io::Write;
 use tui_app::{App, run_over};
 use tui_browse_lib::PagerApp;
-use tui_cells::Buffer;
+use tui_cells::{Buffer, Size};
 use tui_io::MemSink;
 use tui_pager_lib::Entry;
 use tui_rows::write_rows;
@@ -19,25 +19,24 @@ const ROOM: usize = 65_536;
 /// screen, and of the one after each of `reads`; then the state at the end.
 pub(crate) fn show_session<W: Write>(alloc: Global, session: &Value, out: &mut W) -> Result<()> {
     check_keys(session, &["width", "height", "entries", "reads"])?;
-    let (width, height) = size(session)?;
+    let Size { width, height } = size(session)?;
     let entries = entries_of(alloc, session)?;
     let Ok(mut app) = PagerApp::new(alloc, width, height, entries) else {
         bail!("no memory for the pager");
     };
-    tell_screens(alloc, &mut app, session, out)?;
+    write_screens(alloc, &mut app, session, out)?;
     write_state(&app, out)
 }
 
 /// Writes the rows of the first screen of an app, and of the one after each read up to the one that ends it.
-pub(crate) fn tell_screens<A: App, W: Write>(
+pub(crate) fn write_screens<A: App, W: Write>(
     alloc: Global,
     app: &mut A,
     value: &Value,
     out: &mut W,
 ) -> Result<()> {
-    let (width, height) = size(value)?;
     let reads = reads_of(alloc, value)?;
-    let Ok(screens) = run_over(alloc, app, width, height, &reads) else {
+    let Ok(screens) = run_over(alloc, app, size(value)?, &reads) else {
         bail!("no memory for the screens");
     };
     for screen in &screens {

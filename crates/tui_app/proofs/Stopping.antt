@@ -4,17 +4,21 @@ use Rattle.std.proofs.lemmas.List.{length-append}
 use Rattle.std.proofs.Math.Seq.{take-append-add}
 use Rattle.std.specs.Io.KnownBytes.{Appends}
 use Rattle.tui_app.specs.Behaviour.{Behaviour}
-use Rattle.tui_app.specs.EventLoop.{LoopState}
-use Rattle.tui_app.specs.Parts.{Closed, Handled, SessionReached, IsBegun, Opened, Sent, Iterated, state_of}
+use Rattle.tui_app.specs.EventLoop.{LoopState, area_after, events_of_read, keys_after_read}
+use Rattle.tui_app.specs.Feeding.{HandlesBytes, no_reaction}
+use Rattle.tui_app.specs.Parts.{Closed, Follows, IsBegun, IsDrawn, Iterated, Opened, Sent, SessionReached, state_of}
 use Rattle.tui_app.specs.Run.{Counts, HasStopped, IsAppRun, Stops, cut, enters, leaves, shows, whole}
-use Rattle.tui_app.specs.Session.{begins, goes_on, output_at}
-use Rattle.tui_app.specs.Trace.{WriteFailed, Traced, read_entry}
+use Rattle.tui_app.specs.Session.{IsText, Iterates, begins, cursor_for, goes_on, is_in_full}
+use Rattle.tui_app.specs.Trace.{IsRead, Traced, WriteFailed, read_entry}
 use Rattle.tui_app.specs.declared.outcome.AppEnd.{AppEnd}
 use Rattle.tui_app.specs.declared.outcome.AppEnd.TheVariants as ends
 use Rattle.tui_app.specs.declared.buffers.LoopBuffers.{LoopBuffers}
+use Rattle.tui_app.specs.declared.feed.AfterRead.{AfterRead}
 use Rattle.tui_cells.specs.declared.rect.Rect.{Rect}
 use Rattle.tui_io.proofs.Outside.{Appends-keeps, Appends-none, Appends-then}
 use Rattle.tui_io.specs.Causes.{Rose, TakesPrefix, Observed}
+use Rattle.tui_keys.specs.Steps.{start}
+use Rattle.tui_keys.specs.declared.keys.KeyDecoder.{KeyDecoder}
 use Rattle.tui_terminal_model.specs.Calls.{IsFull}
 use Rattle.tui_terminal_model.specs.Session.{enter_text, leave_text}
 use Rattle.tui_terminal_model.specs.declared.output.Output.{Output}
@@ -53,13 +57,13 @@ opened o s a b c (Err e) taken same sent =
     inr (sent.text, sent.text_is, WriteFailed-after first next)
 
 pub been_first : {A : Type 0} (b : Behaviour A) (o : Output) (begin app : A) (area : Rect) (buffers : LoopBuffers) (t now : Observed) (text : List ℕ) →
-    IsBegun b begin area app buffers → IsFull (output_at o buffers.place buffers.shown.area) buffers.shown text → Traced t now (enter_text ++ text) →
-    SessionReached b o begin area (state_of app buffers) t now 0
+    IsBegun b begin area app buffers → IsFull o (cursor_for buffers.place buffers.shown.area) buffers.shown text → Traced t now (enter_text ++ text) →
+    SessionReached b o begin area (state_of app start buffers) t now 0
 been_first b o begin app area buffers t now text begun full traced = record {
   reads = [];
   trace = enter_text ++ text;
   sent = enter_text ++ text;
-  session = begins (state_of app buffers) text begun.first full;
+  session = begins (state_of app start buffers) text begun.first full;
   traced = traced;
   counted = refl;
 }
@@ -68,10 +72,10 @@ pub not_opened : {A E : Type 0} (b : Behaviour A) (o : Output) (begin app : A) (
     IsBegun b begin area app buffers → Opened o buffers t now (Err e) → IsAppRun b o begin area t now app ends.WriteFault
 not_opened b o begin app area buffers t now e begun h =
     elim h [
-      | inl write_failed ↦ cut enter_text t.io_errors (enters (state_of app buffers) begun.first refl) write_failed.part write_failed.io_errors
+      | inl write_failed ↦ cut enter_text t.io_errors (enters (state_of app start buffers) begun.first refl) write_failed.part write_failed.io_errors
       | inr write_failed ↦
           cut (enter_text ++ write_failed.0) t.io_errors
-          (shows (state_of app buffers) [] (enter_text ++ write_failed.0) (enter_text ++ write_failed.0) (begins (state_of app buffers) write_failed.0 begun.first write_failed.1)
+          (shows (state_of app start buffers) [] (enter_text ++ write_failed.0) (enter_text ++ write_failed.0) (begins (state_of app start buffers) write_failed.0 begun.first write_failed.1)
           (omega arith) refl)
           write_failed.2.part write_failed.2.io_errors
     ]
@@ -89,19 +93,39 @@ been_more b o begin area state new t0 t1 t2 count reached t = record {
   counted = length-append reached.reads (t.0 ∷ []) ∙ ap (λ (n : ℕ). n + 1) reached.counted;
 }
 
--- a read, and the result of its bytes
-pub after_iteration : {A : Type 0} (b : Behaviour A) (o : Output) (old new : LoopState A) (bytes : List ℕ) (t0 t1 t2 : Observed) (result : Option AppEnd) →
-    Traced t0 t1 (read_entry bytes) → Handled b o old bytes new t1 t2 result → Iterated b o old new t0 t2 result
-after_iteration {A} b o old new bytes t0 t1 t2 result traced h = by_result result h
+-- the events of a read are handled, and the next screen is drawn
+iterates : {A : Type 0} (b : Behaviour A) (o : Output) (app moved last : A) (keys : KeyDecoder) (old new : LoopBuffers) (bytes : List ℕ) (reading : AfterRead) (text : List ℕ) →
+    IsRead bytes → HandlesBytes b app no_reaction (events_of_read keys bytes) (keys_after_read keys bytes) moved reading →
+    IsDrawn b o reading.reaction moved old last new text → Iterates b o (state_of app keys old) bytes (state_of last reading.keys new) text
+iterates b o app moved last keys old new bytes reading text read handled h = record {
+  flow = reading.reaction.flow;
+  iteration = record {
+    moved = moved;
+    read = read;
+    takes = handled.handled.takes;
+    not_quit = h.not_quit;
+    keys = handled.keys_are;
+    draws = h.drawn.draws;
+    area_is = h.drawn.area_is ∙ ap (area_after old.shown.area) handled.handled.size;
+  };
+  text_is = rw handled.handled.size at h.text_is;
+}
+
+-- a read, and what follows its events
+pub after_iteration : {A : Type 0} (b : Behaviour A) (o : Output) (app moved last : A) (keys : KeyDecoder) (old new : LoopBuffers) (bytes : List ℕ) (reading : AfterRead)
+    (t0 t1 t2 : Observed) (result : Option AppEnd) → IsRead bytes → Traced t0 t1 (read_entry bytes) →
+    HandlesBytes b app no_reaction (events_of_read keys bytes) (keys_after_read keys bytes) moved reading → Follows b o reading.reaction moved old last new t1 t2 result →
+    Iterated b o (state_of app keys old) (state_of last reading.keys new) t0 t2 result
+after_iteration {A} b o app moved last keys old new bytes reading t0 t1 t2 result read traced handled h = by_result result h
   where
     still : t2 ≡ t1 → Traced t0 t2 (read_entry bytes)
     still same = subst (λ (t : Observed). Traced t0 t (read_entry bytes)) (sym same) traced
 
-    by_result : (r : Option AppEnd) → Handled b o old bytes new t1 t2 r → Iterated b o old new t0 t2 r
-    by_result None h = (bytes, h.0, h.1, Traced-then traced h.2)
-    by_result (Some ends.WriteFault) h = (bytes, h.0, h.1, WriteFailed-after traced h.2)
-    by_result (Some ends.NoMemory) h = (bytes, h.0, still h.1)
-    by_result (Some ends.Quit) h = (bytes, h.0, h.1, still h.2)
+    by_result : (r : Option AppEnd) → Follows b o reading.reaction moved old last new t1 t2 r → Iterated b o (state_of app keys old) (state_of last reading.keys new) t0 t2 r
+    by_result None h = (bytes, h.0, iterates b o app moved last keys old new bytes reading h.0 read handled h.1, Traced-then traced h.2)
+    by_result (Some ends.WriteFault) h = (bytes, h.0, iterates b o app moved last keys old new bytes reading h.0 read handled h.1, WriteFailed-after traced h.2)
+    by_result (Some ends.NoMemory) h = (bytes, read, still h)
+    by_result (Some ends.Quit) h = (bytes, read, rw (h.0, h.1) handled.handled.takes, still h.2)
     by_result (Some ends.Ended) h = absurd h
     by_result (Some ends.ReadFault) h = absurd h
     by_result (Some ends.ManyReads) h = absurd h

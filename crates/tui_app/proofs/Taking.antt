@@ -10,7 +10,7 @@ use Rattle.tui_app.specs.declared.app.Flow.{Flow}
 use Rattle.tui_app.specs.declared.app.Flow.TheVariants.{Go, Redraw, Quit}
 use Rattle.tui_app.specs.declared.feed.Reaction.{Reaction}
 use Rattle.tui_app.specs.declared.feed.AfterRead.{AfterRead}
-use Rattle.tui_app.specs.declared.feed.Size.{Size}
+use Rattle.tui_cells.specs.declared.size.Size.{Size}
 use Rattle.tui_keys.proofs.Decoding.{one_piece}
 use Rattle.tui_keys.specs.Events.{events_of, events_of_short_read, keys_after, keys_after_short_read, events_in}
 use Rattle.tui_keys.specs.Steps.{paused, stepped}

@@ -4,7 +4,7 @@ use Rattle.tui_app.specs.Behaviour.{Behaviour}
 use Rattle.tui_app.specs.Trace.{IsRead, read_capacity}
 use Rattle.tui_app.specs.declared.app.Flow.{Flow}
 use Rattle.tui_app.specs.declared.app.Flow.TheVariants.{Go, Quit}
-use Rattle.tui_app.specs.declared.feed.Size.{Size}
+use Rattle.tui_cells.specs.declared.size.Size.{Size}
 use Rattle.tui_cells.specs.Buffer.{Screen}
 use Rattle.tui_cells.specs.Rect.{area_of}
 use Rattle.tui_cells.specs.declared.position.Position.{Position}

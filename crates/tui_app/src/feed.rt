@@ -9,15 +9,8 @@ ghost use Rattle.tui_keys.specs.Steps.{paused};
 use crate::app::{App, Flow};
 use crate::terminal::READ_CAPACITY;
 use std::alloc::Global;
-use tui_cells::Mem;
+use tui_cells::{Mem, Size};
 use tui_keys::{Decoded, Event, KeyDecoder};
-
-/// Columns and rows.
-#[derive(Clone, Copy, Debug, PartialEq, Eq)]
-pub struct Size {
-    pub width: u16,
-    pub height: u16,
-}
 
 /// How the app goes on, and the last size among the events.
 #[derive(Clone, Copy, Debug, PartialEq, Eq)]

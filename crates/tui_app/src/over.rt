@@ -7,12 +7,12 @@ ghost use Rattle.tui_app.specs.Trace.{IsRead};
 ghost use Rattle.tui_cells.specs.Rect.{area_of};
 
 use crate::app::{App, Flow};
-use crate::feed::{Size, feed};
+use crate::feed::feed;
 use crate::shown::{blank, draw};
 use crate::terminal::READ_CAPACITY;
 use std::alloc::Global;
 use std::mem;
-use tui_cells::{Buffer, Mem, Position};
+use tui_cells::{Buffer, Mem, Position, Size};
 use tui_keys::KeyDecoder;
 
 /// The state of the key decoder, the size, the screen that was drawn last, and the position at which the
@@ -28,17 +28,11 @@ pub(crate) struct LastDrawn {
 /// Returns the screens that an app draws in a session whose terminal gives these reads: the first one, and
 /// one for each read, up to the one that quits. A read has from 1 to `READ_CAPACITY` bytes; any other one ends
 /// the session. Nothing is sent, so a test of an app needs no terminal.
-pub fn run_over<A: App>(
-    alloc: Global,
-    app: &mut A,
-    width: u16,
-    height: u16,
-    reads: &[&[u8]],
-) -> Mem<Vec<Buffer>>
-    ensures { IfOk result (λ screens. RunsOver A.behaviour app.old (area_of 0 0 width height) (map (λ bytes. bytes.now) reads.now)
+pub fn run_over<A: App>(alloc: Global, app: &mut A, size: Size, reads: &[&[u8]]) -> Mem<Vec<Buffer>>
+    ensures { IfOk result (λ screens. RunsOver A.behaviour app.old (area_of 0 0 size.width size.height) (map (λ bytes. bytes.now) reads.now)
         screens.items app.new) }
 {
-    let mut last = draw_first(alloc, app, Size { width, height })?;
+    let mut last = draw_first(alloc, app, size)?;
     let mut screens = Vec::new(alloc);
     'reads: for i in 0..reads.len() {
         match iterate(alloc, app, &mut last, reads[i])? {

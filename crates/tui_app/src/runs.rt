@@ -7,25 +7,23 @@ ghost use Rattle.tui_cells.specs.Rect.{area_of};
 
 use crate::app::App;
 use crate::buffers::LoopBuffers;
-use crate::feed::Size;
 use crate::iteration::iteration;
 use crate::outcome::{AppEnd, MAX_READS};
 use crate::setup::LoopSetup;
 use crate::shown::{blank, draw, send};
 use crate::terminal::Terminal;
 use std::alloc::Global;
-use tui_cells::Mem;
+use tui_cells::{Mem, Size};
 use tui_io::{Sink, WriteFault};
 use tui_keys::KeyDecoder;
 use tui_terminal::{enter, leave};
 use tui_terminal_model::Output;
 
-/// Runs an app on a terminal of `width` columns and `height` rows. Enters the alternate screen and shows what
+/// Runs an app on a terminal of this size. Enters the alternate screen and shows what
 /// the app draws. Then for each read hands it the events, and shows what it draws then. At the end leaves the
 /// alternate screen.
 ///
-/// A size that the terminal reports is the size of the screen from then on. The cursor of `output` is
-/// ignored: it is where the app wants it. After `MAX_READS` (2^32) reads the session ends with `ManyReads`.
+/// A size that the terminal reports is the size of the screen from then on. The cursor is where the app wants it. After `MAX_READS` (2^32) reads the session ends with `ManyReads`.
 ///
 /// At the end the alternate screen is left, with two exceptions: after a `WriteFault` nothing more is
 /// written, and nothing is written at all if memory runs out before the first screen. The app is as its last
@@ -34,21 +32,21 @@ pub fn run<A: App, T: Terminal>(
     alloc: Global,
     app: &mut A,
     output: Output,
-    width: u16,
-    height: u16,
+    size: Size,
     terminal: &mut T,
 ) -> AppEnd
-    ensures { IsAppRun A.behaviour output app.old (area_of 0 0 width height) (T.observed terminal.old) (T.observed terminal.new) app.new result }
+    ensures { IsAppRun A.behaviour output app.old (area_of 0 0 size.width size.height) (T.observed terminal.old) (T.observed terminal.new) app.new result }
 {
-    let Ok(mut buffers) = begin(alloc, app, Size { width, height }) else {
+    let Ok(mut buffers) = begin(alloc, app, size) else {
         return AppEnd::NoMemory;
     };
     let Ok(()) = show_first(output, &buffers, terminal) else {
         return AppEnd::WriteFault;
     };
     let setup = LoopSetup { alloc, output };
+    let mut keys = KeyDecoder::new();
     'iterations: for _i in 0..MAX_READS {
-        if let Some(end) = iteration(setup, app, &mut buffers, terminal) {
+        if let Some(end) = iteration(setup, app, &mut keys, &mut buffers, terminal) {
             return close(end, terminal);
         }
     }
@@ -62,7 +60,6 @@ pub(crate) fn begin<A: App>(alloc: Global, app: &mut A, size: Size) -> Mem<LoopB
     let spare = blank(alloc, size)?;
     let place = draw(alloc, app, &mut shown)?;
     Ok(LoopBuffers {
-        keys: KeyDecoder::new(),
         shown,
         place,
         spare,

@@ -2,17 +2,17 @@
 
 ghost use Rattle.std.specs.Prelude.{◌≡◌, IfOk, None, OnOk};
 ghost use Rattle.tui_app.specs.Parts.{IsNextDrawn, IsNextShown, Sent};
-ghost use Rattle.tui_app.specs.Session.{cursor_for, is_in_full, output_at};
+ghost use Rattle.tui_app.specs.Session.{cursor_for, is_in_full};
 ghost use Rattle.tui_cells.specs.Rect.{area_of};
 ghost use Rattle.tui_terminal_model.specs.Shows.{IsCursorInside};
 
 use crate::app::{App, Flow};
 use crate::buffers::LoopBuffers;
-use crate::feed::{Reaction, Size};
+use crate::feed::Reaction;
 use crate::setup::LoopSetup;
 use std::alloc::Global;
 use std::mem;
-use tui_cells::{Buffer, Mem, Position, Rect};
+use tui_cells::{Buffer, Mem, Position, Rect, Size};
 use tui_io::{Sink, WriteFault};
 use tui_terminal::{write_changes, write_full};
 use tui_terminal_model::{Cursor, Output};
@@ -113,23 +113,11 @@ pub(crate) fn send<K: Sink>(
     requires { buffers.now.shown.area ≡ buffers.now.spare.area }
     ensures { Sent output in_full buffers.now (K.observed sink.old) (K.observed sink.new) result }
 {
-    let output = output_at(output, buffers.place, &buffers.shown);
+    let cursor = cursor_for(buffers.place, &buffers.shown);
     if in_full {
-        write_full(&buffers.shown, output, sink)
+        write_full(&buffers.shown, output, cursor, sink)
     } else {
-        write_changes(&buffers.spare, &buffers.shown, output, sink)
-    }
-}
-
-fn output_at(output: Output, place: Option<Position>, buf: &Buffer) -> Output
-    ensures is { result ≡ output_at output place buf.now.area }
-    ensures inside { IsCursorInside result.cursor buf.now }
-{
-    Output {
-        depth: output.depth,
-        widths: output.widths,
-        cursor: cursor_for(place, buf),
-        synchronized: output.synchronized,
+        write_changes(&buffers.spare, &buffers.shown, output, cursor, sink)
     }
 }
 

@@ -4,10 +4,10 @@ use Rattle.std.proofs.lemmas.Grind.{flat_map-append}
 use Rattle.std.proofs.lemmas.List.Elements.{All-append}
 use Rattle.tui_app.specs.Behaviour.{Behaviour}
 use Rattle.tui_app.specs.EventLoop.{EventLoop, LoopState, area_after, drew, iterated}
-use Rattle.tui_app.specs.Session.{IsText, Session, begins, cursor_for, goes_on, is_in_full, output_at}
+use Rattle.tui_app.specs.Session.{IsText, Session, begins, cursor_for, goes_on, is_in_full}
 use Rattle.tui_app.specs.declared.app.Flow.{Flow}
 use Rattle.tui_app.specs.declared.app.Flow.TheVariants.{Go, Redraw, Quit}
-use Rattle.tui_app.specs.declared.feed.Size.{Size}
+use Rattle.tui_cells.specs.declared.size.Size.{Size}
 use Rattle.tui_app_laws.specs.Showing.{WaitingShows}
 use Rattle.tui_cells.specs.Buffer.{Screen}
 use Rattle.tui_cells.specs.declared.position.Position.{Position}
@@ -30,7 +30,7 @@ record IsShowing (o : Output) (screen : Screen) (place : Option Position) (text 
   earlier : List Command
   commands : List Command
   encoded : IsEncoded o.widths (earlier ++ commands) text
-  shows : (knows : List ℕ → Bool) (t : Tty) → KnowsWidths o.widths knows → HasRoom t screen → Shows (output_at o place screen.area) knows (run knows commands t) screen
+  shows : (knows : List ℕ → Bool) (t : Tty) → KnowsWidths o.widths knows → HasRoom t screen → Shows o knows (run knows commands t) screen
   cursor : (knows : List ℕ → Bool) (t : Tty) → KnowsWidths o.widths knows → HasRoom t screen → HasCursor (cursor_for place screen.area) (run knows commands t)
 
 spelled_append : (widths : KnownWidths) (xs ys : List Command) (s t : List ℕ) → IsEncoded widths xs s → IsEncoded widths ys t → IsEncoded widths (xs ++ ys) (s ++ t)
@@ -42,42 +42,42 @@ spelled_append widths xs ys s t a c = record {
 }
 
 -- a screen is sent in full
-first_shows : (o : Output) (screen : Screen) (place : Option Position) (text : List ℕ) → IsFull (output_at o place screen.area) screen text → IsShowing o screen place text
+first_shows : (o : Output) (screen : Screen) (place : Option Position) (text : List ℕ) → IsFull o (cursor_for place screen.area) screen text → IsShowing o screen place text
 first_shows o screen place text full = record {
   earlier = [];
   commands = full.commands;
   encoded = full.encoded;
   shows = full.shows;
-  cursor = full.cursor;
+  cursor = full.at_cursor;
 }
 
-full_shows : (o : Output) (old new : Screen) (before place : Option Position) (was text : List ℕ) → IsFull (output_at o place new.area) new text →
+full_shows : (o : Output) (old new : Screen) (before place : Option Position) (was text : List ℕ) → IsFull o (cursor_for place new.area) new text →
     IsShowing o old before was → IsShowing o new place (was ++ text)
 full_shows o old new before place was text full showing = record {
   earlier = showing.earlier ++ showing.commands;
   commands = full.commands;
   encoded = spelled_append o.widths (showing.earlier ++ showing.commands) full.commands was text showing.encoded full.encoded;
   shows = full.shows;
-  cursor = full.cursor;
+  cursor = full.at_cursor;
 }
 
 -- the changes are sent
 change_shows : (o : Output) (old new : Screen) (before place : Option Position) (was text : List ℕ) → new.area ≡ old.area →
-    IsChange (output_at o place new.area) old new text → IsShowing o old before was → IsShowing o new place (was ++ text)
+    IsChange o (cursor_for place new.area) old new text → IsShowing o old before was → IsShowing o new place (was ++ text)
 change_shows o old new before place was text area change showing = record {
   earlier = showing.earlier;
   commands = showing.commands ++ change.commands;
   encoded = subst (λ (cs : List Command). IsEncoded o.widths cs (was ++ text)) (append_assoc showing.earlier showing.commands change.commands)
       (spelled_append o.widths (showing.earlier ++ showing.commands) change.commands was text showing.encoded change.encoded);
   shows = λ knows t knows_widths room.
-      subst (λ (u : Tty). Shows (output_at o place new.area) knows u new) (sym (run_append knows showing.commands change.commands t))
+      subst (λ (u : Tty). Shows o knows u new) (sym (run_append knows showing.commands change.commands t))
       (change.shows knows (run knows showing.commands t) knows_widths (there knows t knows_widths room));
   cursor = λ knows t knows_widths room.
       subst (HasCursor (cursor_for place new.area)) (sym (run_append knows showing.commands change.commands t))
-      (change.cursor knows (run knows showing.commands t) knows_widths (there knows t knows_widths room));
+      (change.at_cursor knows (run knows showing.commands t) knows_widths (there knows t knows_widths room));
 }
   where
-    there : (knows : List ℕ → Bool) (t : Tty) → KnowsWidths o.widths knows → HasRoom t new → Shows (output_at o place new.area) knows (run knows showing.commands t) old
+    there : (knows : List ℕ → Bool) (t : Tty) → KnowsWidths o.widths knows → HasRoom t new → Shows o knows (run knows showing.commands t) old
     there knows t knows_widths room =
         let room_old : HasRoom t old = record {
           wide = subst (λ (r : Rect). r.x + r.width ≤ t.columns) area room.wide;

@@ -2,7 +2,7 @@
 use Rattle.std.specs.Prelude.{◌≡◌, ℕ, Bool, true, List, ◌++◌, All, flat_map}
 use Rattle.tui_app.specs.Behaviour.{Behaviour}
 use Rattle.tui_app.specs.EventLoop.{EventLoop, LoopState}
-use Rattle.tui_app.specs.Session.{Session, cursor_for, output_at}
+use Rattle.tui_app.specs.Session.{Session, cursor_for}
 use Rattle.tui_cells.specs.declared.rect.Rect.{Rect}
 use Rattle.tui_terminal_model.specs.Sends.{IsSafe, IsEncoded}
 use Rattle.tui_terminal_model.specs.Session.{IsMainRestored, enter_commands, enter_text, leave_commands}
@@ -15,7 +15,7 @@ use Rattle.tui_terminal_laws.specs.Reading.{IsSmall, joined}
 -- after these commands any terminal that fits the output and has room for the screen shows it, with the cursor,
 -- whatever it showed before
 pub record IsStateShown {A : Type 0} (o : Output) (state : LoopState A) (commands : List Command) (knows : List ℕ → Bool) (t : Tty) : Type 0 where
-  pub screen : Shows (output_at o state.place state.screen.area) knows (run knows commands t) state.screen
+  pub screen : Shows o knows (run knows commands t) state.screen
   pub cursor : HasCursor (cursor_for state.place state.screen.area) (run knows commands t)
 
 -- no other list of such commands has these bytes, except for where one of two adjacent prints ends and the next begins

@@ -5,7 +5,7 @@ use Rattle.std.proofs.lemmas.Bool.Decides.{nat_tests}
 use Rattle.tui_app.specs.EventLoop.{EventLoop, LoopState, Takes, area_after, drew, events_of_read, joined, last_size, iterated, size_of_read, sized}
 use Rattle.tui_app.specs.declared.app.Flow.{Flow}
 use Rattle.tui_app.specs.declared.app.Flow.TheVariants.{Go, Redraw, Quit}
-use Rattle.tui_app.specs.declared.feed.Size.{Size}
+use Rattle.tui_cells.specs.declared.size.Size.{Size}
 use Rattle.tui_app_laws.specs.Showing.{WaitingShows}
 use Rattle.tui_browse_lib.proofs.Pressing.{after_more}
 use Rattle.tui_browse_lib.specs.PagerAction.{action, ctrl_action, calls_for, has_room, letter}

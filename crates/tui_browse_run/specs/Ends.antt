@@ -30,7 +30,7 @@ Rejects x old new e = ((e ≡ rejected_as x) × WritesAll old new (line_of x)) �
 -- ran out before anything was written.
 pub data EndsOver (setting : Setting) (parses : Parsed → Type 0) (old new : Observed) : BrowseEnded → Type 0 where
   refused : (x : Refusal) (e : BrowseEnded) → parses (Err x) → Rejects x old new e → EndsOver setting parses old new e
-  shown : (entries : List EntryData) (end : AppEnd) → parses (Ok entries) → AreEntriesShown setting.output entries setting.width setting.height old new end
+  shown : (entries : List EntryData) (end : AppEnd) → parses (Ok entries) → AreEntriesShown setting.output entries setting.size.width setting.size.height old new end
       → EndsOver setting parses old new (ended_as end)
   out_of_memory : Unwritten old new → EndsOver setting parses old new NoMemory
 

@@ -136,13 +136,5 @@ fn browse_entries<T: Terminal>(
 ) -> BrowseEnded
     ensures { EndsOver setting (λ parsed. parsed ≡ Ok (map entry_data entries.entry.items)) (T.observed terminal.old) (T.observed terminal.new) result }
 {
-    show(
-        alloc,
-        entries,
-        setting.output,
-        setting.width,
-        setting.height,
-        terminal,
-    )
-    .into()
+    show(alloc, entries, setting.output, setting.size, terminal).into()
 }

@@ -7,7 +7,7 @@ use Rattle.tui_cells.specs.Buffer.{Screen}
 use Rattle.tui_cells.specs.declared.rect.Rect.{Rect}
 use Rattle.tui_display.proofs.Taking.{Calls}
 use Rattle.tui_display.specs.Session as sessions
-use Rattle.tui_display.specs.Session.{IsInFull, IsNext, IsWrittenFor, Makes, Session, begins, ends, reads, with_hidden_cursor, shows}
+use Rattle.tui_display.specs.Session.{IsInFull, IsNext, IsWrittenFor, Makes, Session, begins, ends, reads, shows}
 use Rattle.tui_display.specs.Showing.{Follows, LinesShow, first, next}
 use Rattle.tui_terminal_model.specs.Calls.{IsChange, IsFull}
 use Rattle.tui_terminal_model.specs.Sends.{IsSafe, IsEncoded}
@@ -27,7 +27,7 @@ record IsShowing (o : Output) (screen : Screen) (text : List ℕ) : Type 0 where
   earlier : List Command
   commands : List Command
   encoded : IsEncoded o.widths (earlier ++ commands) text
-  shows : (knows : List ℕ → Bool) (t : Tty) → KnowsWidths o.widths knows → HasRoom t screen → Shows (with_hidden_cursor o) knows (run knows commands t) screen
+  shows : (knows : List ℕ → Bool) (t : Tty) → KnowsWidths o.widths knows → HasRoom t screen → Shows o knows (run knows commands t) screen
   cursor : (knows : List ℕ → Bool) (t : Tty) → KnowsWidths o.widths knows → HasRoom t screen → HasCursor Hidden (run knows commands t)
 
 spelled_append : (widths : KnownWidths) (xs ys : List Command) (s t : List ℕ) → IsEncoded widths xs s → IsEncoded widths ys t → IsEncoded widths (xs ++ ys) (s ++ t)
@@ -39,13 +39,13 @@ spelled_append widths xs ys s t a c = record {
 }
 
 -- a screen is sent in full
-first_shows : (o : Output) (screen : Screen) (text : List ℕ) → IsFull (with_hidden_cursor o) screen text → IsShowing o screen text
+first_shows : (o : Output) (screen : Screen) (text : List ℕ) → IsFull o Hidden screen text → IsShowing o screen text
 first_shows o screen text full = record {
   earlier = [];
   commands = full.commands;
   encoded = full.encoded;
   shows = full.shows;
-  cursor = full.cursor;
+  cursor = full.at_cursor;
 }
 
 -- after a blank screen
@@ -60,11 +60,11 @@ in_full_shows o old new was text in_full showing =
       encoded = subst (IsEncoded o.widths ((before ++ in_full.cleared_is.commands) ++ in_full.whole_is.commands))
           (append_assoc was in_full.cleared in_full.whole ∙ ap (λ (l : List ℕ). was ++ l) (sym in_full.text_is)) all;
       shows = in_full.whole_is.shows;
-      cursor = in_full.whole_is.cursor;
+      cursor = in_full.whole_is.at_cursor;
     }
 
 -- the changes are sent
-change_shows : (o : Output) (old new : Screen) (was text : List ℕ) → new.area ≡ old.area → IsChange (with_hidden_cursor o) old new text → IsShowing o old was →
+change_shows : (o : Output) (old new : Screen) (was text : List ℕ) → new.area ≡ old.area → IsChange o Hidden old new text → IsShowing o old was →
     IsShowing o new (was ++ text)
 change_shows o old new was text area change showing = record {
   earlier = showing.earlier;
@@ -72,14 +72,14 @@ change_shows o old new was text area change showing = record {
   encoded = subst (λ (cs : List Command). IsEncoded o.widths cs (was ++ text)) (append_assoc showing.earlier showing.commands change.commands)
       (spelled_append o.widths (showing.earlier ++ showing.commands) change.commands was text showing.encoded change.encoded);
   shows = λ knows t knows_widths room.
-      subst (λ (u : Tty). Shows (with_hidden_cursor o) knows u new) (sym (run_append knows showing.commands change.commands t))
+      subst (λ (u : Tty). Shows o knows u new) (sym (run_append knows showing.commands change.commands t))
       (change.shows knows (run knows showing.commands t) knows_widths (there knows t knows_widths room));
   cursor = λ knows t knows_widths room.
       subst (HasCursor Hidden) (sym (run_append knows showing.commands change.commands t))
-      (change.cursor knows (run knows showing.commands t) knows_widths (there knows t knows_widths room));
+      (change.at_cursor knows (run knows showing.commands t) knows_widths (there knows t knows_widths room));
 }
   where
-    there : (knows : List ℕ → Bool) (t : Tty) → KnowsWidths o.widths knows → HasRoom t new → Shows (with_hidden_cursor o) knows (run knows showing.commands t) old
+    there : (knows : List ℕ → Bool) (t : Tty) → KnowsWidths o.widths knows → HasRoom t new → Shows o knows (run knows showing.commands t) old
     there knows t knows_widths room =
         let room_old : HasRoom t old = record {
           wide = subst (λ (r : Rect). r.x + r.width ≤ t.columns) area room.wide;

@@ -12,19 +12,20 @@ use Rattle.tui_display.proofs.Taking.{WriteFailed-after, Calls, Traced-then, par
 use Rattle.tui_display.specs.Parts.{Ends, Feeds, Goes, GoesOn, SessionReached, HasEnded, HasRead, IsClosed, IsFinished, IsLineShown, IsOpened, IsIterated}
 use Rattle.tui_display.specs.Run.{Counts, HasStopped, IsDisplayRun, cut, enters, last_text, leaves, whole}
 use Rattle.tui_display.specs.Run as runs
-use Rattle.tui_display.specs.Session.{begins, ends, first_area, reads, with_hidden_cursor}
+use Rattle.tui_display.specs.Session.{begins, ends, first_area, reads}
 use Rattle.tui_display.specs.declared.outcome.DisplayEnd.{DisplayEnd}
 use Rattle.tui_display.specs.declared.outcome.DisplayEnd.TheVariants as last
 use Rattle.tui_io.proofs.Outside.{Appends-keeps, Appends-then}
 use Rattle.tui_io.specs.Causes.{Rose, TakesPrefix, Observed, Writes}
 use Rattle.tui_terminal_model.specs.Calls.{IsFull}
 use Rattle.tui_terminal_model.specs.Session.{enter_text}
+use Rattle.tui_terminal_model.specs.declared.cursor.Cursor.TheVariants.{Hidden}
 use Rattle.tui_terminal_model.specs.declared.output.Output.{Output}
 
 -- ---- the start
 
 pub opened : {E : Type 0} (o : Output) (first : Screen) (a b c : Observed) (result : Result (Unit {0}) E) (text : List ℕ) → Appends a.bytes b.bytes enter_text → b.io_errors ≡ a.io_errors →
-    IsFull (with_hidden_cursor o) first text → Writes b c result text → IsOpened o first a c result
+    IsFull o Hidden first text → Writes b c result text → IsOpened o first a c result
 opened o first a b c (Ok u) text taken same full writes =
     let enter : Traced a b enter_text = record { taken = taken; io_errors = same } in
     let next : Traced b c text = record { taken = writes.ok.0; io_errors = writes.ok.1 } in
@@ -35,7 +36,7 @@ opened o first a b c (Err e) text taken same full writes =
     inr (text, full, WriteFailed-after enter next)
 
 pub read_first : (calls : Calls) (o : Output) (t now : Observed) (line : List ℕ) (screen : Screen) (text : List ℕ) → line ≡ [] → IsFilled first_area blank screen →
-    IsFull (with_hidden_cursor o) screen text → Traced t now (enter_text ++ text) → HasRead calls o t now 0 line screen
+    IsFull o Hidden screen text → Traced t now (enter_text ++ text) → HasRead calls o t now 0 line screen
 read_first calls o t now line screen text e filled full traced = record {
   all = [];
   counted = refl;

@@ -7,7 +7,7 @@ use Rattle.tui_cells.specs.Buffer.{IsFilled, Screen}
 use Rattle.tui_cells.specs.Cell.{blank}
 use Rattle.tui_display.specs.Lines.{IsCut}
 use Rattle.tui_display.specs.Run.{Counts, Sending, Stops, last_text}
-use Rattle.tui_display.specs.Session.{Session, ShowsLine, first_area, with_hidden_cursor}
+use Rattle.tui_display.specs.Session.{Session, ShowsLine, first_area}
 use Rattle.tui_display.specs.declared.display.DisplayState.{DisplayState}
 use Rattle.tui_display.specs.declared.outcome.DisplayEnd.{DisplayEnd}
 use Rattle.tui_display.specs.declared.outcome.DisplayEnd.TheVariants as ends
@@ -15,6 +15,7 @@ use Rattle.tui_io.specs.Causes.{Observed}
 use Rattle.tui_io.specs.Limits.{limit}
 use Rattle.tui_terminal_model.specs.Calls.{IsFull}
 use Rattle.tui_terminal_model.specs.Session.{enter_text}
+use Rattle.tui_terminal_model.specs.declared.cursor.Cursor.TheVariants.{Hidden}
 use Rattle.tui_terminal_model.specs.declared.output.Output.{Output}
 
 -- a blank screen, and no line
@@ -24,8 +25,8 @@ pub record IsBegun (d : DisplayState) : Type 0 where
 
 -- `enter_text` and the first screen are written
 abbrev pub IsOpened : {E : Type 0} → Output → Screen → Observed → Observed → Result (Unit {0}) E → Type 0
-IsOpened o first k now (Ok _) = (text : List ℕ) × IsFull (with_hidden_cursor o) first text × Traced k now (enter_text ++ text)
-IsOpened o first k now (Err _) = WriteFailed k now enter_text ⊎ ((text : List ℕ) × IsFull (with_hidden_cursor o) first text × WriteFailed k now (enter_text ++ text))
+IsOpened o first k now (Ok _) = (text : List ℕ) × IsFull o Hidden first text × Traced k now (enter_text ++ text)
+IsOpened o first k now (Err _) = WriteFailed k now enter_text ⊎ ((text : List ℕ) × IsFull o Hidden first text × WriteFailed k now (enter_text ++ text))
 
 -- ---- one line
 

@@ -15,10 +15,6 @@ use Rattle.tui_terminal_model.specs.declared.output.Output.{Output}
 
 -- ---- one line
 
--- how a screen is sent
-abbrev pub with_hidden_cursor : Output → Output
-with_hidden_cursor o = record { depth = o.depth; widths = o.widths; cursor = Hidden; synchronized = o.synchronized }
-
 -- a screen of another size, in full, after blanks in place of the old one
 pub record IsInFull (o : Output) (old new : Screen) (text : List ℕ) : Type 0 where
   pub other : new.area ≢ old.area
@@ -26,13 +22,13 @@ pub record IsInFull (o : Output) (old new : Screen) (text : List ℕ) : Type 0 w
   pub cleared : List ℕ
   pub whole : List ℕ
   pub filled : IsFilled old.area blank blanks
-  pub cleared_is : IsFull (with_hidden_cursor o) blanks cleared
-  pub whole_is : IsFull (with_hidden_cursor o) new whole
+  pub cleared_is : IsFull o Hidden blanks cleared
+  pub whole_is : IsFull o Hidden new whole
   pub text_is : text ≡ cleared ++ whole
 
 -- the changes, or the whole screen
 abbrev pub IsNext : Output → Screen → Screen → List ℕ → Type 0
-IsNext o old new text = ((new.area ≡ old.area) × IsChange (with_hidden_cursor o) old new text) ⊎ IsInFull o old new text
+IsNext o old new text = ((new.area ≡ old.area) × IsChange o Hidden old new text) ⊎ IsInFull o old new text
 
 -- A line turns a screen into one that it calls for. An empty line leaves it unchanged.
 abbrev pub Makes : (List ℕ → Screen → Screen → Type 0) → List ℕ → Screen → Screen → Type 0
@@ -59,7 +55,7 @@ first_area = area_of 0 0 80 1
 -- line is shown as soon as it has ended, before anything more is read. At the end of the input, which is a read without
 -- a byte, the line that has begun is the last one.
 pub data Session (calls : List ℕ → Screen → Screen → Type 0) (o : Output) : List (List ℕ) → List (List ℕ) → Screen → List ℕ → List ℕ → Type 0 where
-  begins : (first : Screen) (text : List ℕ) → IsFilled first_area blank first → IsFull (with_hidden_cursor o) first text
+  begins : (first : Screen) (text : List ℕ) → IsFilled first_area blank first → IsFull o Hidden first text
       → Session calls o [] [] first (enter_text ++ text) (enter_text ++ text)
   reads : (all lines : List (List ℕ)) (screen : Screen) (trace sent begun bytes : List ℕ) → Session calls o all lines screen trace sent
       → IsCut (concat all) lines begun → length begun ≤ limit → IsRead bytes

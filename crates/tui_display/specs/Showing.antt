@@ -2,7 +2,7 @@
 use Rattle.std.specs.Prelude.{◌≡◌, ℕ, Bool, true, List, [], ◌∷◌, ◌++◌}
 use Rattle.tui_cells.specs.Buffer.{IsFilled, Screen}
 use Rattle.tui_cells.specs.Cell.{blank}
-use Rattle.tui_display.specs.Session.{Makes, Session, first_area, with_hidden_cursor}
+use Rattle.tui_display.specs.Session.{Makes, Session, first_area}
 use Rattle.tui_terminal_model.specs.Sends.{IsEncoded}
 use Rattle.tui_terminal_model.specs.Session.{IsMainRestored, enter_commands, enter_text, leave_commands}
 use Rattle.tui_terminal_model.specs.Shows.{HasCursor, HasRoom, Shows, KnowsWidths}
@@ -19,7 +19,7 @@ pub data Follows (calls : List ℕ → Screen → Screen → Type 0) : List (Lis
 -- after these commands any terminal that fits the output and has room for the screen shows it, without a cursor,
 -- whatever it showed before
 pub record IsScreenShown (o : Output) (screen : Screen) (commands : List Command) (knows : List ℕ → Bool) (t : Tty) : Type 0 where
-  pub cells : Shows (with_hidden_cursor o) knows (run knows commands t) screen
+  pub cells : Shows o knows (run knows commands t) screen
   pub cursor : HasCursor Hidden (run knows commands t)
 
 -- The screen after these lines. The bytes written are `enter_text`, and then commands: `earlier` ones, and those from

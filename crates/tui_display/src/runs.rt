@@ -23,7 +23,7 @@ use tui_terminal_model::Output;
 ///
 /// A newline ends a line, and so does the end of the input. Empty lines are skipped. Of a screen of the same
 /// size as the one before only the changes are sent; any other screen is sent in full, after blanks in place
-/// of the one before. The cursor of `output` is ignored: it is hidden.
+/// of the one before. The cursor is hidden.
 ///
 /// At the end the alternate screen is left, with two exceptions: after a `WriteFault` nothing more is
 /// written, and nothing is written at all if memory runs out before the first screen. `TooLong` is returned

@@ -1,11 +1,9 @@
 //! Sending screens.
 
-ghost use Rattle.std.specs.Prelude.{◌≡◌, ◌≢◌, ℕ, List};
-ghost use Rattle.tui_cells.specs.Buffer.{Screen};
-ghost use Rattle.tui_display.specs.Session.{IsInFull, IsNext, with_hidden_cursor};
+ghost use Rattle.std.specs.Prelude.{◌≢◌, ℕ, List};
+ghost use Rattle.tui_display.specs.Session.{IsInFull, IsNext};
 ghost use Rattle.tui_io.specs.Causes.{Writes};
 ghost use Rattle.tui_terminal_model.specs.Calls.{IsFull};
-ghost use Rattle.tui_terminal_model.specs.Shows.{IsCursorInside};
 
 use tui_cells::Buffer;
 use tui_io::{Sink, WriteFault};
@@ -18,9 +16,9 @@ pub(crate) fn send_full<K: Sink>(
     buf: &Buffer,
     sink: &mut K,
 ) -> Result<(), WriteFault>
-    ensures { (text : List ℕ) × IsFull (with_hidden_cursor output) buf.now text × Writes (K.observed sink.old) (K.observed sink.new) result text }
+    ensures { (text : List ℕ) × IsFull output Cursor.Hidden buf.now text × Writes (K.observed sink.old) (K.observed sink.new) result text }
 {
-    write_full(buf, hidden(output), sink)
+    write_full(buf, output, Cursor::Hidden, sink)
 }
 
 /// Sends what changes a terminal that shows the old screen into one that shows the new one: the changes, or
@@ -34,7 +32,7 @@ pub(crate) fn send_next<K: Sink>(
     ensures { (text : List ℕ) × IsNext output old.old new.now text × Writes (K.observed sink.old) (K.observed sink.new) result text }
 {
     if old.area() == new.area() {
-        write_changes(old, new, hidden(output), sink)
+        write_changes(old, new, output, Cursor::Hidden, sink)
     } else {
         send_in_full(output, old, new, sink)
     }
@@ -56,17 +54,4 @@ fn send_in_full<K: Sink>(
     old.reset(old.area());
     send_full(output, old, sink)?;
     send_full(output, new, sink)
-}
-
-// The output with a hidden cursor.
-fn hidden(output: Output) -> Output
-    ensures is { result ≡ with_hidden_cursor output }
-    ensures inside { (b : Screen) → IsCursorInside result.cursor b }
-{
-    Output {
-        depth: output.depth,
-        widths: output.widths,
-        cursor: Cursor::Hidden,
-        synchronized: output.synchronized,
-    }
 }

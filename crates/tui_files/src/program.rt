@@ -21,14 +21,7 @@ pub(crate) fn browse<T: Terminal>(
         return Ok(FilesEnded::ReadFault);
     };
     let mut app = app;
-    let end = run(
-        rt.alloc(),
-        &mut app,
-        setting.output,
-        setting.width,
-        setting.height,
-        terminal,
-    );
+    let end = run(rt.alloc(), &mut app, setting.output, setting.size, terminal);
     match end {
         AppEnd::Quit => write_chosen(rt, &app, command),
         end => Ok(end.into()),

@@ -61,7 +61,7 @@ pub data EndsOver (setting : Setting) (parses : Parsed → Type 0) (old new answ
   cannot_open : (form : FormData) → parses (Ok form) → Unwritten old new → CannotOpen answers answers_then
       → EndsOver setting parses old new answers answers_then WriteFault
   shown : (begin last : code.Form) (end : AppEnd) (e : FormEnded) → parses (Ok (form_data begin)) →
-      IsAppRun form_behaviour setting.output begin (area_of 0 0 setting.width setting.height) old new last end →
+      IsAppRun form_behaviour setting.output begin (area_of 0 0 setting.size.width setting.size.height) old new last end →
       EndsAnswering (form_data last) end answers answers_then e → EndsOver setting parses old new answers answers_then e
   out_of_memory : Unwritten old new → Unwritten answers answers_then → EndsOver setting parses old new answers answers_then NoMemory
 

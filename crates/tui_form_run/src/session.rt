@@ -17,15 +17,8 @@ pub fn show_form<T: Terminal>(
     form: &mut Form,
     terminal: &mut T,
 ) -> AppEnd
-    ensures { IsAppRun form_behaviour setting.output form.old (area_of 0 0 setting.width setting.height)
+    ensures { IsAppRun form_behaviour setting.output form.old (area_of 0 0 setting.size.width setting.size.height)
         (T.observed terminal.old) (T.observed terminal.new) form.new result }
 {
-    run(
-        alloc,
-        form,
-        setting.output,
-        setting.width,
-        setting.height,
-        terminal,
-    )
+    run(alloc, form, setting.output, setting.size, terminal)
 }

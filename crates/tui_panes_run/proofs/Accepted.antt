@@ -32,7 +32,7 @@ use Rattle.tui_panes_run.specs.Widgets.{widget_in}
 use Rattle.tui_panes_run.proofs.Trees.{no_values}
 use Rattle.tui_panes_run.specs.declared.change_field.ChangeField.TheVariants as changing
 use Rattle.tui_panes_run.specs.declared.field.PaneField.TheVariants as fields
-use Rattle.tui_panes_run.specs.declared.input.Size.{Size}
+use Rattle.tui_cells.specs.declared.size.Size.{Size}
 use Rattle.tui_panes_run.specs.declared.refusal.PanesRefusal.{PanesRefusal}
 
 -- if two tests after one another pass, each of them does

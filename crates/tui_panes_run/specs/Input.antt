@@ -12,7 +12,7 @@ use Rattle.tui_panes_run.specs.Refusals.{bad_pane}
 use Rattle.tui_panes_run.specs.Tree.{pane_in, required}
 use Rattle.tui_panes_run.specs.declared.field.PaneField.TheVariants as fields
 use Rattle.tui_panes_run.specs.declared.input.Input.{Input}
-use Rattle.tui_panes_run.specs.declared.input.Size.{Size}
+use Rattle.tui_cells.specs.declared.size.Size.{Size}
 use Rattle.tui_panes_run.specs.declared.refusal.PanesRefusal.{PanesRefusal}
 
 -- the size of the screen, the tree of panes, and the changes

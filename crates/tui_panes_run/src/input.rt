@@ -11,18 +11,12 @@ use crate::refusal::PanesRefusal;
 use crate::tree::read_pane;
 use serde_json::Value;
 use std::alloc::Global;
+use tui_cells::Size;
 use tui_json::{Fields, InputError, Within, any_member, required};
 use tui_panes_lib::Pane;
 
 /// The most levels below the root.
 const ROOM: u8 = 31;
-
-/// The size of a screen, in columns and rows.
-#[derive(Clone, Copy)]
-pub(crate) struct Size {
-    pub(crate) width: u16,
-    pub(crate) height: u16,
-}
 
 /// All fields of an input. Its strings are borrowed from the JSON value.
 #[derive(Drop)]

@@ -15,10 +15,10 @@ ghost use Rattle.tui_panes_run.specs.Order.{numbers_of};
 ghost use Rattle.tui_panes_run.specs.Shown.{AreChanged, ArePanesDrawn, leaves_of, screen_area};
 
 use crate::change::PaneChange;
-use crate::input::{Input, Size};
+use crate::input::Input;
 use crate::order::Order;
 use std::alloc::Global;
-use tui_cells::{Buffer, Mem, NoMemory, Rect};
+use tui_cells::{Buffer, Mem, NoMemory, Rect, Size};
 use tui_panes_lib::{OrderError, Pane, Panes, PanesError};
 
 /// Panes on a screen, and the screen.

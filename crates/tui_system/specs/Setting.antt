@@ -3,7 +3,6 @@ use Rattle.std.specs.Prelude.{◌≡◌, ◌⊎◌, ℕ, ◌≤◌, List, false}
 use Rattle.tui_program.specs.Arguments.{IsNumeralOf}
 use Rattle.tui_program.specs.declared.numerals.Numerals.{Numerals}
 use Rattle.tui_system.specs.declared.settings.Setting.{Setting}
-use Rattle.tui_terminal_model.specs.declared.cursor.Cursor.TheVariants.{Hidden}
 use Rattle.tui_terminal_model.specs.declared.depth.Depth.{Depth}
 use Rattle.tui_terminal_model.specs.declared.output.Output.{Output}
 use Rattle.tui_terminal_model.specs.declared.widths.KnownWidths.TheVariants.{Common}
@@ -17,12 +16,12 @@ abbrev pub IsSide : List ℕ → ℕ → ℕ → Type 0
 IsSide text otherwise side = IsNumeralOf sides text side ⊎ (((n : ℕ) → IsNumeralOf sides text n → ⊥) × (side ≡ otherwise))
 
 -- how output is sent to a terminal of this colour depth
-abbrev pub hidden : Depth → Output
-hidden depth = record { depth = depth; widths = Common; cursor = Hidden; synchronized = false }
+abbrev pub output_of : Depth → Output
+output_of depth = record { depth = depth; widths = Common; synchronized = false }
 
 -- settings that some environment gives: output is sent like this, and there are 1 to 1000 columns and rows
 pub record IsSetting (s : Setting) : Type 0 where
   pub depth : Depth
-  pub output : s.output ≡ hidden depth
-  pub wide : (1 ≤ s.width) × (s.width ≤ 1000)
-  pub high : (1 ≤ s.height) × (s.height ≤ 1000)
+  pub output : s.output ≡ output_of depth
+  pub wide : (1 ≤ s.size.width) × (s.size.width ≤ 1000)
+  pub high : (1 ≤ s.size.height) × (s.size.height ≤ 1000)

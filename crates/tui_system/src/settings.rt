@@ -1,17 +1,17 @@
 //! The terminal at the start of a session.
 
 ghost use Rattle.std.specs.Prelude.{◌≡◌};
-ghost use Rattle.tui_system.specs.Setting.{IsSide, hidden};
+ghost use Rattle.tui_system.specs.Setting.{IsSide, output_of};
 
+use tui_cells::Size;
 use tui_program::Numerals;
-use tui_terminal_model::{Cursor, Depth, KnownWidths, Output};
+use tui_terminal_model::{Depth, KnownWidths, Output};
 
-/// How output is sent to the terminal, and its first size in columns and rows.
+/// How output is sent to the terminal, and its first size.
 #[derive(Clone, Copy, Debug, PartialEq, Eq)]
 pub struct Setting {
     pub output: Output,
-    pub width: u16,
-    pub height: u16,
+    pub size: Size,
 }
 
 impl Setting {
@@ -19,19 +19,20 @@ impl Setting {
     /// are counted here. `columns` and `lines` are the values of two environment variables, each a number from 1 to
     /// 1000. If one is no such number, there are 80 columns or 24 rows.
     pub fn from_variables(depth: Depth, columns: &str, lines: &str) -> Setting
-        ensures output { result.output ≡ hidden depth }
-        ensures width { IsSide columns.now 80 result.width }
-        ensures height { IsSide lines.now 24 result.height }
+        ensures output { result.output ≡ output_of depth }
+        ensures width { IsSide columns.now 80 result.size.width }
+        ensures height { IsSide lines.now 24 result.size.height }
     {
         Setting {
             output: Output {
                 depth,
                 widths: KnownWidths::Common,
-                cursor: Cursor::Hidden,
                 synchronized: false,
             },
-            width: side_in(columns, 80),
-            height: side_in(lines, 24),
+            size: Size {
+                width: side_in(columns, 80),
+                height: side_in(lines, 24),
+            },
         }
     }
 }

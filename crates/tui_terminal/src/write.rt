@@ -10,7 +10,7 @@ ghost use Rattle.tui_terminal_model.specs.Shows.{IsCursorInside};
 ghost use Rattle.tui_terminal_model.specs.Encoding.{encoding};
 ghost use Rattle.tui_terminal_model.specs.Symbols.{has_known_width};
 ghost use Rattle.tui_terminal_model.specs.Terminal.{synchronizing, place, set_mode, visible};
-ghost use Rattle.tui_terminal_laws.specs.Sending.{change, full, nothing_known, row_in_full, row_changes, rows_sent, send, send_rows};
+ghost use Rattle.tui_terminal_laws.specs.Sending.{full, nothing_known, row_in_full, row_changes, rows_sent, send, send_rows};
 
 use crate::encoding::{emit_place, emit_reset_modes, emit_synchronizing, emit_visible};
 use crate::rows::{emit_all, emit_changes};
@@ -24,7 +24,7 @@ use tui_terminal_model::{Cursor, KnownWidths, Output};
 const GRAVE: &str = "À";
 
 /// Writes the buffer in full. Any terminal that has the buffer's area and fits `output` then shows the
-/// buffer, whatever it showed before. Every cell whose symbol has a known width is right. So is every cell of
+/// buffer, with the cursor as required, whatever it showed before. Every cell whose symbol has a known width is right. So is every cell of
 /// a row whose symbols the terminal all knows.
 ///
 /// A symbol that may not be sent, such as one with a control character, shows as blanks in its columns. The
@@ -32,12 +32,17 @@ const GRAVE: &str = "À";
 ///
 /// Fails with `WriteFault` if a write fails. The sink has then taken a proper prefix of the output, and a
 /// full screen repairs the terminal. Never allocates.
-pub fn write_full<K: Sink>(buf: &Buffer, output: Output, sink: &mut K) -> Result<(), WriteFault>
-    requires { IsCursorInside output.cursor buf.now }
-    ensures text { (text : List ℕ) × IsFull output buf.now text × Writes (K.observed sink.old) (K.observed sink.new) result text }
+pub fn write_full<K: Sink>(
+    buf: &Buffer,
+    output: Output,
+    cursor: Cursor,
+    sink: &mut K,
+) -> Result<(), WriteFault>
+    requires { IsCursorInside cursor buf.now }
+    ensures text { (text : List ℕ) × IsFull output cursor buf.now text × Writes (K.observed sink.old) (K.observed sink.new) result text }
 {
     let mut print = Print::new();
-    emit_full(&mut print, buf, output, sink);
+    emit_full(&mut print, buf, output, cursor, sink);
     print.end(sink)
 }
 
@@ -45,32 +50,35 @@ pub fn write_full<K: Sink>(buf: &Buffer, output: Output, sink: &mut K) -> Result
 /// same area. Only changed cells are sent. A row in which a symbol of uncertain width appears or disappears
 /// is sent in full.
 ///
-/// If nothing has changed, nothing is sent for the cells; the cursor and synchronized output are sent as
-/// `output` says. Fails with `WriteFault` as `write_full` does. Never allocates.
+/// If nothing has changed, nothing is sent for the cells; the cursor and synchronized output are sent all
+/// the same. Fails with `WriteFault` as `write_full` does. Never allocates.
 pub fn write_changes<K: Sink>(
     old: &Buffer,
     new: &Buffer,
     output: Output,
+    cursor: Cursor,
     sink: &mut K,
 ) -> Result<(), WriteFault>
     requires area { old.now.area ≡ new.now.area }
-    requires cursor { IsCursorInside output.cursor new.now }
-    ensures text { (text : List ℕ) × IsChange output old.now new.now text × Writes (K.observed sink.old) (K.observed sink.new) result text }
+    requires cursor { IsCursorInside cursor new.now }
+    ensures text { (text : List ℕ) × IsChange output cursor old.now new.now text × Writes (K.observed sink.old) (K.observed sink.new) result text }
 {
     let mut print = Print::new();
-    emit_change(&mut print, old, new, output, sink);
+    emit_synchronizing_if(&mut print, output.synchronized, true, sink);
+    emit_new_rows(&mut print, output, old, new, sink);
+    emit_closing(&mut print, output, cursor, sink);
     print.end(sink)
 }
 
-fn emit_full<K: Sink>(print: &mut Print, buf: &Buffer, output: Output, sink: &mut K)
-    ensures emitted { Prints (K.observed sink.old) (K.observed sink.new) print.old print.new (flat_map encoding (full output buf.now)) }
+fn emit_full<K: Sink>(print: &mut Print, buf: &Buffer, output: Output, cursor: Cursor, sink: &mut K)
+    ensures emitted { Prints (K.observed sink.old) (K.observed sink.new) print.old print.new (flat_map encoding (full output cursor buf.now)) }
     ensures shape { IsScreen buf.now }
 {
     emit_reset_modes(print, sink);
     emit_mending(print, output.widths, buf.area(), sink);
     emit_synchronizing_if(print, output.synchronized, true, sink);
     emit_rows(print, output, buf, sink);
-    emit_closing(print, output, sink);
+    emit_closing(print, output, cursor, sink);
 }
 
 // Some terminals keep the first bytes of a character that was cut short until a non-ASCII text comes.
@@ -100,16 +108,6 @@ fn emit_mend<K: Sink>(print: &mut Print, area: Rect, sink: &mut K)
     emit_place(print, area.x as usize, area.y as usize, sink);
     print.text(sink, "\x1b[0m");
     print.text(sink, GRAVE);
-}
-
-fn emit_change<K: Sink>(print: &mut Print, old: &Buffer, new: &Buffer, output: Output, sink: &mut K)
-    requires { old.now.area ≡ new.now.area }
-    ensures emitted { Prints (K.observed sink.old) (K.observed sink.new) print.old print.new (flat_map encoding (change output old.now new.now)) }
-    ensures shape { IsScreen old.now × IsScreen new.now }
-{
-    emit_synchronizing_if(print, output.synchronized, true, sink);
-    emit_new_rows(print, output, old, new, sink);
-    emit_closing(print, output, sink);
 }
 
 fn emit_rows<K: Sink>(print: &mut Print, output: Output, buf: &Buffer, sink: &mut K)
@@ -187,10 +185,10 @@ fn emit_synchronizing_if<K: Sink>(print: &mut Print, synchronized: bool, on: boo
     }
 }
 
-fn emit_closing<K: Sink>(print: &mut Print, output: Output, sink: &mut K)
-    ensures { Prints (K.observed sink.old) (K.observed sink.new) print.old print.new (flat_map encoding (closing output)) }
+fn emit_closing<K: Sink>(print: &mut Print, output: Output, cursor: Cursor, sink: &mut K)
+    ensures { Prints (K.observed sink.old) (K.observed sink.new) print.old print.new (flat_map encoding (closing output cursor)) }
 {
-    emit_cursor(print, output.cursor, sink);
+    emit_cursor(print, cursor, sink);
     emit_synchronizing_if(print, output.synchronized, false, sink);
 }
 

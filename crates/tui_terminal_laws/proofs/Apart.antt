@@ -233,15 +233,15 @@ open_begins : (on : Bool) → Begins (cond on (set_mode synchronizing true ∷ [
 open_begins true = tt
 open_begins false = tt
 
-pub frame_begins : (o : Output) (y : ℕ) (pss : List (List PlacedCell)) → Begins (frame o y pss)
-frame_begins o y pss =
-    begins_append (opening o) (send_rows o y pss ++ closing o) (open_begins o.synchronized)
-    (begins_append (send_rows o y pss) (closing o) (rows_begin o y pss) (close_apart o.widths o.cursor o.synchronized).0)
+pub frame_begins : (o : Output) (cursor : Cursor) (y : ℕ) (pss : List (List PlacedCell)) → Begins (frame o cursor y pss)
+frame_begins o cursor y pss =
+    begins_append (opening o) (send_rows o y pss ++ closing o cursor) (open_begins o.synchronized)
+    (begins_append (send_rows o y pss) (closing o cursor) (rows_begin o y pss) (close_apart o.widths cursor o.synchronized).0)
 
-pub frame_apart : (o : Output) (y : ℕ) (pss : List (List PlacedCell)) → Each (Falling o.widths) pss → IsApart o.widths (frame o y pss)
-frame_apart o y pss falling =
-    let end = close_apart o.widths o.cursor o.synchronized in
+pub frame_apart : (o : Output) (cursor : Cursor) (y : ℕ) (pss : List (List PlacedCell)) → Each (Falling o.widths) pss → IsApart o.widths (frame o cursor y pss)
+frame_apart o cursor y pss falling =
+    let end = close_apart o.widths cursor o.synchronized in
     let rows = rows_apart o y pss falling in
-    apart_append o.widths (opening o) (send_rows o y pss ++ closing o) (open_apart o.widths o.synchronized)
-    (apart_append o.widths (send_rows o y pss) (closing o) rows end.1 end.0)
-    (begins_append (send_rows o y pss) (closing o) (rows_begin o y pss) end.0)
+    apart_append o.widths (opening o) (send_rows o y pss ++ closing o cursor) (open_apart o.widths o.synchronized)
+    (apart_append o.widths (send_rows o y pss) (closing o cursor) rows end.1 end.0)
+    (begins_append (send_rows o y pss) (closing o cursor) (rows_begin o y pss) end.0)

@@ -171,13 +171,13 @@ closed knows (AtPlace p) on t whole modes_reset is =
 
 -- ---- a frame
 
-pub record FrameRun (knows : List ℕ → Bool) (o : Output) (pss : List (List PlacedCell)) (y : ℕ) (t u : Tty) : Type 0 where
+pub record FrameRun (knows : List ℕ → Bool) (o : Output) (cursor : Cursor) (pss : List (List PlacedCell)) (y : ℕ) (t u : Tty) : Type 0 where
   pub modes_reset : u.modes_reset ≡ true
   pub whole : u.whole ≡ true
   pub columns : u.columns ≡ t.columns
   pub height : u.height ≡ t.height
   pub freed : t.synchronizing ≡ Some false → u.synchronizing ≡ Some false
-  pub at_cursor : HasCursor o.cursor u
+  pub at_cursor : HasCursor cursor u
   pub others : (r : ℕ) → (r < y) ⊎ (y + length pss ≤ r) → u.cells r ≡ t.cells r
   pub rows : (k : ℕ) → k < length pss → RowFrom knows o (get_or pss k []) (y + k) t u
 
@@ -191,9 +191,9 @@ freed_by : (knows : List ℕ → Bool) (on : Bool) (t v w u : Tty) → v ≡ run
 freed_by knows true t v w u first rows end was = end
 freed_by knows false t v w u first rows end was = end ∙ rows ∙ ap (λ (k : Tty). k.synchronizing) first ∙ was
 
-pub frame_run : (knows : List ℕ → Bool) (o : Output) (pss : List (List PlacedCell)) (y : ℕ) (t : Tty) → KnowsWidths o.widths knows → t.whole ≡ true → t.modes_reset ≡ true →
-    y + length pss ≤ t.height → Each (Each (IsFit o.widths t.columns)) pss → OnTerminal o.cursor t → FrameRun knows o pss y t (run knows (frame o y pss) t)
-frame_run knows o pss y t knows_widths whole modes_reset high fit on =
+pub frame_run : (knows : List ℕ → Bool) (o : Output) (cursor : Cursor) (pss : List (List PlacedCell)) (y : ℕ) (t : Tty) → KnowsWidths o.widths knows → t.whole ≡ true → t.modes_reset ≡ true →
+    y + length pss ≤ t.height → Each (Each (IsFit o.widths t.columns)) pss → OnTerminal cursor t → FrameRun knows o cursor pss y t (run knows (frame o cursor y pss) t)
+frame_run knows o cursor pss y t knows_widths whole modes_reset high fit on =
     let v : Tty = run knows (opening o) t in
     let first : IsStill t v = opened knows o.synchronized t whole in
     let tall = first.height in
@@ -202,10 +202,10 @@ frame_run knows o pss y t knows_widths whole modes_reset high fit on =
     let w : Tty = run knows (send_rows o y pss) v in
     let rows : AreRows knows o pss y v w =
     rows_run knows o pss y v knows_widths whole_v tamed_v (omega (arith, tall)) (subst (λ k. Each (Each (IsFit o.widths k)) pss) (sym first.columns) fit) in
-    let u : Tty = run knows (closing o) w in
-    let end : IsClosed o.cursor o.synchronized w u =
-    closed knows o.cursor o.synchronized w (rows.same.whole ∙ whole_v) (rows.same.modes_reset ∙ tamed_v) (on_still o.cursor t w (rows.same.columns ∙ first.columns) (rows.same.height ∙ first.height) on) in
-    let done : FrameRun knows o pss y t u = record {
+    let u : Tty = run knows (closing o cursor) w in
+    let end : IsClosed cursor o.synchronized w u =
+    closed knows cursor o.synchronized w (rows.same.whole ∙ whole_v) (rows.same.modes_reset ∙ tamed_v) (on_still cursor t w (rows.same.columns ∙ first.columns) (rows.same.height ∙ first.height) on) in
+    let done : FrameRun knows o cursor pss y t u = record {
       modes_reset = end.same.modes_reset ∙ rows.same.modes_reset ∙ tamed_v;
       whole = end.same.whole ∙ rows.same.whole ∙ whole_v;
       columns = end.same.columns ∙ rows.same.columns ∙ first.columns;
@@ -225,7 +225,7 @@ frame_run knows o pss y t knows_widths whole modes_reset high fit on =
             made = ap (λ (c : ℕ → ℕ → Shown). c (y + k)) end.same.cells ∙ row.made;
           };
     } in
-    subst (FrameRun knows o pss y t) (sym (run_append knows (opening o) (send_rows o y pss ++ closing o) t ∙ run_append knows (send_rows o y pss) (closing o) v)) done
+    subst (FrameRun knows o cursor pss y t) (sym (run_append knows (opening o) (send_rows o y pss ++ closing o cursor) t ∙ run_append knows (send_rows o y pss) (closing o cursor) v)) done
 
 -- ---- what a frame leaves unchanged
 
@@ -238,10 +238,10 @@ row_beside knows o y left row xs t p knows_widths whole modes_reset high le with
     let known : Each (Knows knows) xs = Each-weaker (λ q. In q ps) (Knows knows) (λ q h. every q (In-to q ps h)) xs within in
     done.shows_cell p (in_beside o.widths left row xs p away within) known (inl stood)
 
-pub frame_keeps : (knows : List ℕ → Bool) (o : Output) (b : Screen) (pss : List (List PlacedCell)) (t u : Tty) → IsScreen b → KnowsWidths o.widths knows → HasRoom t b →
+pub frame_keeps : (knows : List ℕ → Bool) (o : Output) (cursor : Cursor) (b : Screen) (pss : List (List PlacedCell)) (t u : Tty) → IsScreen b → KnowsWidths o.widths knows → HasRoom t b →
     length pss ≡ length b.rows → ((y : ℕ) → y < length b.rows → Each (λ p. In p (row_pieces o.widths b y)) (get_or pss y [])) →
-    FrameRun knows o pss b.area.y t u → Keeps o knows b t u
-frame_keeps knows o b pss t u is knows_widths room len within all = record {
+    FrameRun knows o cursor pss b.area.y t u → Keeps o knows b t u
+frame_keeps knows o cursor b pss t u is knows_widths room len within all = record {
   outside = λ r away. all.others r (elim away [ inl above ↦ inl above | inr below ↦ inr (omega (arith, is.high, len)) ]);
   beside = λ y lt every p away stood.
       let row = all.rows y (omega (arith, len)) in
@@ -299,8 +299,8 @@ sends_rows o y (ps ∷ pss) = record {
   whole = refl;
 }
 
-pub is_frame : (o : Output) (y : ℕ) (pss : List (List PlacedCell)) → IsFrame o y pss (frame o y pss)
-is_frame o y pss = record { rows = send_rows o y pss; sends = sends_rows o y pss; framed = refl }
+pub is_frame : (o : Output) (cursor : Cursor) (y : ℕ) (pss : List (List PlacedCell)) → IsFrame o cursor y pss (frame o cursor y pss)
+is_frame o cursor y pss = record { rows = send_rows o y pss; sends = sends_rows o y pss; framed = refl }
 
 -- ---- no control character is sent
 
@@ -359,7 +359,7 @@ close_safe Hidden false = (tt, tt)
 close_safe (AtPlace p) true = (tt, (tt, (tt, tt)))
 close_safe (AtPlace p) false = (tt, (tt, tt))
 
-pub frame_safe : (o : Output) (y columns : ℕ) (pss : List (List PlacedCell)) → Each (Each (IsFit o.widths columns)) pss → Each IsSafe (frame o y pss)
-frame_safe o y columns pss fit =
+pub frame_safe : (o : Output) (cursor : Cursor) (y columns : ℕ) (pss : List (List PlacedCell)) → Each (Each (IsFit o.widths columns)) pss → Each IsSafe (frame o cursor y pss)
+frame_safe o cursor y columns pss fit =
     Each-append IsSafe (opening o) _ (open_safe o.synchronized)
-    (Each-append IsSafe (send_rows o y pss) (closing o) (rows_safe o y columns pss fit) (close_safe o.cursor o.synchronized))
+    (Each-append IsSafe (send_rows o y pss) (closing o cursor) (rows_safe o y columns pss fit) (close_safe cursor o.synchronized))

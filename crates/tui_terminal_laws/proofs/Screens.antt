@@ -7,6 +7,7 @@ use Rattle.tui_cells.specs.Buffer.{IsScreen, Screen}
 use Rattle.tui_cells.specs.Cell.{Look}
 use Rattle.tui_cells.specs.declared.rect.Rect.{Rect}
 use Rattle.tui_text.specs.Visible.{PlacedCell}
+use Rattle.tui_terminal_model.specs.declared.cursor.Cursor.{Cursor}
 use Rattle.tui_terminal_model.specs.declared.output.Output.{Output}
 use Rattle.tui_terminal_model.specs.declared.widths.KnownWidths.{KnownWidths}
 use Rattle.tui_terminal_model.specs.Calls.{IsChange, IsFull, Keeps, mending}
@@ -146,32 +147,32 @@ made_ready knows o b t knows_widths room =
       keeps = λ whole. kept_on knows o b t v u (kept_from knows o b t v (modes_reset.cells whole)) mend.keeps;
     }
 
-pub full_law : (o : Output) (b : Screen) → IsScreen b → IsCursorInside o.cursor b → IsFull o b (flat_map encoding (full o b))
-full_law o b is place_is =
+pub full_law : (o : Output) (cursor : Cursor) (b : Screen) → IsScreen b → IsCursorInside cursor b → IsFull o cursor b (flat_map encoding (full o cursor b))
+full_law o cursor b is place_is =
     let left = b.area.x in
     let pss = map (row_in_full o.widths left) b.rows in
     let len = length_map o.widths left b.rows in
-    let cs = frame o b.area.y pss in
+    let cs = frame o cursor b.area.y pss in
     let ready : (knows : List ℕ → Bool) (t : Tty) → KnowsWidths o.widths knows → HasRoom t b → IsReadyFor knows o b t (begun knows o b t) = λ knows t knows_widths room.
     made_ready knows o b t knows_widths room in
-    let runs : (knows : List ℕ → Bool) (t : Tty) → KnowsWidths o.widths knows → HasRoom t b → FrameRun knows o pss b.area.y (begun knows o b t) (run knows (full o b) t) = λ knows t knows_widths room.
+    let runs : (knows : List ℕ → Bool) (t : Tty) → KnowsWidths o.widths knows → HasRoom t b → FrameRun knows o cursor pss b.area.y (begun knows o b t) (run knows (full o cursor b) t) = λ knows t knows_widths room.
     let v : Tty = begun knows o b t in
     let modes_reset = ready knows t knows_widths room in
     let high : b.area.y + length pss ≤ v.height = omega (arith, modes_reset.room.high, is.high, len) in
-    subst (FrameRun knows o pss b.area.y v) (sym (run_append knows (mending o.widths b.area) cs (after knows reset_modes t)))
-    (frame_run knows o pss b.area.y v knows_widths modes_reset.whole modes_reset.modes_reset high (rows_fit o.widths left b.area.width v.columns b.rows modes_reset.room.wide is.wide)
-    (on_terminal o.cursor b v place_is modes_reset.room)) in
+    subst (FrameRun knows o cursor pss b.area.y v) (sym (run_append knows (mending o.widths b.area) cs (after knows reset_modes t)))
+    (frame_run knows o cursor pss b.area.y v knows_widths modes_reset.whole modes_reset.modes_reset high (rows_fit o.widths left b.area.width v.columns b.rows modes_reset.room.wide is.wide)
+    (on_terminal cursor b v place_is modes_reset.room)) in
     let mend = mend_safe o.widths o b in
     record {
-      commands = full o b;
+      commands = full o cursor b;
       encoded = record {
         encoded = refl;
-        safe = Each-all IsSafe (full o b) (
+        safe = Each-all IsSafe (full o cursor b) (
           tt,
           Each-append IsSafe (mending o.widths b.area) cs mend.0
-              (frame_safe o b.area.y (left + b.area.width) pss (rows_fit o.widths left b.area.width (left + b.area.width) b.rows (omega arith) is.wide)),
+              (frame_safe o cursor b.area.y (left + b.area.width) pss (rows_fit o.widths left b.area.width (left + b.area.width) b.rows (omega arith) is.wide)),
         );
-        apart = (tt, apart_append o.widths (mending o.widths b.area) cs mend.1 (frame_apart o b.area.y pss (full_falling o.widths left b.rows)) (frame_begins o b.area.y pss));
+        apart = (tt, apart_append o.widths (mending o.widths b.area) cs mend.1 (frame_apart o cursor b.area.y pss (full_falling o.widths left b.rows)) (frame_begins o cursor b.area.y pss));
         begins = tt;
       };
       shows = λ knows t knows_widths room.
@@ -181,7 +182,7 @@ full_law o b is place_is =
           let all = runs knows t knows_widths room in
           record {
             ready = record { modes_reset = all.modes_reset; whole = all.whole; not_synchronizing = all.freed modes_reset.free };
-            room = room_still b v (run knows (full o b) t) all.columns all.height room_v;
+            room = room_still b v (run knows (full o cursor b) t) all.columns all.height room_v;
             rows = λ y lt.
                 let row = all.rows y (omega (arith, len)) in
                 let w = row.before in
@@ -194,26 +195,26 @@ full_law o b is place_is =
                 let made = row.made ∙ ap (λ (ps : List PlacedCell). (run knows (send o r nothing_known ps) w).cells r) (get_map o.widths left b.rows y lt) in
                 subst (λ (c : ℕ → Shown). ShowsRow o knows c (row_pieces o.widths b y)) (sym made) shown;
           };
-      cursor = λ knows t knows_widths room. (runs knows t knows_widths room).at_cursor;
+      at_cursor = λ knows t knows_widths room. (runs knows t knows_widths room).at_cursor;
       keeps = λ knows t knows_widths room whole.
           let v : Tty = begun knows o b t in
           let modes_reset = ready knows t knows_widths room in
           let within : (y : ℕ) → y < length b.rows → Each (λ p. In p (row_pieces o.widths b y)) (get_or pss y []) = λ y lt.
           subst (Each (λ p. In p (row_pieces o.widths b y))) (sym (get_map o.widths left b.rows y lt)) (in_full_in o.widths left (row_shown o.widths (get_or b.rows y []))) in
-          let kept = frame_keeps knows o b pss v (run knows (full o b) t) is knows_widths modes_reset.room len within (runs knows t knows_widths room) in
-          kept_on knows o b t v (run knows (full o b) t) (modes_reset.keeps whole) kept;
+          let kept = frame_keeps knows o cursor b pss v (run knows (full o cursor b) t) is knows_widths modes_reset.room len within (runs knows t knows_widths room) in
+          kept_on knows o b t v (run knows (full o cursor b) t) (modes_reset.keeps whole) kept;
       sent = pss;
       counted = len;
       frame = cs;
-      framed = is_frame o b.area.y pss;
+      framed = is_frame o cursor b.area.y pss;
       modes_reset = refl;
       each = λ y lt. subst (AreAll (row_pieces o.widths b y)) (sym (get_map o.widths left b.rows y lt)) (in_full_all o.widths left (row_shown o.widths (get_or b.rows y [])));
     }
 
 -- ---- what has changed
 
-pub change_law : (o : Output) (old new : Screen) → IsScreen old → IsScreen new → old.area ≡ new.area → IsCursorInside o.cursor new → IsChange o old new (flat_map encoding (change o old new))
-change_law o old new was is area place_is =
+pub change_law : (o : Output) (cursor : Cursor) (old new : Screen) → IsScreen old → IsScreen new → old.area ≡ new.area → IsCursorInside cursor new → IsChange o cursor old new (flat_map encoding (change o cursor old new))
+change_law o cursor old new was is area place_is =
     let left = new.area.x in
     let pss = rows_sent o.widths left old.rows new.rows in
     let heights : old.area.height ≡ new.area.height = ap (λ (a : Rect). a.height) area in
@@ -230,26 +231,26 @@ change_law o old new was is area place_is =
     let a = shown_long o.widths uncovered (get_or old.rows y []) in
     let b = shown_long o.widths uncovered (get_or new.rows y []) in
     omega (arith, wide, wide_old, widths, a, b) in
-    let runs : (knows : List ℕ → Bool) (t : Tty) → KnowsWidths o.widths knows → Shows o knows t old → FrameRun knows o pss new.area.y t (run knows (change o old new) t) = λ knows t knows_widths shown.
+    let runs : (knows : List ℕ → Bool) (t : Tty) → KnowsWidths o.widths knows → Shows o knows t old → FrameRun knows o cursor pss new.area.y t (run knows (change o cursor old new) t) = λ knows t knows_widths shown.
     let room = rooms t shown.room in
     let high : new.area.y + length pss ≤ t.height = omega (arith, room.high, is.high, len) in
-    frame_run knows o pss new.area.y t knows_widths shown.ready.whole shown.ready.modes_reset high (sent_fit o.widths left new.area.width t.columns old.rows new.rows room.wide is.wide)
-    (on_terminal o.cursor new t place_is room) in
+    frame_run knows o cursor pss new.area.y t knows_widths shown.ready.whole shown.ready.modes_reset high (sent_fit o.widths left new.area.width t.columns old.rows new.rows room.wide is.wide)
+    (on_terminal cursor new t place_is room) in
     record {
-      commands = change o old new;
+      commands = change o cursor old new;
       encoded = record {
         encoded = refl;
-        safe = Each-all IsSafe (change o old new)
-            (frame_safe o new.area.y (left + new.area.width) pss (sent_fit o.widths left new.area.width (left + new.area.width) old.rows new.rows (omega arith) is.wide));
-        apart = frame_apart o new.area.y pss (change_falling o.widths left old.rows new.rows);
-        begins = frame_begins o new.area.y pss;
+        safe = Each-all IsSafe (change o cursor old new)
+            (frame_safe o cursor new.area.y (left + new.area.width) pss (sent_fit o.widths left new.area.width (left + new.area.width) old.rows new.rows (omega arith) is.wide));
+        apart = frame_apart o cursor new.area.y pss (change_falling o.widths left old.rows new.rows);
+        begins = frame_begins o cursor new.area.y pss;
       };
       shows = λ knows t knows_widths shown.
           let all = runs knows t knows_widths shown in
           let room = rooms t shown.room in
           record {
             ready = record { modes_reset = all.modes_reset; whole = all.whole; not_synchronizing = all.freed shown.ready.not_synchronizing };
-            room = room_still new t (run knows (change o old new) t) all.columns all.height room;
+            room = room_still new t (run knows (change o cursor old new) t) all.columns all.height room;
             rows = λ y lt.
                 let row = all.rows y (omega (arith, len)) in
                 let v = row.before in
@@ -268,15 +269,15 @@ change_law o old new was is area place_is =
                 let made = row.made ∙ ap (λ (ps : List PlacedCell). (run knows (send o r nothing_known ps) v).cells r) (get_sent o.widths left old.rows new.rows y same lt) in
                 subst (λ (c : ℕ → Shown). ShowsRow o knows c (row_pieces o.widths new y)) (sym made) seen;
           };
-      cursor = λ knows t knows_widths shown. (runs knows t knows_widths shown).at_cursor;
+      at_cursor = λ knows t knows_widths shown. (runs knows t knows_widths shown).at_cursor;
       keeps = λ knows t knows_widths shown.
           let within : (y : ℕ) → y < length new.rows → Each (λ p. In p (row_pieces o.widths new y)) (get_or pss y []) = λ y lt.
           subst (Each (λ p. In p (row_pieces o.widths new y))) (sym (get_sent o.widths left old.rows new.rows y same lt))
           (row_in o.widths left (row_shown o.widths (get_or old.rows y [])) (row_shown o.widths (get_or new.rows y []))) in
-          frame_keeps knows o new pss t (run knows (change o old new) t) is knows_widths (rooms t shown.room) len within (runs knows t knows_widths shown);
+          frame_keeps knows o cursor new pss t (run knows (change o cursor old new) t) is knows_widths (rooms t shown.room) len within (runs knows t knows_widths shown);
       sent = pss;
       counted = len;
-      framed = is_frame o new.area.y pss;
+      framed = is_frame o cursor new.area.y pss;
       each = λ y lt.
           let olds = row_shown o.widths (get_or old.rows y []) in
           let news = row_shown o.widths (get_or new.rows y []) in

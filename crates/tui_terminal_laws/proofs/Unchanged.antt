@@ -1,7 +1,6 @@
 -- If nothing has changed, nothing is sent. Frames can follow one another.
 use Rattle.std.proofs.Common.{◌≡◌, ℕ, suc, ◌+◌, ◌<◌, Bool, true, false, List, [], ◌∷◌, ◌++◌, length, cond, flat_map, get_or, refl, sym, ap, subst, ◌∙◌, inl, inr, arith}
 use Rattle.tui_text.specs.Visible.{PlacedCell}
-use Rattle.tui_terminal_model.specs.declared.cursor.Cursor.{Cursor}
 use Rattle.tui_terminal_model.specs.declared.cursor.Cursor.TheVariants.{Keep}
 use Rattle.tui_terminal_model.specs.declared.depth.Depth.{Depth}
 use Rattle.tui_terminal_model.specs.declared.widths.KnownWidths.{KnownWidths}
@@ -33,21 +32,21 @@ nothing_sent depth y (ps ∷ pss) cs s none =
     let more : s.more ≡ [] = nothing_sent depth (y + 1) pss s.more s.sends_more (λ k lt. none (suc k) (omega arith)) in
     s.whole ∙ (λ i. here i ++ more i)
 
-nothing_round : (cursor : Cursor) (on : Bool) (rows : List Command) → cursor ≡ Keep → on ≡ false → rows ≡ [] →
-    cond on (set_mode synchronizing true ∷ []) [] ++ (rows ++ (cursor_commands cursor ++ cond on (set_mode synchronizing false ∷ []) [])) ≡ []
-nothing_round cursor on rows keep off none = λ i. cond (off i) (set_mode synchronizing true ∷ []) [] ++ (none i ++ (cursor_commands (keep i) ++ cond (off i) (set_mode synchronizing false ∷ []) []))
+nothing_round : (on : Bool) (rows : List Command) → on ≡ false → rows ≡ [] →
+    cond on (set_mode synchronizing true ∷ []) [] ++ (rows ++ (cursor_commands Keep ++ cond on (set_mode synchronizing false ∷ []) [])) ≡ []
+nothing_round on rows off none = λ i. cond (off i) (set_mode synchronizing true ∷ []) [] ++ (none i ++ (cursor_commands Keep ++ cond (off i) (set_mode synchronizing false ∷ []) []))
 
 pub unchanged_sends_nothing : SendsNothing
-unchanged_sends_nothing o b text keep off k =
+unchanged_sends_nothing o b text off k =
     let rows : (y : ℕ) → y < length k.sent → get_or k.sent y [] ≡ [] = λ y lt.
     let inside : y < length b.rows = omega (arith, k.counted) in
     none_sent o.widths (row_pieces o.widths b y) (get_or k.sent y []) (k.each y inside) in
     let frame = k.framed in
     let none : frame.rows ≡ [] = nothing_sent o.depth b.area.y k.sent frame.rows frame.sends rows in
-    let commands : k.commands ≡ [] = frame.framed ∙ nothing_round o.cursor o.synchronized frame.rows keep off none in
+    let commands : k.commands ≡ [] = frame.framed ∙ nothing_round o.synchronized frame.rows off none in
     k.encoded.encoded ∙ ap (flat_map encoding) commands
 
 pub frames_follow : FramesFollow
-frames_follow o b c first next f k knows t knows_widths room =
+frames_follow o place next_place b c first next f k knows t knows_widths room =
     subst (λ (u : Tty). Shows o knows u c) (sym (run_append knows f.commands k.commands t))
     (k.shows knows (run knows f.commands t) knows_widths (f.shows knows t knows_widths room))

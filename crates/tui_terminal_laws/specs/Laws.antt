@@ -15,6 +15,7 @@ use Rattle.tui_cells.specs.Symbols.{
   shade_symbols,
 }
 use Rattle.tui_cells.specs.declared.color.Color.{Color}
+use Rattle.tui_terminal_model.specs.declared.cursor.Cursor.{Cursor}
 use Rattle.tui_terminal_model.specs.declared.cursor.Cursor.TheVariants.{Keep}
 use Rattle.tui_terminal_model.specs.declared.depth.Depth.{Depth}
 use Rattle.tui_terminal_model.specs.declared.depth.Depth.TheVariants as depths
@@ -33,20 +34,20 @@ use Rattle.tui_terminal_laws.specs.Sending.{change, full}
 
 -- the commands of a full screen show it on any terminal
 abbrev pub FullIsShown : Type 0
-FullIsShown = (o : Output) (b : Screen) → IsScreen b → IsCursorInside o.cursor b → IsFull o b (flat_map encoding (full o b))
+FullIsShown = (o : Output) (cursor : Cursor) (b : Screen) → IsScreen b → IsCursorInside cursor b → IsFull o cursor b (flat_map encoding (full o cursor b))
 
 -- the commands of a change show the new screen if the old one was shown
 abbrev pub ChangeIsShown : Type 0
-ChangeIsShown = (o : Output) (old new : Screen) → IsScreen old → IsScreen new → old.area ≡ new.area → IsCursorInside o.cursor new →
-    IsChange o old new (flat_map encoding (change o old new))
+ChangeIsShown = (o : Output) (cursor : Cursor) (old new : Screen) → IsScreen old → IsScreen new → old.area ≡ new.area → IsCursorInside cursor new →
+    IsChange o cursor old new (flat_map encoding (change o cursor old new))
 
 -- if nothing has changed, nothing is written, without a cursor command and synchronized output
 abbrev pub SendsNothing : Type 0
-SendsNothing = (o : Output) (b : Screen) (text : List ℕ) → o.cursor ≡ Keep → o.synchronized ≡ false → IsChange o b b text → text ≡ []
+SendsNothing = (o : Output) (b : Screen) (text : List ℕ) → o.synchronized ≡ false → IsChange o Keep b b text → text ≡ []
 
 -- a full screen, and then its changes
 abbrev pub FramesFollow : Type 0
-FramesFollow = (o : Output) (b c : Screen) (first next : List ℕ) (f : IsFull o b first) (k : IsChange o b c next) (knows : List ℕ → Bool) (t : Tty) →
+FramesFollow = (o : Output) (place next_place : Cursor) (b c : Screen) (first next : List ℕ) (f : IsFull o place b first) (k : IsChange o next_place b c next) (knows : List ℕ → Bool) (t : Tty) →
     KnowsWidths o.widths knows → HasRoom t b → Shows o knows (run knows (f.commands ++ k.commands) t) c
 
 -- ---- symbols

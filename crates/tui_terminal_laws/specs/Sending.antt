@@ -5,6 +5,7 @@ use Rattle.tui_cells.specs.Cell.{Look, blank}
 use Rattle.tui_cells.specs.contracts.attributes.AttributesPartialEq as attributes
 use Rattle.tui_cells.specs.declared.attributes.Attributes.{Attributes}
 use Rattle.tui_text.specs.Visible.{PlacedCell, step_of}
+use Rattle.tui_terminal_model.specs.declared.cursor.Cursor.{Cursor}
 use Rattle.tui_terminal_model.specs.declared.depth.Depth.{Depth}
 use Rattle.tui_terminal_model.specs.declared.output.Output.{Output}
 use Rattle.tui_terminal_model.specs.declared.widths.KnownWidths.{KnownWidths}
@@ -76,12 +77,12 @@ rows_sent widths left [] news = []
 rows_sent widths left (o ∷ os) [] = []
 
 -- the commands of a whole screen
-abbrev pub frame : Output → ℕ → List (List PlacedCell) → List Command
-frame o y rows = opening o ++ (send_rows o y rows ++ closing o)
+abbrev pub frame : Output → Cursor → ℕ → List (List PlacedCell) → List Command
+frame o cursor y rows = opening o ++ (send_rows o y rows ++ closing o cursor)
 
-abbrev pub full : Output → Screen → List Command
-full o b = reset_modes ∷ (mending o.widths b.area ++ frame o b.area.y (map (row_in_full o.widths b.area.x) b.rows))
+abbrev pub full : Output → Cursor → Screen → List Command
+full o cursor b = reset_modes ∷ (mending o.widths b.area ++ frame o cursor b.area.y (map (row_in_full o.widths b.area.x) b.rows))
 
 -- the commands of the change from one screen to another
-abbrev pub change : Output → Screen → Screen → List Command
-change o old new = frame o new.area.y (rows_sent o.widths new.area.x old.rows new.rows)
+abbrev pub change : Output → Cursor → Screen → Screen → List Command
+change o cursor old new = frame o cursor new.area.y (rows_sent o.widths new.area.x old.rows new.rows)

@@ -3,6 +3,7 @@ use Rattle.std.specs.Prelude.{◌≡◌, ℕ, ◌+◌, ◌<◌, Bool, true, ◌&
 use Rattle.tui_cells.specs.Buffer.{Screen}
 use Rattle.tui_cells.specs.declared.rect.Rect.{Rect}
 use Rattle.tui_text.specs.Visible.{PlacedCell}
+use Rattle.tui_terminal_model.specs.declared.cursor.Cursor.{Cursor}
 use Rattle.tui_terminal_model.specs.declared.output.Output.{Output}
 use Rattle.tui_terminal_model.specs.declared.widths.KnownWidths.{KnownWidths}
 use Rattle.tui_terminal_model.specs.Pieces.{row_pieces}
@@ -30,29 +31,29 @@ mend area = place area.x area.y ∷ paint [] ∷ print grave ∷ []
 abbrev pub mending : KnownWidths → Rect → List Command
 mending widths area = if has_known_width widths grave && (nat_lt 0 area.width && nat_lt 0 area.height) then mend area else []
 
--- Bytes that make any terminal with room for the screen show it, whatever it showed before.
-pub record IsFull (o : Output) (b : Screen) (text : List ℕ) : Type 0 where
+-- Bytes that make any terminal with room for the screen show it, with the cursor as required, whatever it showed before.
+pub record IsFull (o : Output) (cursor : Cursor) (b : Screen) (text : List ℕ) : Type 0 where
   pub commands : List Command
   pub encoded : IsEncoded o.widths commands text
   pub shows : (knows : List ℕ → Bool) (t : Tty) → KnowsWidths o.widths knows → HasRoom t b → Shows o knows (run knows commands t) b
-  pub cursor : (knows : List ℕ → Bool) (t : Tty) → KnowsWidths o.widths knows → HasRoom t b → HasCursor o.cursor (run knows commands t)
+  pub at_cursor : (knows : List ℕ → Bool) (t : Tty) → KnowsWidths o.widths knows → HasRoom t b → HasCursor cursor (run knows commands t)
   pub keeps : (knows : List ℕ → Bool) (t : Tty) → KnowsWidths o.widths knows → HasRoom t b → t.whole ≡ true → Keeps o knows b t (run knows commands t)
   -- what is sent, row by row
   pub sent : List (List PlacedCell)
   pub counted : length sent ≡ length b.rows
   pub frame : List Command
-  pub framed : IsFrame o b.area.y sent frame
+  pub framed : IsFrame o cursor b.area.y sent frame
   pub modes_reset : commands ≡ reset_modes ∷ (mending o.widths b.area ++ frame)
   pub each : (y : ℕ) → y < length b.rows → AreAll (row_pieces o.widths b y) (slice_index_or sent y [])
 
 -- Bytes that make any terminal that shows the old screen show the new one, which has the same area.
-pub record IsChange (o : Output) (old new : Screen) (text : List ℕ) : Type 0 where
+pub record IsChange (o : Output) (cursor : Cursor) (old new : Screen) (text : List ℕ) : Type 0 where
   pub commands : List Command
   pub encoded : IsEncoded o.widths commands text
   pub shows : (knows : List ℕ → Bool) (t : Tty) → KnowsWidths o.widths knows → Shows o knows t old → Shows o knows (run knows commands t) new
-  pub cursor : (knows : List ℕ → Bool) (t : Tty) → KnowsWidths o.widths knows → Shows o knows t old → HasCursor o.cursor (run knows commands t)
+  pub at_cursor : (knows : List ℕ → Bool) (t : Tty) → KnowsWidths o.widths knows → Shows o knows t old → HasCursor cursor (run knows commands t)
   pub keeps : (knows : List ℕ → Bool) (t : Tty) → KnowsWidths o.widths knows → Shows o knows t old → Keeps o knows new t (run knows commands t)
   pub sent : List (List PlacedCell)
   pub counted : length sent ≡ length new.rows
-  pub framed : IsFrame o new.area.y sent commands
+  pub framed : IsFrame o cursor new.area.y sent commands
   pub each : (y : ℕ) → y < length new.rows → AreSent o.widths (row_pieces o.widths old y) (row_pieces o.widths new y) (slice_index_or sent y [])

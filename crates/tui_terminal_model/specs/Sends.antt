@@ -104,13 +104,13 @@ cursor_commands Keep = []
 cursor_commands Hidden = set_mode visible false ∷ []
 cursor_commands (At p) = place p.x p.y ∷ set_mode visible true ∷ []
 
-abbrev pub closing : Output → List Command
-closing o = cursor_commands o.cursor ++ (if o.synchronized then set_mode synchronizing false ∷ [] else [])
+abbrev pub closing : Output → Cursor → List Command
+closing o cursor = cursor_commands cursor ++ (if o.synchronized then set_mode synchronizing false ∷ [] else [])
 
-pub record IsFrame (o : Output) (y : ℕ) (sent : List (List PlacedCell)) (cs : List Command) : Type 0 where
+pub record IsFrame (o : Output) (cursor : Cursor) (y : ℕ) (sent : List (List PlacedCell)) (cs : List Command) : Type 0 where
   pub rows : List Command
   pub sends : SendsRows o.depth y sent rows
-  pub framed : cs ≡ opening o ++ (rows ++ closing o)
+  pub framed : cs ≡ opening o ++ (rows ++ closing o cursor)
 
 -- ---- which cells
 

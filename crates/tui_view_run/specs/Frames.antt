@@ -14,14 +14,13 @@ use Rattle.tui_scene.specs.Item.{PlacedData}
 use Rattle.tui_schema.specs.Field.{field_name}
 use Rattle.tui_schema.specs.Scene.{SceneData, scene_of}
 use Rattle.tui_schema.specs.declared.bad_field.BadField.{BadField}
-use Rattle.tui_terminal_model.specs.declared.cursor.Cursor.TheVariants.{Hidden}
 use Rattle.tui_terminal_model.specs.declared.depth.Depth.{Depth}
 use Rattle.tui_terminal_model.specs.declared.output.Output.{Output}
 use Rattle.tui_terminal_model.specs.declared.widths.KnownWidths.TheVariants.{Common}
 
 -- how output is sent
 abbrev pub frames_output : Depth → Output
-frames_output depth = record { depth = depth; widths = Common; cursor = Hidden; synchronized = false }
+frames_output depth = record { depth = depth; widths = Common; synchronized = false }
 
 -- the screen of a scene, drawn with its own states on a blank one
 abbrev pub IsSceneShown : SceneData → Screen → Type 0

@@ -21,7 +21,7 @@ use tui_json::InputError;
 use tui_program::write_refused_in_scene;
 use tui_scene::draw;
 use tui_schema::{BadField, Reading, read_scene};
-use tui_terminal_model::{Cursor, Depth, KnownWidths, Output};
+use tui_terminal_model::{Depth, KnownWidths, Output};
 
 /// More bytes than the line that rejects a field has.
 const ROOM: usize = 128;
@@ -51,7 +51,6 @@ pub fn show_frames<T: Terminal>(alloc: Global, depth: Depth, terminal: &mut T) -
     let output = Output {
         depth,
         widths: KnownWidths::Common,
-        cursor: Cursor::Hidden,
         synchronized: false,
     };
     show_lines(alloc, &Frames, output, terminal)

@@ -59,15 +59,10 @@ fn watch<T: Terminal>(
     folder: Folder,
     terminal: &mut T,
 ) -> WatchEnded {
-    let Setting {
-        output,
-        width,
-        height,
-    } = setting;
     match Watch::new(alloc, folder) {
         Ok(app) => {
             let mut app = app;
-            run(alloc, &mut app, output, width, height, terminal).into()
+            run(alloc, &mut app, setting.output, setting.size, terminal).into()
         }
         Err(NoMemory) => WatchEnded::NoMemory,
     }

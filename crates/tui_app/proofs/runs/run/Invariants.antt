@@ -7,6 +7,6 @@ abbrev pub invariant-iterations : goal.invariant-iterations
 invariant-iterations g l =
     record {
       areas : l.buffers.shown.area ≡ l.buffers.spare.area;
-      reached : SessionReached g.A.App.behaviour l.fn.output l.fn.app (area_of 0 0 l.fn.width l.fn.height) (state_of l.app l.buffers)
+      reached : SessionReached g.A.App.behaviour l.fn.output l.fn.app (area_of 0 0 l.fn.size.width l.fn.size.height) (state_of l.app l.keys l.buffers)
           (g.T.Sink.observed l.fn.terminal) (g.T.Sink.observed l.terminal) l._i;
     }

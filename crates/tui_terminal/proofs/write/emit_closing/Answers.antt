@@ -10,4 +10,4 @@ use Rattle.tui_terminal.proofs.write.emit_closing.Goals as goal
 pub returns : goal.returns
 returns g c =
     let o = c.args.output in
-    Prints-text (more_text encoding (cursor_commands o.cursor) (if o.synchronized then set_mode synchronizing false ∷ [] else []) _ refl) (Prints-then c.emit_cursor.ensures c.emit_synchronizing_if.ensures)
+    Prints-text (more_text encoding (cursor_commands c.args.cursor) (if o.synchronized then set_mode synchronizing false ∷ [] else []) _ refl) (Prints-then c.emit_cursor.ensures c.emit_synchronizing_if.ensures)

@@ -13,5 +13,5 @@ returns-clause-emitted g c =
     let o = c.args.output in
     let b = c.args.buf.now in
     let mended = rw c.area.ensures at c.emit_mending.ensures in
-    Prints-text (whole_text reset_modes (mending o.widths b.area) (opening o) (send_rows o b.area.y (map (row_in_full o.widths b.area.x) b.rows)) (closing o))
+    Prints-text (whole_text reset_modes (mending o.widths b.area) (opening o) (send_rows o b.area.y (map (row_in_full o.widths b.area.x) b.rows)) (closing o c.args.cursor))
     (Prints-then c.emit_reset_modes.ensures (Prints-then mended (Prints-then c.emit_synchronizing_if.ensures (Prints-then c.emit_rows.ensures.emitted c.emit_closing.ensures))))

@@ -10,8 +10,8 @@ returns g c =
     let a = c.args in
     record {
       text = (
-        flat_map encoding (full a.output a.buf.now),
-        full_law a.output a.buf.now c.emit_full.ensures.shape c.requires,
+        flat_map encoding (full a.output a.cursor a.buf.now),
+        full_law a.output a.cursor a.buf.now c.emit_full.ensures.shape c.requires,
         Prints-writes c.new-print.ensures c.emit_full.ensures.emitted c.end.ensures.writes_if,
       );
     }
