@@ -125,7 +125,7 @@ after_iteration {A} b o app moved last keys old new bytes reading t0 t1 t2 resul
     by_result None h = (bytes, h.0, iterates b o app moved last keys old new bytes reading h.0 read handled h.1, Traced-then traced h.2)
     by_result (Some ends.WriteFault) h = (bytes, h.0, iterates b o app moved last keys old new bytes reading h.0 read handled h.1, WriteFailed-after traced h.2)
     by_result (Some ends.NoMemory) h = (bytes, read, still h)
-    by_result (Some ends.Quit) h = (bytes, read, rw (h.0, h.1) handled.handled.takes, still h.2)
+    by_result (Some ends.Quit) h = (bytes, read, rw (← h.0, h.1) handled.handled.takes, still h.2)
     by_result (Some ends.Ended) h = absurd h
     by_result (Some ends.ReadFault) h = absurd h
     by_result (Some ends.ManyReads) h = absurd h

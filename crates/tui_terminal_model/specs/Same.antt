@@ -18,6 +18,6 @@ same_widths a b e = Prim.search rules
 -- outputs that `==` calls equal are the same
 pub same_output : (a b : Output) → output.TheImpl.ghosts.eq a b ≡ true → a ≡ b
 same_output a b e =
-    let first = and_parts (depth.TheImpl.ghosts.eq a.depth b.depth && widths.TheImpl.ghosts.eq a.widths b.widths) _ e in
-    let second = and_parts (depth.TheImpl.ghosts.eq a.depth b.depth) _ first.0 in
-    Prim.search (rules, same_depth a.depth b.depth second.0, same_widths a.widths b.widths second.1, first.1)
+    let first = and_parts (depth.TheImpl.ghosts.eq a.depth b.depth) _ e in
+    let second = and_parts (widths.TheImpl.ghosts.eq a.widths b.widths) _ first.1 in
+    Prim.search (rules, same_depth a.depth b.depth first.0, same_widths a.widths b.widths second.0, second.1)

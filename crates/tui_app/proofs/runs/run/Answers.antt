@@ -16,8 +16,8 @@ returns-in_default-show_first g c =
 pub iterations-init : goal.iterations-init
 iterations-init g c = let first = c.in-Ok-show_first.ensures in record {
   areas = c.in-Ok.ensures.areas;
-  reached = been_first g.A.App.behaviour c.args.output c.args.app.now c.begin.new.app (area_of 0 0 c.args.size.width c.args.size.height) c.in-Ok.buffers
-      (g.T.Sink.observed c.args.terminal.now) (g.T.Sink.observed c.show_first.new.sink) first.0 c.in-Ok.ensures first.1 first.2;
+  reached = rw c.new-keys.ensures (been_first g.A.App.behaviour c.args.output c.args.app.now c.begin.new.app (area_of 0 0 c.args.size.width c.args.size.height) c.in-Ok.buffers
+      (g.T.Sink.observed c.args.terminal.now) (g.T.Sink.observed c.show_first.new.sink) first.0 c.in-Ok.ensures first.1 first.2);
 }
 
 pub iterations-preserved : goal.iterations-preserved
