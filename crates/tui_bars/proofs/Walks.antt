@@ -18,6 +18,7 @@ use Rattle.std.proofs.Common.{
   take,
   drop,
   length,
+  nat_lt,
   get_or,
   if◌then◌else◌,
   refl,
@@ -38,6 +39,7 @@ use Rattle.std.proofs.Common.{
 use Rattle.std.specs.Prelude.{filter, flat_map}
 use Rattle.std.specs.List.{list_any}
 use Rattle.std.specs.Option.{is_some}
+use Rattle.std.proofs.lemmas.Bool.Decides.{nat_tests}
 use Rattle.std.proofs.lemmas.List.Folds.{list_any_at}
 use Rattle.std.proofs.lemmas.List.{drop_all, get_or-map, get_or-take, length-map, length-take-le}
 use Rattle.tui_cells.specs.declared.rect.Rect.{Rect}
@@ -59,7 +61,19 @@ use Rattle.tui_bars.proofs.GaugeStrokes.{ok_then}
 use Rattle.tui_bars.specs.Areas.{fill_layers}
 use Rattle.tui_bars.specs.BarChart.{BarChartData, BarData, GroupData, value_text}
 use Rattle.tui_bars.specs.ChartStrokes.{bar_layers, directed_layers, group_layers, vertical_plan, walk_layers}
-use Rattle.tui_bars.specs.HorizontalBars.{beyond_layers, filled_of, group_row_layers, left_layers, horizontal_bar_layers, middle_of, row_value_layers, strip_layers, within_layers}
+use Rattle.tui_bars.specs.HorizontalBars.{
+  beyond_layers,
+  char_start_from,
+  filled_of,
+  group_row_layers,
+  left_layers,
+  horizontal_bar_layers,
+  middle_of,
+  rest_layers,
+  row_value_layers,
+  strip_layers,
+  within_layers,
+}
 use Rattle.tui_bars.specs.Shown.{PlacedBar, Shown, bars_of, place_after, placed_bars, shown_groups, shown_in, space_after, step_of}
 use Rattle.tui_bars.specs.VerticalBars.{group_label_layers, has_room, value_place, value_text_layers}
 use Rattle.tui_cells.specs.declared.position.Position.{Position}
@@ -146,6 +160,14 @@ pub strip_painted : {T E : Type 0} (result : Result T E) (c : BarChartData) (pla
     OnOk result (Painted (strip_layers c plan at filled style) a d)
 unfolding strip_layers
 strip_painted result c plan at filled style x w a b d xs ws p q = rw (← xs, ← ws) (ok_then result _ _ p q)
+
+-- the part of a text that is past the filled cells
+pub beyond_painted : {T E : Type 0} (result : Result T E) (plan : ChartPlan) (middle filled from : ℕ) (text : List ℕ) (style : Style) (a b : Screen) →
+    filled < length text → from ≡ char_start_from filled text → OnOk result (Painted (rest_layers plan middle from text style) a b) →
+    OnOk result (Painted (beyond_layers plan middle filled text style) a b)
+unfolding beyond_layers
+beyond_painted result plan middle filled from text style a b lt fs p =
+    let e : nat_lt filled (length text) ≡ true = grind (arith, nat_tests) in rw (e, ← fs) p
 
 -- a value's text that fits
 pub value_text_painted : (c : BarChartData) (plan : ChartPlan) (at filled : ℕ) (text : List ℕ) (style : Style) (place : Position) (a b : Screen) (fits : Bool) →

@@ -9,6 +9,13 @@ ghost use Rattle.tui_cells.specs.Rect.{covers};
 use std::alloc::Global;
 use tui_cells::{Buffer, Mem, Rect, Style};
 
+/// What is written to each cell of an area.
+#[derive(Clone, Copy)]
+pub(crate) struct StyledSymbol<'s> {
+    pub(crate) symbol: &'s str,
+    pub(crate) style: Style,
+}
+
 /// Writes a symbol and then a style to each cell of the area that is in the clip.
 #[tactic(auto, unfolding(crate::specs::Areas::fill_layers))]
 pub(crate) fn fill_clipped(
@@ -16,12 +23,16 @@ pub(crate) fn fill_clipped(
     buf: &mut Buffer,
     clip: Rect,
     area: Rect,
-    symbol: &str,
-    style: Style,
+    content: StyledSymbol<'_>,
 ) -> Mem<()>
-    ensures ok { OnOk result (Painted (fill_layers clip area symbol.now style) buf.old buf.new) }
+    ensures ok { OnOk result (Painted (fill_layers clip area content.entry.symbol.now content.entry.style) buf.old buf.new) }
     ensures kept { KeptOutside (covers clip) buf.old buf.new }
-    ensures allocation_free { IsAllocationFree symbol.now → IsOk result }
+    ensures allocation_free { IsAllocationFree content.entry.symbol.now → IsOk result }
 {
-    buf.fill(alloc, clip.intersection(area), symbol, style)
+    buf.fill(
+        alloc,
+        clip.intersection(area),
+        content.symbol,
+        content.style,
+    )
 }

@@ -7,7 +7,7 @@ ghost use Rattle.tui_cells.specs.Layers.{KeptOutside, Painted};
 ghost use Rattle.tui_cells.specs.Rect.{covers};
 ghost use Rattle.tui_cells.specs.Symbols.{bar_data};
 
-use crate::areas::fill_clipped;
+use crate::areas::{StyledSymbol, fill_clipped};
 use std::alloc::Global;
 use tui_cells::{Buffer, Mem, Rect, Style, bar};
 
@@ -79,7 +79,11 @@ pub(crate) fn paint_levels(
     let mut left = bar.filled;
     'rows: for up in 0..bar.area.height {
         let row = row_at(bar.area, bar.area.height - 1 - up);
-        fill_clipped(alloc, buf, clip, row, level(set, left), bar.style)?;
+        let content = StyledSymbol {
+            symbol: level(set, left),
+            style: bar.style,
+        };
+        fill_clipped(alloc, buf, clip, row, content)?;
         left = left.saturating_sub(8);
     }
     Ok(())

@@ -16,9 +16,11 @@ mod plain;
 mod plan;
 pub mod render_direction;
 mod share;
+mod shown_bar;
 mod shown_group;
 pub mod sparkline;
 pub mod sparkline_bar;
+mod styled_text;
 
 pub use bar::Bar;
 pub use bar_chart::BarChart;

@@ -19,6 +19,14 @@ pub(crate) struct ChartPlan {
     pub(crate) start: u16,
 }
 
+/// The columns or rows that the groups of a chart are drawn in.
+#[derive(Clone, Copy)]
+pub(crate) struct Stretch {
+    pub(crate) first: u16,
+    /// How many there are.
+    pub(crate) room: u16,
+}
+
 /// One pass over the bars that are shown.
 #[derive(Clone, Copy, Debug, PartialEq, Eq)]
 pub(crate) struct Walk {

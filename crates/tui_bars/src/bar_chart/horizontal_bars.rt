@@ -24,16 +24,28 @@ ghost use Rattle.tui_cells.specs.Layers.{KeptOutside, Painted};
 ghost use Rattle.tui_cells.specs.Rect.{covers};
 ghost use Rattle.tui_layout.specs.declared.direction.Direction.TheVariants.{Horizontal};
 
-use crate::areas::fill_clipped;
+use crate::areas::{StyledSymbol, fill_clipped};
 use crate::bar::Bar;
 use crate::bar_chart::BarChart;
 use crate::levels::ticks;
 use crate::plan::ChartPlan;
+use crate::shown_bar::ShownBar;
 use crate::shown_group::ShownGroup;
+use crate::styled_text::StyledText;
 use itoa::Buffer as Digits;
 use std::alloc::Global;
 use tui_cells::{Buffer, FARTHEST_EDGE, Mem, Position, Rect, Style};
 use tui_text::{set_line_in, set_stringn_in};
+
+/// A horizontal bar.
+#[derive(Clone, Copy)]
+struct HorizontalBar {
+    /// The first of its rows.
+    at: u16,
+    /// How many of its columns are filled.
+    filled: u16,
+    style: Style,
+}
 
 /// Returns how many columns of a bar are filled.
 fn filled_of(plan: ChartPlan, bar: &Bar<'_>) -> u16
@@ -58,13 +70,12 @@ fn paint_rest(
     plan: ChartPlan,
     middle: u16,
     from: usize,
-    text: &str,
-    style: Style,
+    styled: StyledText<'_>,
 ) -> Mem<()>
-    requires { IsCharBoundary text.now from }
-    ensures ok { OnOk result (Painted (rest_layers plan middle from text.now style) buf.old buf.new) }
+    requires { IsCharBoundary styled.text.now from }
+    ensures ok { OnOk result (Painted (rest_layers plan middle from styled.entry.text.now styled.entry.style) buf.old buf.new) }
     ensures kept { KeptOutside (covers plan.area) buf.old buf.new }
-    ensures allocation_free { IsAllocationFreeText Horizontal text.now → IsOk result }
+    ensures allocation_free { IsAllocationFreeText Horizontal styled.entry.text.now → IsOk result }
 {
     let place = Position {
         x: (plan.start as usize)
@@ -73,7 +84,14 @@ fn paint_rest(
         y: middle,
     };
     let room = (plan.length as usize).saturating_sub(from);
-    set_stringn_in(buf, plan.area, place, &text[from..], room, style)?;
+    set_stringn_in(
+        buf,
+        plan.area,
+        place,
+        &styled.text[from..],
+        room,
+        styled.style,
+    )?;
     Ok(())
 }
 
@@ -84,18 +102,17 @@ fn paint_beyond(
     plan: ChartPlan,
     middle: u16,
     filled: u16,
-    text: &str,
-    style: Style,
+    styled: StyledText<'_>,
 ) -> Mem<()>
-    ensures ok { OnOk result (Painted (beyond_layers plan middle filled text.now style) buf.old buf.new) }
+    ensures ok { OnOk result (Painted (beyond_layers plan middle filled styled.entry.text.now styled.entry.style) buf.old buf.new) }
     ensures kept { KeptOutside (covers plan.area) buf.old buf.new }
-    ensures allocation_free { IsAllocationFreeText Horizontal text.now → IsOk result }
+    ensures allocation_free { IsAllocationFreeText Horizontal styled.entry.text.now → IsOk result }
 {
-    if text.len() <= filled as usize {
+    if styled.text.len() <= filled as usize {
         return Ok(());
     }
-    let from = char_start_from(text, filled as usize);
-    paint_rest(buf, plan, middle, from, text, style)
+    let from = char_start_from(styled.text, filled as usize);
+    paint_rest(buf, plan, middle, from, styled)
 }
 
 /// Writes the start of a value's text over the filled cells.
@@ -105,18 +122,24 @@ fn paint_within(
     plan: ChartPlan,
     middle: u16,
     filled: u16,
-    text: &str,
-    style: Style,
+    styled: StyledText<'_>,
 ) -> Mem<()>
-    ensures ok { OnOk result (Painted (within_layers plan middle filled text.now style) buf.old buf.new) }
+    ensures ok { OnOk result (Painted (within_layers plan middle filled styled.entry.text.now styled.entry.style) buf.old buf.new) }
     ensures kept { KeptOutside (covers plan.area) buf.old buf.new }
-    ensures allocation_free { IsAllocationFreeText Horizontal text.now → IsOk result }
+    ensures allocation_free { IsAllocationFreeText Horizontal styled.entry.text.now → IsOk result }
 {
     let place = Position {
         x: plan.start,
         y: middle,
     };
-    set_stringn_in(buf, plan.area, place, text, filled as usize, style)?;
+    set_stringn_in(
+        buf,
+        plan.area,
+        place,
+        styled.text(),
+        filled as usize,
+        styled.style,
+    )?;
     Ok(())
 }
 
@@ -147,28 +170,34 @@ impl<'a> BarChart<'a> {
         alloc: Global,
         buf: &mut Buffer,
         plan: ChartPlan,
-        at: u16,
-        filled: u16,
-        style: Style,
+        bar: HorizontalBar,
     ) -> Mem<()>
-        ensures ok { OnOk result (Painted (strip_layers (bar_chart_data self.now) plan at filled style) buf.old buf.new) }
+        ensures ok { OnOk result (Painted (strip_layers (bar_chart_data self.now) plan bar.at bar.filled bar.style) buf.old buf.new) }
         ensures kept { KeptOutside (covers plan.area) buf.old buf.new }
         ensures allocation_free { AreAllocationFreeLevels (bar_chart_data self.now).symbols → IsOk result }
     {
         let full = Rect {
             x: plan.start,
-            y: at,
-            width: filled,
+            y: bar.at,
+            width: bar.filled,
             height: self.bar_width,
         };
         let empty = Rect {
-            x: plan.start.saturating_add(filled),
-            y: at,
-            width: plan.length.saturating_sub(filled),
+            x: plan.start.saturating_add(bar.filled),
+            y: bar.at,
+            width: plan.length.saturating_sub(bar.filled),
             height: self.bar_width,
         };
-        fill_clipped(alloc, buf, plan.area, full, self.bar_set.full, style)?;
-        fill_clipped(alloc, buf, plan.area, empty, self.bar_set.empty, style)
+        let filled = StyledSymbol {
+            symbol: self.bar_set.full,
+            style: bar.style,
+        };
+        let unfilled = StyledSymbol {
+            symbol: self.bar_set.empty,
+            style: bar.style,
+        };
+        fill_clipped(alloc, buf, plan.area, full, filled)?;
+        fill_clipped(alloc, buf, plan.area, empty, unfilled)
     }
 
     fn middle_of(&self, at: u16) -> u16
@@ -183,23 +212,31 @@ impl<'a> BarChart<'a> {
         alloc: Global,
         buf: &mut Buffer,
         plan: ChartPlan,
-        at: u16,
-        bar: &Bar<'a>,
+        shown: ShownBar<'_, 'a>,
     ) -> Mem<()>
-        ensures ok { OnOk result (Painted (horizontal_bar_layers (bar_chart_data self.now) plan at (bar_data bar.now)) buf.old buf.new) }
+        ensures ok { OnOk result (Painted (horizontal_bar_layers (bar_chart_data self.now) plan shown.entry.at (bar_data shown.entry.bar.now)) buf.old buf.new) }
         ensures kept { KeptOutside (covers plan.area) buf.old buf.new }
-        ensures allocation_free { AreAllocationFreeLevels (bar_chart_data self.now).symbols → IsAllocationFreeBar Horizontal (bar_data bar.now) → IsOk result }
+        ensures allocation_free { AreAllocationFreeLevels (bar_chart_data self.now).symbols → IsAllocationFreeBar Horizontal (bar_data shown.entry.bar.now) → IsOk result }
     {
-        let filled = filled_of(plan, bar);
-        let style = self.bar_style.patch(bar.style);
-        let value_style = self.value_style.patch(bar.value_style);
-        let middle = self.middle_of(at);
-        self.paint_strip(alloc, buf, plan, at, filled, style)?;
-        paint_left(buf, plan, middle, bar)?;
+        let filled = filled_of(plan, shown.bar);
+        let style = self.bar_style.patch(shown.bar.style);
+        let value_style = self.value_style.patch(shown.bar.value_style);
+        let middle = self.middle_of(shown.at);
+        let strip = HorizontalBar {
+            at: shown.at,
+            filled,
+            style,
+        };
+        self.paint_strip(alloc, buf, plan, strip)?;
+        paint_left(buf, plan, middle, shown.bar)?;
         let mut digits = Digits::new();
-        let text = bar.value_text(&mut digits);
-        paint_within(buf, plan, middle, filled, text, value_style)?;
-        paint_beyond(buf, plan, middle, filled, text, style)
+        let text = shown.bar.value_text(&mut digits);
+        let within = StyledText {
+            text,
+            style: value_style,
+        };
+        paint_within(buf, plan, middle, filled, within)?;
+        paint_beyond(buf, plan, middle, filled, StyledText { text, style })
     }
 
     /// Returns the row below `count` bars.

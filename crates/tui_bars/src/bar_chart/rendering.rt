@@ -11,7 +11,7 @@ ghost use Rattle.tui_cells.specs.Rect.{covers, is_empty};
 ghost use Rattle.tui_frames.specs.Footprint.{footprint_if};
 
 use crate::bar_chart::BarChart;
-use crate::plan::{Pass, Walk};
+use crate::plan::{Pass, Stretch, Walk};
 use std::alloc::Global;
 use tui_cells::{Buffer, Mem, Rect, Widget};
 use tui_frames::paint_frame;
@@ -27,24 +27,32 @@ impl<'a> BarChart<'a> {
         match self.direction {
             Direction::Vertical => {
                 let plan = self.vertical_plan(area);
+                let across = Stretch {
+                    first: area.x,
+                    room: area.width,
+                };
                 let columns = Walk {
                     plan,
                     pass: Pass::Columns,
                 };
-                self.paint_walk(alloc, buf, columns, area.x, area.width)?;
+                self.paint_walk(alloc, buf, columns, across)?;
                 let texts = Walk {
                     plan,
                     pass: Pass::Texts,
                 };
-                self.paint_walk(alloc, buf, texts, area.x, area.width)
+                self.paint_walk(alloc, buf, texts, across)
             }
             Direction::Horizontal => {
                 let plan = self.horizontal_plan(area);
+                let down = Stretch {
+                    first: area.y,
+                    room: area.height,
+                };
                 let rows = Walk {
                     plan,
                     pass: Pass::Rows,
                 };
-                self.paint_walk(alloc, buf, rows, area.y, area.height)
+                self.paint_walk(alloc, buf, rows, down)
             }
         }
     }

@@ -31,15 +31,25 @@ ghost use Rattle.tui_text.specs.Setting.{AreAllocationFree};
 ghost use Rattle.tui_text.specs.Span.{raw_span};
 ghost use Rattle.tui_text.specs.Width.{span_width};
 
-use crate::bar::Bar;
 use crate::bar_chart::BarChart;
 use crate::levels::{VerticalBar, paint_levels, ticks};
 use crate::plan::ChartPlan;
+use crate::shown_bar::ShownBar;
 use crate::shown_group::ShownGroup;
+use crate::styled_text::StyledText;
 use itoa::Buffer as Digits;
 use std::alloc::Global;
-use tui_cells::{Buffer, FARTHEST_EDGE, Mem, Position, Rect, Style};
+use tui_cells::{Buffer, FARTHEST_EDGE, Mem, Position, Rect};
 use tui_text::{Alignment, Line, Span, paint_row, set_stringn_in};
+
+/// Where a bar is, and how much of it is filled.
+#[derive(Clone, Copy)]
+struct FilledBar {
+    /// The first of its columns.
+    at: u16,
+    /// How many eighths of a cell are filled, from the bottom.
+    filled: u32,
+}
 
 /// Returns how many columns of `room` are left free before content of `width` columns.
 fn alignment_offset(alignment: Alignment, room: u16, width: u16) -> u16
@@ -122,17 +132,16 @@ impl<'a> BarChart<'a> {
         alloc: Global,
         buf: &mut Buffer,
         plan: ChartPlan,
-        at: u16,
-        bar: &Bar<'a>,
+        shown: ShownBar<'_, 'a>,
     ) -> Mem<()>
-        ensures ok { OnOk result (Painted (column_layers (bar_chart_data self.now) plan at (bar_data bar.now)) buf.old buf.new) }
+        ensures ok { OnOk result (Painted (column_layers (bar_chart_data self.now) plan shown.entry.at (bar_data shown.entry.bar.now)) buf.old buf.new) }
         ensures kept { KeptOutside (covers plan.area) buf.old buf.new }
         ensures allocation_free { AreAllocationFreeLevels (bar_chart_data self.now).symbols → IsOk result }
     {
         let vertical = VerticalBar {
-            area: self.bar_area(plan, at),
-            filled: ticks(plan.greatest, bar.value, plan.length),
-            style: self.bar_style.patch(bar.style),
+            area: self.bar_area(plan, shown.at),
+            filled: ticks(plan.greatest, shown.bar.value, plan.length),
+            style: self.bar_style.patch(shown.bar.style),
         };
         paint_levels(alloc, buf, plan.area, &self.bar_set, vertical)
     }
@@ -193,19 +202,19 @@ impl<'a> BarChart<'a> {
 
     /// Draws a bar's label below the bar.
     #[tactic(auto, unfolding(crate::specs::VerticalBars::label_layers))]
-    fn paint_label(&self, buf: &mut Buffer, plan: ChartPlan, at: u16, bar: &Bar<'a>) -> Mem<()>
-        ensures ok { OnOk result (Painted (label_layers (bar_chart_data self.now) plan at (bar_data bar.now)) buf.old buf.new) }
+    fn paint_label(&self, buf: &mut Buffer, plan: ChartPlan, shown: ShownBar<'_, 'a>) -> Mem<()>
+        ensures ok { OnOk result (Painted (label_layers (bar_chart_data self.now) plan shown.entry.at (bar_data shown.entry.bar.now)) buf.old buf.new) }
         ensures kept { KeptOutside (covers plan.area) buf.old buf.new }
-        ensures allocation_free { IsAllocationFreeLine (bar_data bar.now).label → IsOk result }
+        ensures allocation_free { IsAllocationFreeLine (bar_data shown.entry.bar.now).label → IsOk result }
     {
         if !plan.bar_labels {
             return Ok(());
         }
-        match &bar.label {
+        match &shown.bar.label {
             None => Ok(()),
             Some(label) => {
                 let width = label.width().min(self.bar_width as usize) as u16;
-                let part = aligned_in(self.label_row(plan, at), Alignment::Center, width);
+                let part = aligned_in(self.label_row(plan, shown.at), Alignment::Center, width);
                 self.paint_titled(buf, plan.area, part, label)
             }
         }
@@ -237,38 +246,46 @@ impl<'a> BarChart<'a> {
         &self,
         buf: &mut Buffer,
         plan: ChartPlan,
-        at: u16,
-        filled: u32,
-        text: &str,
-        style: Style,
+        bar: FilledBar,
+        styled: StyledText<'_>,
     ) -> Mem<()>
-        ensures ok { OnOk result (Painted (value_text_layers (bar_chart_data self.now) plan at filled text.now style) buf.old buf.new) }
+        ensures ok { OnOk result (Painted (value_text_layers (bar_chart_data self.now) plan bar.at bar.filled styled.entry.text.now styled.entry.style) buf.old buf.new) }
         ensures kept { KeptOutside (covers plan.area) buf.old buf.new }
-        ensures allocation_free { All IsAllocationFree (clusters text.now) → IsOk result }
+        ensures allocation_free { All IsAllocationFree (clusters styled.entry.text.now) → IsOk result }
     {
-        if !self.has_room(text, filled) {
+        if !self.has_room(styled.text, bar.filled) {
             return Ok(());
         }
-        let place = self.value_place(plan, at, text);
-        set_stringn_in(buf, plan.area, place, text, FARTHEST_EDGE as usize, style)?;
+        let place = self.value_place(plan, bar.at, styled.text);
+        set_stringn_in(
+            buf,
+            plan.area,
+            place,
+            styled.text,
+            FARTHEST_EDGE as usize,
+            styled.style,
+        )?;
         Ok(())
     }
 
     /// Writes the value of a bar in its last row, if the value is not 0 and its text has room.
     #[tactic(auto, unfolding(crate::specs::VerticalBars::value_layers))]
-    fn paint_value(&self, buf: &mut Buffer, plan: ChartPlan, at: u16, bar: &Bar<'a>) -> Mem<()>
-        ensures ok { OnOk result (Painted (value_layers (bar_chart_data self.now) plan at (bar_data bar.now)) buf.old buf.new) }
+    fn paint_value(&self, buf: &mut Buffer, plan: ChartPlan, shown: ShownBar<'_, 'a>) -> Mem<()>
+        ensures ok { OnOk result (Painted (value_layers (bar_chart_data self.now) plan shown.entry.at (bar_data shown.entry.bar.now)) buf.old buf.new) }
         ensures kept { KeptOutside (covers plan.area) buf.old buf.new }
-        ensures allocation_free { IsAllocationFreeBar Vertical (bar_data bar.now) → IsOk result }
+        ensures allocation_free { IsAllocationFreeBar Vertical (bar_data shown.entry.bar.now) → IsOk result }
     {
-        if bar.value == 0 {
+        if shown.bar.value == 0 {
             return Ok(());
         }
-        let style = self.value_style.patch(bar.value_style);
-        let filled = ticks(plan.greatest, bar.value, plan.length);
+        let style = self.value_style.patch(shown.bar.value_style);
+        let bar = FilledBar {
+            at: shown.at,
+            filled: ticks(plan.greatest, shown.bar.value, plan.length),
+        };
         let mut digits = Digits::new();
-        let text = bar.value_text(&mut digits);
-        self.paint_value_text(buf, plan, at, filled, text, style)
+        let text = shown.bar.value_text(&mut digits);
+        self.paint_value_text(buf, plan, bar, StyledText { text, style })
     }
 
     /// Draws a bar's label and then its value.
@@ -277,14 +294,13 @@ impl<'a> BarChart<'a> {
         &self,
         buf: &mut Buffer,
         plan: ChartPlan,
-        at: u16,
-        bar: &Bar<'a>,
+        shown: ShownBar<'_, 'a>,
     ) -> Mem<()>
-        ensures ok { OnOk result (Painted (texts_layers (bar_chart_data self.now) plan at (bar_data bar.now)) buf.old buf.new) }
+        ensures ok { OnOk result (Painted (texts_layers (bar_chart_data self.now) plan shown.entry.at (bar_data shown.entry.bar.now)) buf.old buf.new) }
         ensures kept { KeptOutside (covers plan.area) buf.old buf.new }
-        ensures allocation_free { IsAllocationFreeBar Vertical (bar_data bar.now) → IsOk result }
+        ensures allocation_free { IsAllocationFreeBar Vertical (bar_data shown.entry.bar.now) → IsOk result }
     {
-        self.paint_label(buf, plan, at, bar)?;
-        self.paint_value(buf, plan, at, bar)
+        self.paint_label(buf, plan, shown)?;
+        self.paint_value(buf, plan, shown)
     }
 }

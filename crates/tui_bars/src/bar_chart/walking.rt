@@ -9,9 +9,9 @@ ghost use Rattle.tui_bars.specs.Shown.{bars_of, shown_data};
 ghost use Rattle.tui_cells.specs.Layers.{KeptOutside, Painted};
 ghost use Rattle.tui_cells.specs.Rect.{covers};
 
-use crate::bar::Bar;
 use crate::bar_chart::BarChart;
-use crate::plan::{Pass, Walk};
+use crate::plan::{Pass, Stretch, Walk};
+use crate::shown_bar::ShownBar;
 use crate::shown_group::ShownGroup;
 use std::alloc::Global;
 use tui_cells::{Buffer, Mem};
@@ -24,18 +24,17 @@ impl<'a> BarChart<'a> {
         alloc: Global,
         buf: &mut Buffer,
         walk: Walk,
-        at: u16,
-        bar: &Bar<'a>,
+        shown: ShownBar<'_, 'a>,
     ) -> Mem<()>
         ensures ok { OnOk result (Painted (bar_layers (bar_chart_data self.now) walk.plan walk.pass
-            (record { at = at; bar = bar_data bar.now })) buf.old buf.new) }
+            (record { at = shown.entry.at; bar = bar_data shown.entry.bar.now })) buf.old buf.new) }
         ensures kept { KeptOutside (covers walk.plan.area) buf.old buf.new }
-        ensures allocation_free { AreAllocationFreeLevels (bar_chart_data self.now).symbols → IsAllocationFreeBar (direction_of walk.pass) (bar_data bar.now) → IsOk result }
+        ensures allocation_free { AreAllocationFreeLevels (bar_chart_data self.now).symbols → IsAllocationFreeBar (direction_of walk.pass) (bar_data shown.entry.bar.now) → IsOk result }
     {
         match walk.pass {
-            Pass::Columns => self.paint_column(alloc, buf, walk.plan, at, bar),
-            Pass::Texts => self.paint_texts(buf, walk.plan, at, bar),
-            Pass::Rows => self.paint_row(alloc, buf, walk.plan, at, bar),
+            Pass::Columns => self.paint_column(alloc, buf, walk.plan, shown),
+            Pass::Texts => self.paint_texts(buf, walk.plan, shown),
+            Pass::Rows => self.paint_row(alloc, buf, walk.plan, shown),
         }
     }
 
@@ -57,7 +56,7 @@ impl<'a> BarChart<'a> {
         let mut place = shown.at;
         'bars: for j in 0..shown.count {
             let bar = &shown.group.bars[j];
-            self.paint_bar(alloc, buf, walk, place, bar)?;
+            self.paint_bar(alloc, buf, walk, ShownBar { at: place, bar })?;
             place = self.step(place);
         }
         Ok(())
@@ -112,23 +111,22 @@ impl<'a> BarChart<'a> {
         self.paint_group(alloc, buf, walk, shown)
     }
 
-    /// Draws the groups that are shown in `room` columns or rows from `first` on.
+    /// Draws the groups that are shown in these columns or rows.
     pub(super) fn paint_walk(
         &self,
         alloc: Global,
         buf: &mut Buffer,
         walk: Walk,
-        first: u16,
-        room: u16,
+        stretch: Stretch,
     ) -> Mem<()>
         requires { 0 < (bar_chart_data self.now).width }
-        ensures ok { OnOk result (Painted (walk_layers (bar_chart_data self.now) walk.plan walk.pass first room) buf.old buf.new) }
+        ensures ok { OnOk result (Painted (walk_layers (bar_chart_data self.now) walk.plan walk.pass stretch.first stretch.room) buf.old buf.new) }
         ensures kept { KeptOutside (covers walk.plan.area) buf.old buf.new }
         ensures allocation_free { AreAllocationFreeLevels (bar_chart_data self.now).symbols
             → All (IsAllocationFreeGroup (direction_of walk.pass)) (bar_chart_data self.now).groups → IsOk result }
     {
-        let mut at = first;
-        let mut space = room;
+        let mut at = stretch.first;
+        let mut space = stretch.room;
         'groups: for i in 0..self.groups.len() {
             let group = &self.groups[i];
             let bars = group.len();

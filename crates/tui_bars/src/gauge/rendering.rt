@@ -26,7 +26,7 @@ ghost use Rattle.tui_frames.specs.Footprint.{footprint_if};
 ghost use Rattle.tui_text.specs.Setting.{AreAllocationFree};
 ghost use Rattle.tui_text.specs.Span.{span_data};
 
-use crate::areas::fill_clipped;
+use crate::areas::{StyledSymbol, fill_clipped};
 use crate::gauge::Gauge;
 use crate::percent::{eighths_of, percent_text, rounded_columns, whole_columns};
 use std::alloc::Global;
@@ -136,8 +136,11 @@ impl<'a> Gauge<'a> {
         if !self.use_unicode || self.share.num >= self.share.den {
             return Ok(());
         }
-        let symbol = eighth(eighths_of(area.width, self.share));
-        fill_clipped(alloc, buf, area, tip_area(area, fill), symbol, Style::new())
+        let content = StyledSymbol {
+            symbol: eighth(eighths_of(area.width, self.share)),
+            style: Style::new(),
+        };
+        fill_clipped(alloc, buf, area, tip_area(area, fill), content)
     }
 
     /// Returns how many columns are filled: only whole ones if the next one is drawn in part, otherwise rounded.
@@ -167,18 +170,17 @@ impl<'a> Gauge<'a> {
         let width = label_width(area, label);
         let under = label_area(area, fill, width);
         let place = label_place(area, width);
-        let filled = filled_style(self.gauge_style);
-        let swapped = swapped_style(self.gauge_style);
+        let filled = StyledSymbol {
+            symbol: block::FULL,
+            style: filled_style(self.gauge_style),
+        };
+        let swapped = StyledSymbol {
+            symbol: " ",
+            style: swapped_style(self.gauge_style),
+        };
         buf.set_style(area, self.gauge_style);
-        fill_clipped(
-            alloc,
-            buf,
-            area,
-            filled_area(area, fill),
-            block::FULL,
-            filled,
-        )?;
-        fill_clipped(alloc, buf, area, under, " ", swapped)?;
+        fill_clipped(alloc, buf, area, filled_area(area, fill), filled)?;
+        fill_clipped(alloc, buf, area, under, swapped)?;
         self.paint_tip(alloc, buf, area, fill)?;
         set_span_in(buf, area, place, label, usize::from(width))?;
         Ok(())

@@ -10,7 +10,7 @@ ghost use Rattle.tui_cells.specs.Rect.{covers, is_empty};
 ghost use Rattle.tui_frames.specs.Footprint.{footprint_if};
 ghost use Rattle.tui_text.specs.Painting.{cells_at};
 
-use crate::areas::fill_clipped;
+use crate::areas::{StyledSymbol, fill_clipped};
 use crate::line_gauge::LineGauge;
 use crate::percent::{percent_label, whole_columns};
 use std::alloc::Global;
@@ -67,22 +67,16 @@ impl<'a> LineGauge<'a> {
             area.y,
             columns.saturating_sub(count),
         );
-        fill_clipped(
-            alloc,
-            buf,
-            area,
-            filled,
-            self.filled_symbol,
-            self.filled_style,
-        )?;
-        fill_clipped(
-            alloc,
-            buf,
-            area,
-            rest,
-            self.unfilled_symbol,
-            self.unfilled_style,
-        )
+        let full = StyledSymbol {
+            symbol: self.filled_symbol,
+            style: self.filled_style,
+        };
+        let empty = StyledSymbol {
+            symbol: self.unfilled_symbol,
+            style: self.unfilled_style,
+        };
+        fill_clipped(alloc, buf, area, filled, full)?;
+        fill_clipped(alloc, buf, area, rest, empty)
     }
 
     /// Draws the line gauge inside the block.

@@ -8,7 +8,7 @@ ghost use Rattle.tui_cells.specs.Layers.{KeptOutside, Painted};
 ghost use Rattle.tui_cells.specs.Rect.{covers, is_empty};
 ghost use Rattle.tui_frames.specs.Footprint.{footprint_if};
 
-use crate::areas::fill_clipped;
+use crate::areas::{StyledSymbol, fill_clipped};
 use crate::levels::{VerticalBar, paint_levels, ticks};
 use crate::render_direction::RenderDirection;
 use crate::sparkline::Sparkline;
@@ -16,6 +16,21 @@ use crate::sparkline_bar::SparklineBar;
 use std::alloc::Global;
 use tui_cells::{Buffer, Mem, Rect, Style, Widget};
 use tui_frames::{BlockExt, paint_if_some};
+
+/// What all bars of a sparkline share while it is drawn.
+#[derive(Clone, Copy)]
+struct SparklinePlan {
+    area: Rect,
+    /// The value that fills a column.
+    greatest: u64,
+}
+
+/// A bar and its index.
+#[derive(Clone, Copy)]
+struct IndexedBar {
+    index: u16,
+    bar: SparklineBar,
+}
 
 impl RenderDirection {
     /// Returns the column of bar `i`.
@@ -56,34 +71,35 @@ impl<'a> Sparkline<'a> {
         }
     }
 
-    /// Draws bar `i` in its column.
+    /// Draws a bar in its column.
     fn paint_bar(
         &self,
         alloc: Global,
         buf: &mut Buffer,
-        area: Rect,
-        greatest: u64,
-        i: u16,
-        bar: SparklineBar,
+        plan: SparklinePlan,
+        indexed: IndexedBar,
     ) -> Mem<()>
-        requires { i < area.width }
-        ensures ok { OnOk result (Painted (bar_layers (sparkline_data self.now) area greatest i (sparkline_bar_data bar)) buf.old buf.new) }
-        ensures kept { KeptOutside (covers area) buf.old buf.new }
+        requires { indexed.index < plan.area.width }
+        ensures ok { OnOk result (Painted (bar_layers (sparkline_data self.now) plan.area plan.greatest indexed.index (sparkline_bar_data indexed.bar)) buf.old buf.new) }
+        ensures kept { KeptOutside (covers plan.area) buf.old buf.new }
         ensures allocation_free { IsAllocationFreeSparkline (sparkline_data self.now) → IsOk result }
     {
-        let column = self.column_at(area, i);
-        match bar.value {
+        let column = self.column_at(plan.area, indexed.index);
+        match indexed.bar.value {
             None => {
-                let style = self.style.patch(self.absent_value_style);
-                fill_clipped(alloc, buf, area, column, self.absent_value_symbol, style)
+                let content = StyledSymbol {
+                    symbol: self.absent_value_symbol,
+                    style: self.style.patch(self.absent_value_style),
+                };
+                fill_clipped(alloc, buf, plan.area, column, content)
             }
             Some(value) => {
                 let vertical = VerticalBar {
                     area: column,
-                    filled: ticks(greatest, value, column.height),
-                    style: self.style.patch(bar.style.unwrap_or(Style::new())),
+                    filled: ticks(plan.greatest, value, column.height),
+                    style: self.style.patch(indexed.bar.style.unwrap_or(Style::new())),
                 };
-                paint_levels(alloc, buf, area, &self.bar_set, vertical)
+                paint_levels(alloc, buf, plan.area, &self.bar_set, vertical)
             }
         }
     }
@@ -94,11 +110,22 @@ impl<'a> Sparkline<'a> {
         ensures kept { KeptOutside (covers area) buf.old buf.new }
         ensures allocation_free { IsAllocationFreeSparkline (sparkline_data self.now) → IsOk result }
     {
-        let greatest = self.greatest();
+        let plan = SparklinePlan {
+            area,
+            greatest: self.greatest(),
+        };
         let count = self.bars.len().min(area.width as usize);
         'bars: for i in 0..count {
             let bar = self.bars[i];
-            self.paint_bar(alloc, buf, area, greatest, i as u16, bar)?;
+            self.paint_bar(
+                alloc,
+                buf,
+                plan,
+                IndexedBar {
+                    index: i as u16,
+                    bar,
+                },
+            )?;
         }
         Ok(())
     }

@@ -5,7 +5,7 @@ use Rattle.tui_layout.specs.declared.direction.Direction.TheVariants.{Horizontal
 use Rattle.tui_bars.proofs.bar_chart.BarChart.paint_row.Goals as goal
 
 pub returns-clause-ok : goal.returns-clause-ok
-returns-clause-ok c = row_painted _ _ _ _ (bar_data c.args.bar.now) _ _ _ _ _ _ _ _ _ _ c.filled_of-filled.ensures c.middle_of-middle.ensures c.patch-style.ensures c.patch-value_style.ensures
+returns-clause-ok c = row_painted _ _ _ _ (bar_data c.args.shown.bar.now) _ _ _ _ _ _ _ _ _ _ c.filled_of-filled.ensures c.middle_of-middle.ensures c.patch-style.ensures c.patch-value_style.ensures
     c.value_text-text.ensures.is c.in_ok-paint_strip.ensures.ok c.in_ok-paint_left.ensures.ok c.in_ok-paint_within.ensures.ok c.paint_beyond.ensures.ok
 
 pub returns-clause-allocation_free : goal.returns-clause-allocation_free

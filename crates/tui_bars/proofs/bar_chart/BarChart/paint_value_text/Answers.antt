@@ -4,5 +4,5 @@ use Rattle.tui_bars.proofs.bar_chart.BarChart.paint_value_text.Goals as goal
 
 pub returns-clause-ok : goal.returns-clause-ok
 returns-clause-ok c =
-    value_text_painted (bar_chart_data c.args.self.now) c.args.plan c.args.at c.args.filled c.args.text.now c.args.style _ _ _ c.has_room.result
+    value_text_painted (bar_chart_data c.args.self.now) c.args.plan c.args.bar.at c.args.bar.filled c.args.styled.text.now c.args.styled.style _ _ _ c.has_room.result
     c.has_room.ensures (search) c.value_place-place.ensures c.in_ok-set_stringn_in.ensures.ok

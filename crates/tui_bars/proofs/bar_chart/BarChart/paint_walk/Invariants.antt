@@ -14,6 +14,6 @@ invariant-groups l = record {
   rest : (final : Screen) → Painted (flat_map (group_layers (bar_chart_data l.self) l.walk.plan l.walk.pass)
       (shown_groups (bar_chart_data l.self) l.at l.space (drop l.i (map group_data l.self.groups.items)))) l.buf final
       → Painted (flat_map (group_layers (bar_chart_data l.self) l.walk.plan l.walk.pass)
-      (shown_groups (bar_chart_data l.self) l.first l.room (bar_chart_data l.self).groups)) l.fn.buf final;
+      (shown_groups (bar_chart_data l.self) l.fn.stretch.first l.fn.stretch.room (bar_chart_data l.self).groups)) l.fn.buf final;
   kept : KeptOutside (covers l.walk.plan.area) l.fn.buf l.buf;
 }

@@ -8,7 +8,7 @@ pub returns-clause-ok : goal.returns-clause-ok
 returns-clause-ok c =
     labelled_painted _ (gauge_data c.args.self.now) (span_data c.args.label.now) _ _ _ _ _ _ _ _ _ _ _ _ _ _
     c.fill-fill.ensures c.label_width-width.ensures.is c.from.ensures c.label_area-under.ensures c.label_place-place.ensures c.filled_area.ensures
-    c.filled_style-filled.ensures c.swapped_style-swapped.ensures c.set_style.ensures c.in_ok-fill_clipped.ensures.ok c.in_ok-fill_clipped-2.ensures.ok
+    c.filled_style.ensures c.swapped_style.ensures c.set_style.ensures c.in_ok-fill_clipped.ensures.ok c.in_ok-fill_clipped-2.ensures.ok
     c.in_ok-paint_tip.ensures.ok c.in_ok-set_span_in.ensures.ok
 
 pub returns-in_err-set_span_in-clause-kept : goal.returns-in_err-set_span_in-clause-kept
