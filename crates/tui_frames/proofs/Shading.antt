@@ -135,12 +135,21 @@ part_in area base side x y out =
 pub over_kept : (R : ℕ → ℕ → Bool) (es : List Edit) (a b : Screen) → Painted (over R es) a b → KeptOutside R a b
 over_kept R es a b p = Painted-kept (StayIn-over R es) p
 
+-- what keeps all cells outside a side, and edits of a side, keep all cells outside the shadow
+pub outside_kept : (area base : Rect) (side : Side) (a b : Screen) → KeptOutside (covers (intersection_of area (side_of base side))) a b →
+    KeptOutside (in_shadow area base) a b
+outside_kept area base side a b p = KeptOutside-weaker (part_in area base side) p
+
+pub edits_kept : (area base : Rect) (side : Side) (es : List Edit) (a b : Screen) →
+    Painted (over (covers (intersection_of area (side_of base side))) es) a b → KeptOutside (in_shadow area base) a b
+edits_kept area base side es a b p = outside_kept area base side a b (over_kept _ es a b p)
+
 -- whatever the result, filling a side keeps all cells outside the shadow
 pub side_kept : {T E : Type 0} (result : Result T E) (area base : Rect) (side : Side) (es : List Edit) (a b : Screen) →
     OnOk result (Painted (over (covers (intersection_of area (side_of base side))) es) a b) →
     OnErr result (KeptOutside (covers (intersection_of area (side_of base side))) a b) → KeptOutside (in_shadow area base) a b
-side_kept (Ok x) area base side es a b p q = KeptOutside-weaker (part_in area base side) (over_kept _ es a b p)
-side_kept (Err x) area base side es a b p q = KeptOutside-weaker (part_in area base side) q
+side_kept (Ok x) area base side es a b p q = edits_kept area base side es a b p
+side_kept (Err x) area base side es a b p q = outside_kept area base side a b q
 
 -- a symbol and a style can be set in either order
 pub swapped : (R : ℕ → ℕ → Bool) (text : List ℕ) (style : Style) (a b : Screen) →

@@ -9,7 +9,7 @@ ghost use Rattle.tui_frames.specs.Drawing.{shadow_drawing};
 
 pub(crate) mod parts;
 
-use crate::shadow::parts::{dim_outside, fill_outside, set_style_outside};
+use crate::shadow::parts::{Brush, dim_outside, fill_outside, set_style_outside};
 use std::alloc::Global;
 use tui_cells::{Buffer, Mem, Offset, Rect, Style, Styled, Widget, shade};
 
@@ -118,7 +118,13 @@ impl<'a> Shadow<'a> {
                 set_style_outside(buf, area, base, self.style);
                 Ok(())
             }
-            ShadowKind::Symbol(text) => fill_outside(alloc, buf, area, base, text, self.style),
+            ShadowKind::Symbol(symbol) => {
+                let brush = Brush {
+                    symbol,
+                    style: self.style,
+                };
+                fill_outside(alloc, buf, area, base, brush)
+            }
             ShadowKind::Dimmed => {
                 set_style_outside(buf, area, base, self.style);
                 dim_outside(buf, area, base);

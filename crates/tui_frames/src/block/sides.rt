@@ -1,6 +1,6 @@
 //! The sides and corners of a block.
 
-ghost use Rattle.std.specs.Prelude.{◌≡◌, ◌≤◌, ◌&&◌, [], ◌∷◌, IsOk, OnOk, true};
+ghost use Rattle.std.specs.Prelude.{◌≡◌, ◌≤◌, ◌&&◌, [], ◌∷◌, IsOk, OnOk};
 ghost use Rattle.tui_cells.specs.Cell.{IsAllocationFree, set_style, merge};
 ghost use Rattle.tui_cells.specs.Layers.{KeptOutside, Painted, over};
 ghost use Rattle.tui_cells.specs.Rect.{covers};
@@ -26,29 +26,22 @@ ghost use Rattle.tui_frames.specs.Strokes.{
 use crate::block::Block;
 use crate::borders::Borders;
 use std::alloc::Global;
-use tui_cells::{Buffer, Mem, MergeStrategy, Rect, Style};
+use tui_cells::{Buffer, Mem, MergeStrategy, Position, Rect};
 
-/// Joins a symbol with those in an area, and sets a style there.
-fn join(
-    alloc: Global,
-    buf: &mut Buffer,
-    area: Rect,
-    strategy: MergeStrategy,
-    symbol: &str,
-    style: Style,
-) -> Mem<()>
-    ensures ok { OnOk result (Painted (over (covers area) (merge strategy symbol.now ∷ set_style style ∷ [])) buf.old buf.new) }
-    ensures kept { KeptOutside (covers area) buf.old buf.new }
-    ensures allocation_free { IsAllocationFree symbol.now → IsOk result }
-{
-    match strategy {
-        MergeStrategy::Replace => buf.fill(alloc, area, symbol, style),
-        _ => {
-            buf.merge(area, symbol, strategy)?;
-            buf.set_style(area, style);
-            Ok(())
-        }
-    }
+/// A side of the border: its part of the clip, and its symbol.
+#[derive(Clone, Copy)]
+struct BorderSide<'s> {
+    border: Borders,
+    part: Rect,
+    symbol: &'s str,
+}
+
+/// A corner of the border: the two borders that meet there, its cell, and its symbol.
+#[derive(Clone, Copy)]
+struct BorderCorner<'s> {
+    borders: (Borders, Borders),
+    cell: Position,
+    symbol: &'s str,
 }
 
 fn joins(strategy: MergeStrategy) -> bool
@@ -92,12 +85,12 @@ pub(crate) fn row_of(clip: Rect, y: u16) -> Rect
     }
 }
 
-fn cell_at(x: u16, y: u16) -> Rect
-    ensures { result ≡ cells_at x y 1 }
+fn cell_at(position: Position) -> Rect
+    ensures { result ≡ cells_at position.x position.y 1 }
 {
     Rect {
-        x,
-        y,
+        x: position.x,
+        y: position.y,
         width: 1,
         height: 1,
     }
@@ -136,47 +129,39 @@ impl<'a> Block<'a> {
         row_of(clip, y).columns_from(first, clip.width.saturating_sub(first + last))
     }
 
-    /// Paints the symbol and the border style in a part of the clip.
-    fn paint_border(
-        &self,
-        alloc: Global,
-        buf: &mut Buffer,
-        clip: Rect,
-        part: Rect,
-        symbol: &str,
-    ) -> Mem<()>
-        ensures ok { OnOk result (Painted (border_layers (block_data self.now) clip true part symbol.now) buf.old buf.new) }
-        ensures kept { KeptOutside (covers clip) buf.old buf.new }
+    /// Joins a symbol with those in an area, and sets the border style there.
+    fn paint_border(&self, alloc: Global, buf: &mut Buffer, area: Rect, symbol: &str) -> Mem<()>
+        ensures ok { OnOk result
+            (Painted (over (covers area) (merge (block_data self.now).strategy symbol.now ∷ set_style (block_data self.now).border_style ∷ [])) buf.old buf.new) }
+        ensures kept { KeptOutside (covers area) buf.old buf.new }
         ensures allocation_free { IsAllocationFree symbol.now → IsOk result }
     {
-        let part = clip.intersection(part);
-        join(
-            alloc,
-            buf,
-            part,
-            self.merge_borders,
-            symbol,
-            self.border_style,
-        )
+        match self.merge_borders {
+            MergeStrategy::Replace => buf.fill(alloc, area, symbol, self.border_style),
+            strategy => {
+                buf.merge(area, symbol, strategy)?;
+                buf.set_style(area, self.border_style);
+                Ok(())
+            }
+        }
     }
 
-    /// Paints a side in its part of the clip, if its border is set.
+    /// Paints a side, if its border is set.
     fn paint_side(
         &self,
         alloc: Global,
         buf: &mut Buffer,
         clip: Rect,
-        side: Borders,
-        part: Rect,
-        symbol: &str,
+        side: BorderSide<'_>,
     ) -> Mem<()>
         ensures ok { OnOk result
-            (Painted (border_layers (block_data self.now) clip (has (block_data self.now).borders side.bits) part symbol.now) buf.old buf.new) }
+            (Painted (border_layers (block_data self.now) clip (has (block_data self.now).borders side.entry.border.bits)
+            side.entry.part side.entry.symbol.now) buf.old buf.new) }
         ensures kept { KeptOutside (covers clip) buf.old buf.new }
-        ensures allocation_free { IsAllocationFreeIf (has (block_data self.now).borders side.bits) symbol.now → IsOk result }
+        ensures allocation_free { IsAllocationFreeIf (has (block_data self.now).borders side.entry.border.bits) side.entry.symbol.now → IsOk result }
     {
-        if self.has(side) {
-            self.paint_border(alloc, buf, clip, part, symbol)
+        if self.has(side.border) {
+            self.paint_border(alloc, buf, clip.intersection(side.part), side.symbol)
         } else {
             Ok(())
         }
@@ -189,21 +174,30 @@ impl<'a> Block<'a> {
         ensures allocation_free { AreAllocationFreeBorders (block_data self.now) → IsOk result }
     {
         let set = self.border_set;
-        let left = self.column_side(clip, clip.x);
-        let top = self.row_side(clip, clip.y);
-        let right = self.column_side(clip, last_column(clip));
-        let bottom = self.row_side(clip, last_row(clip));
-        self.paint_side(alloc, buf, clip, Borders::LEFT, left, set.vertical_left)?;
-        self.paint_side(alloc, buf, clip, Borders::TOP, top, set.horizontal_top)?;
-        self.paint_side(alloc, buf, clip, Borders::RIGHT, right, set.vertical_right)?;
-        self.paint_side(
-            alloc,
-            buf,
-            clip,
-            Borders::BOTTOM,
-            bottom,
-            set.horizontal_bottom,
-        )
+        let left = BorderSide {
+            border: Borders::LEFT,
+            part: self.column_side(clip, clip.x),
+            symbol: set.vertical_left,
+        };
+        let top = BorderSide {
+            border: Borders::TOP,
+            part: self.row_side(clip, clip.y),
+            symbol: set.horizontal_top,
+        };
+        let right = BorderSide {
+            border: Borders::RIGHT,
+            part: self.column_side(clip, last_column(clip)),
+            symbol: set.vertical_right,
+        };
+        let bottom = BorderSide {
+            border: Borders::BOTTOM,
+            part: self.row_side(clip, last_row(clip)),
+            symbol: set.horizontal_bottom,
+        };
+        self.paint_side(alloc, buf, clip, left)?;
+        self.paint_side(alloc, buf, clip, top)?;
+        self.paint_side(alloc, buf, clip, right)?;
+        self.paint_side(alloc, buf, clip, bottom)
     }
 
     /// Paints a corner, if both borders that meet there are set.
@@ -212,20 +206,20 @@ impl<'a> Block<'a> {
         alloc: Global,
         buf: &mut Buffer,
         clip: Rect,
-        sides: (Borders, Borders),
-        cell: (u16, u16),
-        symbol: &str,
+        corner: BorderCorner<'_>,
     ) -> Mem<()>
         ensures ok { OnOk result
-            (Painted (corner_layers (block_data self.now) clip sides.0.bits sides.1.bits cell.0 cell.1 symbol.now) buf.old buf.new) }
+            (Painted (corner_layers (block_data self.now) clip corner.entry.borders.0.bits corner.entry.borders.1.bits
+            corner.entry.cell.x corner.entry.cell.y corner.entry.symbol.now) buf.old buf.new) }
         ensures kept { KeptOutside (covers clip) buf.old buf.new }
-        ensures allocation_free { IsAllocationFreeIf (has (block_data self.now).borders sides.0.bits && has (block_data self.now).borders sides.1.bits) symbol.now
-            → IsOk result }
+        ensures allocation_free { IsAllocationFreeIf
+            (has (block_data self.now).borders corner.entry.borders.0.bits && has (block_data self.now).borders corner.entry.borders.1.bits)
+            corner.entry.symbol.now → IsOk result }
     {
-        let is_set = self.has(sides.0) & self.has(sides.1);
+        let is_set = self.has(corner.borders.0) & self.has(corner.borders.1);
         if is_set {
-            let (x, y) = cell;
-            self.paint_border(alloc, buf, clip, cell_at(x, y), symbol)
+            let area = clip.intersection(cell_at(corner.cell));
+            self.paint_border(alloc, buf, area, corner.symbol)
         } else {
             Ok(())
         }
@@ -238,44 +232,34 @@ impl<'a> Block<'a> {
         ensures allocation_free { AreAllocationFreeBorders (block_data self.now) → IsOk result }
     {
         let set = self.border_set;
-        let (top, right, bottom, left) = (
-            Borders::TOP,
-            Borders::RIGHT,
-            Borders::BOTTOM,
-            Borders::LEFT,
-        );
-        let (last_x, last_y) = (last_column(clip), last_row(clip));
-        self.paint_corner(
-            alloc,
-            buf,
-            clip,
-            (bottom, right),
-            (last_x, last_y),
-            set.bottom_right,
-        )?;
-        self.paint_corner(
-            alloc,
-            buf,
-            clip,
-            (top, right),
-            (last_x, clip.y),
-            set.top_right,
-        )?;
-        self.paint_corner(
-            alloc,
-            buf,
-            clip,
-            (bottom, left),
-            (clip.x, last_y),
-            set.bottom_left,
-        )?;
-        self.paint_corner(
-            alloc,
-            buf,
-            clip,
-            (top, left),
-            (clip.x, clip.y),
-            set.top_left,
-        )
+        let (left, top) = (clip.x, clip.y);
+        let (right, bottom) = (last_column(clip), last_row(clip));
+        let bottom_right = BorderCorner {
+            borders: (Borders::BOTTOM, Borders::RIGHT),
+            cell: Position {
+                x: right,
+                y: bottom,
+            },
+            symbol: set.bottom_right,
+        };
+        let top_right = BorderCorner {
+            borders: (Borders::TOP, Borders::RIGHT),
+            cell: Position { x: right, y: top },
+            symbol: set.top_right,
+        };
+        let bottom_left = BorderCorner {
+            borders: (Borders::BOTTOM, Borders::LEFT),
+            cell: Position { x: left, y: bottom },
+            symbol: set.bottom_left,
+        };
+        let top_left = BorderCorner {
+            borders: (Borders::TOP, Borders::LEFT),
+            cell: Position { x: left, y: top },
+            symbol: set.top_left,
+        };
+        self.paint_corner(alloc, buf, clip, bottom_right)?;
+        self.paint_corner(alloc, buf, clip, top_right)?;
+        self.paint_corner(alloc, buf, clip, bottom_left)?;
+        self.paint_corner(alloc, buf, clip, top_left)
     }
 }

@@ -3,7 +3,7 @@
 ghost use Rattle.std.specs.Prelude.{◌≡◌, ◌+◌, ◌-◌, ◌<◌, ◌≤◌, ◌++◌, [], ◌∷◌, List, min, IfOk, IsOk, OnOk, nat_lt, if◌then◌else◌};
 ghost use Rattle.tui_cells.specs.Buffer.{Screen};
 ghost use Rattle.tui_cells.specs.Layers.{KeptOutside, Painted};
-ghost use Rattle.tui_cells.specs.Rect.{covers};
+ghost use Rattle.tui_cells.specs.Rect.{columns_from, covers};
 ghost use Rattle.tui_frames.specs.Block.{block_data, title_data};
 ghost use Rattle.tui_frames.specs.AllocationFree.{AreAllocationFreeTitles};
 ghost use Rattle.tui_frames.specs.Strokes.{
@@ -46,28 +46,44 @@ fn place_of(position: TitlePosition, alignment: Alignment) -> TitlePlace
     }
 }
 
-/// The columns of a row that titles can use, and the clip of the block.
+/// Where the titles of a place are painted: the clip of the block, and the columns of a row that titles can use.
 #[derive(Clone, Copy)]
 struct Strip {
     clip: Rect,
     row: Rect,
+    place: TitlePlace,
+}
+
+/// The columns of a strip in which a title is painted, and the alignment of its line there.
+#[derive(Clone, Copy)]
+struct TitleColumns {
+    first: u16,
+    width: u16,
+    alignment: Alignment,
+}
+
+/// The column at which a title begins, and the column before which titles are cut.
+#[derive(Clone, Copy)]
+struct CutStart {
+    column: u16,
+    cut: u128,
 }
 
 /// Returns the width of a title that is cut at both ends.
-fn cut_width(strip: Rect, cut: u128, column: u16, width: u16) -> u16
-    requires { column < strip.width }
-    ensures is { result ≡ min width (strip.width - column) - (cut - column) }
-    ensures within { column + result ≤ strip.width }
+fn cut_width(strip: Rect, start: CutStart, width: u16) -> u16
+    requires { start.column < strip.width }
+    ensures is { result ≡ min width (strip.width - start.column) - (start.cut - start.column) }
+    ensures within { start.column + result ≤ strip.width }
 {
-    let hidden = cut.saturating_sub(u128::from(column));
-    let room = u128::from(width.min(strip.width - column));
+    let hidden = start.cut.saturating_sub(u128::from(start.column));
+    let room = u128::from(width.min(strip.width - start.column));
     room.saturating_sub(hidden) as u16
 }
 
-fn cut_alignment(cut: u128, column: u16) -> Alignment
-    ensures { result ≡ (if nat_lt column cut then Alignment.Right else Alignment.Left) }
+fn cut_alignment(start: CutStart) -> Alignment
+    ensures { result ≡ (if nat_lt start.column start.cut then Alignment.Right else Alignment.Left) }
 {
-    if u128::from(column) < cut {
+    if u128::from(start.column) < start.cut {
         Alignment::Right
     } else {
         Alignment::Left
@@ -75,69 +91,66 @@ fn cut_alignment(cut: u128, column: u16) -> Alignment
 }
 
 impl<'a> Block<'a> {
-    /// Returns the row of a side without the columns of borders that are set.
-    fn strip(&self, clip: Rect, position: TitlePosition) -> Strip
-        ensures { result ≡ record { clip = clip; row = strip_of (block_data self.now) clip position } }
+    /// Returns the strip of a place: the row of its side, without the columns of borders that are set.
+    fn strip(&self, clip: Rect, place: TitlePlace) -> Strip
+        ensures { result ≡ record { clip = clip; row = strip_of (block_data self.now) clip place.position; place = place } }
     {
         let left = self.left_edge();
         let right = self.right_edge();
-        let row = row_of(clip, row_at(clip, position));
+        let row = row_of(clip, row_at(clip, place.position));
         Strip {
             clip,
             row: row.columns_from(left, clip.width.saturating_sub(left + right)),
+            place,
         }
     }
 
-    /// Sets the title style and paints the line, in a part of a row.
+    /// Sets the title style and paints the line, in some columns of a strip.
     fn paint_title(
         &self,
         buf: &mut Buffer,
-        clip: Rect,
-        part: Rect,
-        alignment: Alignment,
+        strip: Strip,
+        columns: TitleColumns,
         line: &Line<'_>,
     ) -> Mem<()>
         ensures ok { OnOk result
-            (Painted (title_layers (block_data self.now) clip part alignment (line_data line.now)) buf.old buf.new) }
-        ensures kept { KeptOutside (covers clip) buf.old buf.new }
+            (Painted (title_layers (block_data self.now) strip.clip (columns_from strip.row columns.first columns.width) columns.alignment (line_data line.now))
+            buf.old buf.new) }
+        ensures kept { KeptOutside (covers strip.clip) buf.old buf.new }
         ensures allocation_free { AreAllocationFree (line_data line.now).spans → IsOk result }
     {
-        let part = clip.intersection(part);
-        buf.set_style(part, self.title_style);
-        paint_row(buf, part, line, alignment)
+        let part = strip.row.columns_from(columns.first, columns.width);
+        let area = strip.clip.intersection(part);
+        buf.set_style(area, self.title_style);
+        paint_row(buf, area, line, columns.alignment)
     }
 
-    /// Paints a title from a column on, if it belongs in a place. Returns the column of the next one.
-    fn paint_at(
-        &self,
-        buf: &mut Buffer,
-        strip: Strip,
-        column: u16,
-        place: TitlePlace,
-        title: &Title<'_>,
-    ) -> Mem<u32>
+    /// Paints a title from a column on, if it belongs in the strip. Returns the column of the next one.
+    fn paint_at(&self, buf: &mut Buffer, strip: Strip, column: u16, title: &Title<'_>) -> Mem<u32>
         requires { column < strip.row.width }
         ensures ok { IfOk result (λ next. (ts : List LineData) (final : Screen)
             → Painted (titles_from (block_data self.now) strip.clip strip.row next ts) buf.new final
-            → Painted (titles_from (block_data self.now) strip.clip strip.row column (titles_in (block_data self.now) place (title_data title.now ∷ []) ++ ts))
+            → Painted (titles_from (block_data self.now) strip.clip strip.row column (titles_in (block_data self.now) strip.place (title_data title.now ∷ []) ++ ts))
             buf.old final) }
         ensures kept { KeptOutside (covers strip.clip) buf.old buf.new }
         ensures allocation_free { AreAllocationFree (title_data title.now).line.spans → IsOk result }
     {
-        if !self.is_in(place, title) {
+        if !self.is_in(strip.place, title) {
             return Ok(u32::from(column));
         }
-        let width = title_width(&title.line);
-        let part = strip.row.columns_from(column, width);
-        let alignment = title.line.line_alignment().unwrap_or(Alignment::Left);
-        self.paint_title(buf, strip.clip, part, alignment, &title.line)?;
-        Ok(u32::from(column) + u32::from(width) + 1)
+        let columns = TitleColumns {
+            first: column,
+            width: title_width(&title.line),
+            alignment: title.line.line_alignment().unwrap_or(Alignment::Left),
+        };
+        self.paint_title(buf, strip, columns, &title.line)?;
+        Ok(u32::from(column) + u32::from(columns.width) + 1)
     }
 
-    /// Paints the titles of a place from a column on, while there is room.
-    fn paint_from(&self, buf: &mut Buffer, strip: Strip, column: u16, place: TitlePlace) -> Mem<()>
+    /// Paints the titles of a strip from a column on, while there is room.
+    fn paint_from(&self, buf: &mut Buffer, strip: Strip, column: u16) -> Mem<()>
         ensures ok { OnOk result
-            (Painted (titles_from (block_data self.now) strip.clip strip.row column (titles_in (block_data self.now) place (block_data self.now).titles))
+            (Painted (titles_from (block_data self.now) strip.clip strip.row column (titles_in (block_data self.now) strip.place (block_data self.now).titles))
             buf.old buf.new) }
         ensures kept { KeptOutside (covers strip.clip) buf.old buf.new }
         ensures allocation_free { AreAllocationFreeTitles (block_data self.now).titles → IsOk result }
@@ -147,50 +160,45 @@ impl<'a> Block<'a> {
             if column >= u32::from(strip.row.width) {
                 return Ok(());
             }
-            column = self.paint_at(buf, strip, column as u16, place, title)?;
+            column = self.paint_at(buf, strip, column as u16, title)?;
         }
         Ok(())
     }
 
-    /// Paints a title that is cut at both ends, if it belongs in a place. Returns the column of the next one.
+    /// Paints a title that is cut at both ends, if it belongs in the strip. Returns the column of the next one.
     fn paint_cut_at(
         &self,
         buf: &mut Buffer,
         strip: Strip,
-        cut: u128,
-        column: u16,
-        place: TitlePlace,
+        start: CutStart,
         title: &Title<'_>,
     ) -> Mem<u32>
-        requires { column < strip.row.width }
+        requires { start.column < strip.row.width }
         ensures ok { IfOk result (λ next. (ts : List LineData) (final : Screen)
-            → Painted (titles_cut (block_data self.now) strip.clip strip.row cut next ts) buf.new final
-            → Painted (titles_cut (block_data self.now) strip.clip strip.row cut column
-            (titles_in (block_data self.now) place (title_data title.now ∷ []) ++ ts))
+            → Painted (titles_cut (block_data self.now) strip.clip strip.row start.cut next ts) buf.new final
+            → Painted (titles_cut (block_data self.now) strip.clip strip.row start.cut start.column
+            (titles_in (block_data self.now) strip.place (title_data title.now ∷ []) ++ ts))
             buf.old final) }
         ensures kept { KeptOutside (covers strip.clip) buf.old buf.new }
         ensures allocation_free { AreAllocationFree (title_data title.now).line.spans → IsOk result }
     {
-        if !self.is_in(place, title) {
-            return Ok(u32::from(column));
+        if !self.is_in(strip.place, title) {
+            return Ok(u32::from(start.column));
         }
-        let width = cut_width(strip.row, cut, column, title_width(&title.line));
-        let part = strip.row.columns_from(column, width);
-        self.paint_title(
-            buf,
-            strip.clip,
-            part,
-            cut_alignment(cut, column),
-            &title.line,
-        )?;
-        Ok(u32::from(column) + u32::from(width) + 1)
+        let columns = TitleColumns {
+            first: start.column,
+            width: cut_width(strip.row, start, title_width(&title.line)),
+            alignment: cut_alignment(start),
+        };
+        self.paint_title(buf, strip, columns, &title.line)?;
+        Ok(u32::from(start.column) + u32::from(columns.width) + 1)
     }
 
-    /// Paints the titles of a place, cut at both ends, while there is room.
-    fn paint_cut(&self, buf: &mut Buffer, strip: Strip, cut: u128, place: TitlePlace) -> Mem<()>
+    /// Paints the titles of a strip, cut at both ends, while there is room.
+    fn paint_cut(&self, buf: &mut Buffer, strip: Strip, cut: u128) -> Mem<()>
         ensures ok { OnOk result
             (Painted (titles_cut (block_data self.now) strip.clip strip.row cut 0
-            (titles_in (block_data self.now) place (block_data self.now).titles)) buf.old buf.new) }
+            (titles_in (block_data self.now) strip.place (block_data self.now).titles)) buf.old buf.new) }
         ensures kept { KeptOutside (covers strip.clip) buf.old buf.new }
         ensures allocation_free { AreAllocationFreeTitles (block_data self.now).titles → IsOk result }
     {
@@ -199,7 +207,11 @@ impl<'a> Block<'a> {
             if column >= u32::from(strip.row.width) {
                 return Ok(());
             }
-            column = self.paint_cut_at(buf, strip, cut, column as u16, place, title)?;
+            let start = CutStart {
+                column: column as u16,
+                cut,
+            };
+            column = self.paint_cut_at(buf, strip, start, title)?;
         }
         Ok(())
     }
@@ -227,60 +239,62 @@ impl<'a> Block<'a> {
         }
     }
 
-    /// Paints the titles of a place in the middle of a strip.
-    fn paint_middle(&self, buf: &mut Buffer, strip: Strip, place: TitlePlace) -> Mem<()>
+    /// Paints the titles of a strip in its middle.
+    fn paint_middle(&self, buf: &mut Buffer, strip: Strip) -> Mem<()>
         ensures ok { OnOk result
             (Painted (titles_in_middle (block_data self.now) strip.clip strip.row
-            (titles_in (block_data self.now) place (block_data self.now).titles)) buf.old buf.new) }
+            (titles_in (block_data self.now) strip.place (block_data self.now).titles)) buf.old buf.new) }
         ensures kept { KeptOutside (covers strip.clip) buf.old buf.new }
         ensures allocation_free { AreAllocationFreeTitles (block_data self.now).titles → IsOk result }
     {
-        let total = self.total(place);
+        let total = self.total(strip.place);
         let room = u128::from(strip.row.width);
         if total <= room {
             let column = (room - total) / 2;
-            return self.paint_from(buf, strip, column as u16, place);
+            return self.paint_from(buf, strip, column as u16);
         }
-        self.paint_cut(buf, strip, (total - room) / 2, place)
+        self.paint_cut(buf, strip, (total - room) / 2)
     }
 
-    /// Paints a title to the left of those that take the last `after` columns, if it belongs in a place. Returns the
+    /// Paints a title to the left of those that take the last `after` columns, if it belongs in the strip. Returns the
     /// number of columns that all of them take.
     fn paint_before(
         &self,
         buf: &mut Buffer,
         strip: Strip,
         after: u16,
-        place: TitlePlace,
         title: &Title<'_>,
     ) -> Mem<u32>
         requires { after < strip.row.width }
         ensures ok { IfOk result (λ next. (ts : List LineData) (first : Screen)
             → after ≡ spaced ts
             → Painted (titles_to_end (block_data self.now) strip.clip strip.row ts) first buf.old
-            → Painted (titles_to_end (block_data self.now) strip.clip strip.row (titles_in (block_data self.now) place (title_data title.now ∷ []) ++ ts))
+            → Painted (titles_to_end (block_data self.now) strip.clip strip.row (titles_in (block_data self.now) strip.place (title_data title.now ∷ []) ++ ts))
             first buf.new) }
-        ensures taken { IfOk result (λ next. next ≡ after + spaced (titles_in (block_data self.now) place (title_data title.now ∷ []))) }
+        ensures taken { IfOk result (λ next. next ≡ after + spaced (titles_in (block_data self.now) strip.place (title_data title.now ∷ []))) }
         ensures kept { KeptOutside (covers strip.clip) buf.old buf.new }
         ensures allocation_free { AreAllocationFree (title_data title.now).line.spans → IsOk result }
     {
-        if !self.is_in(place, title) {
+        if !self.is_in(strip.place, title) {
             return Ok(u32::from(after));
         }
         let width = title_width(&title.line);
         let end = strip.row.width - after;
         let shown = width.min(end);
-        let part = strip.row.columns_from(end - shown, shown);
-        let alignment = title.line.line_alignment().unwrap_or(Alignment::Left);
-        self.paint_title(buf, strip.clip, part, alignment, &title.line)?;
+        let columns = TitleColumns {
+            first: end - shown,
+            width: shown,
+            alignment: title.line.line_alignment().unwrap_or(Alignment::Left),
+        };
+        self.paint_title(buf, strip, columns, &title.line)?;
         Ok(u32::from(after) + u32::from(width) + 1)
     }
 
-    /// Paints the titles of a place up to the end of a strip, the last one first, while there is room.
-    fn paint_to_end(&self, buf: &mut Buffer, strip: Strip, place: TitlePlace) -> Mem<()>
+    /// Paints the titles of a strip up to its end, the last one first, while there is room.
+    fn paint_to_end(&self, buf: &mut Buffer, strip: Strip) -> Mem<()>
         ensures ok { OnOk result
             (Painted (titles_to_end (block_data self.now) strip.clip strip.row
-            (titles_in (block_data self.now) place (block_data self.now).titles)) buf.old buf.new) }
+            (titles_in (block_data self.now) strip.place (block_data self.now).titles)) buf.old buf.new) }
         ensures kept { KeptOutside (covers strip.clip) buf.old buf.new }
         ensures allocation_free { AreAllocationFreeTitles (block_data self.now).titles → IsOk result }
     {
@@ -291,7 +305,7 @@ impl<'a> Block<'a> {
                 return Ok(());
             }
             let title = &self.titles[count - 1 - i];
-            after = self.paint_before(buf, strip, after as u16, place, title)?;
+            after = self.paint_before(buf, strip, after as u16, title)?;
         }
         Ok(())
     }
@@ -308,12 +322,17 @@ impl<'a> Block<'a> {
         ensures kept { KeptOutside (covers clip) buf.old buf.new }
         ensures allocation_free { AreAllocationFreeTitles (block_data self.now).titles → IsOk result }
     {
-        let strip = self.strip(clip, position);
-        let left = place_of(position, Alignment::Left);
-        let middle = place_of(position, Alignment::Center);
-        let right = place_of(position, Alignment::Right);
-        self.paint_from(buf, strip, 0, left)?;
-        self.paint_middle(buf, strip, middle)?;
-        self.paint_to_end(buf, strip, right)
+        let left = self.strip(clip, place_of(position, Alignment::Left));
+        let middle = Strip {
+            place: place_of(position, Alignment::Center),
+            ..left
+        };
+        let right = Strip {
+            place: place_of(position, Alignment::Right),
+            ..left
+        };
+        self.paint_from(buf, left, 0)?;
+        self.paint_middle(buf, middle)?;
+        self.paint_to_end(buf, right)
     }
 }

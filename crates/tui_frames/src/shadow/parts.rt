@@ -3,12 +3,19 @@
 ghost use Rattle.std.specs.Prelude.{◌≡◌, [], ◌∷◌, IsOk, OnOk};
 ghost use Rattle.tui_cells.specs.Cell.{IsAllocationFree, dim, set_style, write};
 ghost use Rattle.tui_cells.specs.Layers.{KeptOutside, Painted, over};
-ghost use Rattle.tui_cells.specs.Rect.{covers, intersection_of};
+ghost use Rattle.tui_cells.specs.Rect.{intersection_of};
 ghost use Rattle.tui_frames.specs.Shadow.{in_shadow};
 ghost use Rattle.tui_frames.specs.Sides.{side_of};
 
 use std::alloc::Global;
 use tui_cells::{Buffer, Mem, Rect, Style};
+
+/// What is written in a cell: a symbol, with a style.
+#[derive(Clone, Copy)]
+pub(crate) struct Brush<'s> {
+    pub(crate) symbol: &'s str,
+    pub(crate) style: Style,
+}
 
 /// A side of a base.
 #[derive(Clone, Copy)]
@@ -78,37 +85,21 @@ pub(crate) fn set_style_outside(buf: &mut Buffer, area: Rect, base: Rect, style:
     buf.set_style(part(area, base, Side::RightOf), style);
 }
 
-/// Sets a style and writes a symbol in the cells of an area outside a base.
+/// Sets the style and writes the symbol of a brush in the cells of an area outside a base.
 pub(crate) fn fill_outside(
     alloc: Global,
     buf: &mut Buffer,
     area: Rect,
     base: Rect,
-    symbol: &str,
-    style: Style,
+    brush: Brush<'_>,
 ) -> Mem<()>
-    ensures ok { OnOk result (Painted (over (in_shadow area base) (set_style style ∷ write symbol.now ∷ [])) buf.old buf.new) }
+    ensures ok { OnOk result (Painted (over (in_shadow area base) (set_style brush.entry.style ∷ write brush.entry.symbol.now ∷ [])) buf.old buf.new) }
     ensures kept { KeptOutside (in_shadow area base) buf.old buf.new }
-    ensures allocation_free { IsAllocationFree symbol.now → IsOk result }
+    ensures allocation_free { IsAllocationFree brush.entry.symbol.now → IsOk result }
 {
-    fill_side(alloc, buf, area, base, Side::Above, symbol, style)?;
-    fill_side(alloc, buf, area, base, Side::Below, symbol, style)?;
-    fill_side(alloc, buf, area, base, Side::LeftOf, symbol, style)?;
-    fill_side(alloc, buf, area, base, Side::RightOf, symbol, style)
-}
-
-fn fill_side(
-    alloc: Global,
-    buf: &mut Buffer,
-    area: Rect,
-    base: Rect,
-    side: Side,
-    symbol: &str,
-    style: Style,
-) -> Mem<()>
-    ensures ok { OnOk result (Painted (over (covers (intersection_of area (side_of base side))) (set_style style ∷ write symbol.now ∷ [])) buf.old buf.new) }
-    ensures kept { KeptOutside (in_shadow area base) buf.old buf.new }
-    ensures allocation_free { IsAllocationFree symbol.now → IsOk result }
-{
-    buf.fill(alloc, part(area, base, side), symbol, style)
+    let Brush { symbol, style } = brush;
+    buf.fill(alloc, part(area, base, Side::Above), symbol, style)?;
+    buf.fill(alloc, part(area, base, Side::Below), symbol, style)?;
+    buf.fill(alloc, part(area, base, Side::LeftOf), symbol, style)?;
+    buf.fill(alloc, part(area, base, Side::RightOf), symbol, style)
 }

@@ -1,4 +1,4 @@
-use Rattle.std.proofs.Common.{◌≡◌, true, ◌∙◌, sym, rules}
+use Rattle.std.proofs.Common.{◌≡◌, true, refl, ◌∙◌, sym, rules}
 use Rattle.tui_frames.specs.Block.{block_data, title_data}
 use Rattle.tui_frames.specs.Titles.{is_in}
 use Rattle.tui_frames.proofs.TitleStrokes.{before_more}
@@ -6,8 +6,8 @@ use Rattle.tui_frames.proofs.block.Block.paint_before.Goals as goal
 
 pub returns-clause-ok : goal.returns-clause-ok
 returns-clause-ok c =
-    let here : is_in (block_data c.args.self.now) c.args.place (title_data c.args.title.now) ≡ true = sym c.is_in.ensures ∙ search rules in
-    before_more (block_data c.args.self.now) c.args.strip.clip c.args.strip.row c.columns_from-part.result c.args.after
-    c.title_width-width.result c.min-shown.result _ c.args.place
-    (title_data c.args.title.now) _ _ here c.title_width-width.ensures c.min-shown.ensures c.columns_from-part.ensures
-    (rw c.line_alignment.ensures at c.unwrap_or-alignment.ensures) c.in_ok-paint_title.ensures.ok
+    let here : is_in (block_data c.args.self.now) c.args.strip.place (title_data c.args.title.now) ≡ true = sym c.is_in.ensures ∙ search rules in
+    before_more (block_data c.args.self.now) c.args.strip.clip c.args.strip.row _ c.args.after
+    c.title_width-width.result c.min-shown.result _ c.args.strip.place
+    (title_data c.args.title.now) _ _ here c.title_width-width.ensures c.min-shown.ensures refl
+    (rw c.line_alignment.ensures at c.unwrap_or.ensures) c.in_ok-paint_title.ensures.ok

@@ -6,8 +6,8 @@ use Rattle.tui_frames.proofs.block.Block.paint_corners.Goals as goal
 pub returns-clause-ok : goal.returns-clause-ok
 unfolding corners_layers
 returns-clause-ok c =
-    let x = c.last_column-last_x.ensures in
-    let y = c.last_row-last_y.ensures in
+    let x = c.last_column-right.ensures in
+    let y = c.last_row-bottom.ensures in
     let first = rw (x, y) at c.in_ok-paint_corner.ensures.ok in
     let second = rw x at c.in_ok-paint_corner-2.ensures.ok in
     let third = rw y at c.in_ok-paint_corner-3.ensures.ok in

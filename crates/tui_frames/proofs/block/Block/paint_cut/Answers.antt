@@ -26,7 +26,7 @@ loop-title-preserved c =
     record {
       rest = λ final q. c.loop-title.invariant.rest final
           (one_more (titles_cut b c.args.strip.clip c.args.strip.row c.args.cut c.loop-title.column)
-          (titles_cut b c.args.strip.clip c.args.strip.row c.args.cut c.in_ok-column.column) b c.args.place
+          (titles_cut b c.args.strip.clip c.args.strip.row c.args.cut c.in_ok-column.column) b c.args.strip.place
           c.args.self.now.titles.items c.loop-title.title-index c.title-item.result _ _ _ final (omega arith) at c.in_ok-column.ensures.ok q);
       kept = KeptOutside-then c.loop-title.invariant.kept c.in_ok-column.ensures.kept;
     }
@@ -34,5 +34,5 @@ loop-title-preserved c =
 pub returns-clause-ok : goal.returns-clause-ok
 returns-clause-ok c =
     c.loop-title.invariant.rest _
-    (cut_done (block_data c.args.self.now) c.args.strip.clip c.args.strip.row c.args.cut c.loop-title.column c.args.place
+    (cut_done (block_data c.args.self.now) c.args.strip.clip c.args.strip.row c.args.cut c.loop-title.column c.args.strip.place
     c.args.self.now.titles.items c.loop-title.title-index _ (omega arith))

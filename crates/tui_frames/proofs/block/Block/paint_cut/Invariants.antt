@@ -12,8 +12,8 @@ abbrev pub invariant-loop-title : goal.invariant-loop-title
 invariant-loop-title l = record {
   rest : (final : Screen) →
       Painted (titles_cut (block_data l.self) l.strip.clip l.strip.row l.cut l.column
-      (titles_in (block_data l.self) l.place (map title_data (drop l.title-index l.self.titles.items)))) l.buf final →
+      (titles_in (block_data l.self) l.strip.place (map title_data (drop l.title-index l.self.titles.items)))) l.buf final →
       Painted (titles_cut (block_data l.self) l.strip.clip l.strip.row l.cut 0
-      (titles_in (block_data l.self) l.place (map title_data l.self.titles.items))) l.fn.buf final;
+      (titles_in (block_data l.self) l.strip.place (map title_data l.self.titles.items))) l.fn.buf final;
   kept : KeptOutside (covers l.strip.clip) l.fn.buf l.buf;
 }

@@ -25,7 +25,7 @@ loop-title-preserved c =
     let at = rw c.deref-title-items.ensures.value at c.title-item.is in
     record {
       rest = λ final q. c.loop-title.invariant.rest final
-          (one_more (titles_from b c.args.strip.clip c.args.strip.row c.loop-title.column) (titles_from b c.args.strip.clip c.args.strip.row c.in_ok-column.column) b c.args.place
+          (one_more (titles_from b c.args.strip.clip c.args.strip.row c.loop-title.column) (titles_from b c.args.strip.clip c.args.strip.row c.in_ok-column.column) b c.args.strip.place
           c.args.self.now.titles.items c.loop-title.title-index c.title-item.result _ _ _ final (omega arith) at c.in_ok-column.ensures.ok q);
       kept = KeptOutside-then c.loop-title.invariant.kept c.in_ok-column.ensures.kept;
     }
@@ -33,5 +33,5 @@ loop-title-preserved c =
 pub returns-clause-ok : goal.returns-clause-ok
 returns-clause-ok c =
     c.loop-title.invariant.rest _
-    (from_done (block_data c.args.self.now) c.args.strip.clip c.args.strip.row c.loop-title.column c.args.place
+    (from_done (block_data c.args.self.now) c.args.strip.clip c.args.strip.row c.loop-title.column c.args.strip.place
     c.args.self.now.titles.items c.loop-title.title-index _ (omega arith))

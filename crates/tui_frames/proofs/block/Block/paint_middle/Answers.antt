@@ -9,12 +9,12 @@ pub returns-then-total-room-clause-ok : goal.returns-then-total-room-clause-ok
 returns-then-total-room-clause-ok c =
     let b = block_data c.args.self.now in
     on_ok c.paint_from.result
-    (middle_fits b c.args.strip.clip c.args.strip.row (titles_in b c.args.place b.titles) _ c.total-total.result _ _ c.total-total.ensures (omega arith) (omega arith))
+    (middle_fits b c.args.strip.clip c.args.strip.row (titles_in b c.args.strip.place b.titles) _ c.total-total.result _ _ c.total-total.ensures (omega arith) (omega arith))
     c.paint_from.ensures.ok
 
 pub returns-clause-ok : goal.returns-clause-ok
 returns-clause-ok c =
     let b = block_data c.args.self.now in
     on_ok c.paint_cut.result
-    (middle_is_cut b c.args.strip.clip c.args.strip.row (titles_in b c.args.place b.titles) _ c.total-total.result _ _ c.total-total.ensures (omega arith) (omega arith))
+    (middle_is_cut b c.args.strip.clip c.args.strip.row (titles_in b c.args.strip.place b.titles) _ c.total-total.result _ _ c.total-total.ensures (omega arith) (omega arith))
     c.paint_cut.ensures.ok

@@ -10,7 +10,7 @@ use Rattle.tui_frames.proofs.block.Block.paint_to_end.Given as goal
 abbrev pub invariant-loop-i : goal.invariant-loop-i
 invariant-loop-i l = record {
   shown : Painted (titles_to_end (block_data l.self) l.strip.clip l.strip.row
-      (titles_in (block_data l.self) l.place (map title_data (drop (l.count - l.i) l.self.titles.items)))) l.fn.buf l.buf;
-  taken : l.after ≡ spaced (titles_in (block_data l.self) l.place (map title_data (drop (l.count - l.i) l.self.titles.items)));
+      (titles_in (block_data l.self) l.strip.place (map title_data (drop (l.count - l.i) l.self.titles.items)))) l.fn.buf l.buf;
+  taken : l.after ≡ spaced (titles_in (block_data l.self) l.strip.place (map title_data (drop (l.count - l.i) l.self.titles.items)));
   kept : KeptOutside (covers l.strip.clip) l.fn.buf l.buf;
 }
