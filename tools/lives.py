@@ -114,7 +114,7 @@ def browses(tmux):
     tmux.shows("the second piece", "│>1001 line 1001", "││line 1019")
     tmux.keys("C-c")
     tmux.ended("Ctrl-C of tui_browse", 130)
-    rejects(tmux, "tui_browse", [("text", 4, ["refused: not JSON"]), ("--text latin", 4, ["refused: not UTF-8"]), ("", 2, ["refused: usage"]), ("nothing", 6, [])])
+    rejects(tmux, "tui_browse", [("text", 4, ["refused: not JSON"]), ("--text latin", 4, ["refused: not UTF-8"]), ("", 2, ["refused: usage"]), ("nothing", 6, ["tui_browse: nothing: No such file or directory"])])
     (tmux.folder / "wrong.json").write_text('{"entries": [{"title": "one", "body": ""}, {"title": 2, "body": ""}]}', encoding="utf-8")
     (tmux.folder / "long.json").write_text('{"entries": []}'.ljust(LIMIT + 1), encoding="utf-8")
     rejects(tmux, "tui_browse", [("wrong.json", 5, ["refused: field title at 1"]), ("long.json", 3, ["refused: too long"])])
@@ -184,7 +184,7 @@ def goes_through_folders(tmux):
     tmux.keys("Enter", "Enter")
     tmux.ended("Enter at a file", 0)
     tmux.equal("the path that was chosen", (tmux.folder / "chosen").read_text(encoding="utf-8"), f"{folder.resolve()}/pear\n")
-    rejects(tmux, "tui_files", [("a b c", 2, ["refused: usage"]), ("nothing", 6, [])])
+    rejects(tmux, "tui_files", [("a b c", 2, ["refused: usage"]), ("nothing", 6, ["tui_files: nothing: No such file or directory"])])
 
 
 FORM = {"title": "Ask", "fields": [{"name": "who", "label": "Who?", "kind": "text", "needed": True}, {"name": "secret", "label": "Secret", "kind": "text", "mask": True},
@@ -219,7 +219,7 @@ def asks(tmux):
     tmux.shows("one Esc", "> Who? *")
     tmux.keys("Escape")
     tmux.ended("Esc twice", 1)
-    rejects(tmux, "tui_form", [("", 2, ["refused: usage"]), ("wrong.json", 5, ["refused: field title"]), ("nothing", 6, [])])
+    rejects(tmux, "tui_form", [("", 2, ["refused: usage"]), ("wrong.json", 5, ["refused: field title"]), ("nothing", 6, ["tui_form: nothing: No such file or directory"])])
 
 
 def watches(tmux):
@@ -239,6 +239,52 @@ def watches(tmux):
     tmux.text("q")
     tmux.ended("q of tui_watch", 0)
     rejects(tmux, "tui_watch", [("a b", 2, ["refused: usage"])])
+
+
+def fits_in_pipes(tmux):
+    """A form, a folder and a path in $( ), a text from a pipe, and `-` where standard input gives the keys."""
+    if not all(is_built(name) for name in ("tui_browse", "tui_files", "tui_form")):
+        return
+    house = tmux.folder.resolve() / "house"
+    (tmux.folder / "l").write_text("".join(f"{number:08}\n" for number in range(1, 100_001)), encoding="utf-8")
+    tmux.start("tui_form form.json", "> Who? *", "a=$(", ")")
+    tmux.text("Ada")
+    tmux.keys("C-z")
+    tmux.shows("Ctrl-Z is off while answers are captured", "> Who? *", "Ada")
+    tmux.keys("Enter")
+    tmux.ended("answers that are captured", 0)
+    tmux.equal("the answers in a variable", tmux.run('echo "$a"'), '{"who":"Ada","secret":"","room":"","bath":false}\n')
+    tmux.start("tui_form form.json", "> Who? *", "a=$(", ")")
+    tmux.keys("C-c")
+    tmux.ended("Ctrl-C while answers are captured", None, "")
+    tmux.start("tui_form - got", "> Who? *", "cat form.json|")
+    tmux.text("Bob")
+    tmux.keys("Enter")
+    tmux.ended("a form from a pipe", 0)
+    tmux.equal("the answers to a form from a pipe", (tmux.folder / "got").read_text(encoding="utf-8"), '{"who":"Bob","secret":"","room":"","bath":false}\n')
+    tmux.start("tui_form form.json - ", "> Who? *", "", "|cat")
+    tmux.text("Eve")
+    tmux.keys("Enter")
+    tmux.ended("answers on standard output", 0, '{"who":"Eve","secret":"","room":"","bath":false}')
+    for option, path in (("", house / "apple"), ("--folder ", house)):
+        tmux.start(f"tui_files {option}house", ">cellar/", "f=$(", ")")
+        tmux.text("jq")
+        tmux.ended(f"a path that is captured: {option}", 0)
+        tmux.equal(f"the path in a variable: {option}", tmux.run('echo "$f"'), f"{path}\n")
+    tmux.start("tui_browse --text -", "1/100", "cat l | ")
+    tmux.text("j")
+    tmux.shows("the second piece of a text from a pipe", "│>1001 00001001", "││00001001", "2/100")
+    tmux.resize(*NARROW)
+    tmux.shows("a text from a pipe on a narrow terminal", "│>1001", "2/100")
+    tmux.resize(*SIZE)
+    tmux.keys("C-z")
+    tmux.shows("Ctrl-Z after a pipe", "Stopped")
+    tmux.equal("stty -a after Ctrl-Z after a pipe", tmux.run("stty -a"), tmux.lines)
+    tmux.type("clear; fg; echo $? >status")
+    tmux.shows("fg after a pipe", "│>1001 00001001", "2/100")
+    tmux.text("q")
+    tmux.ended_after_fg("a text from a pipe", 0)
+    rejects(tmux, "tui_browse", [("-", 6, ["tui_browse: -: standard input gives the keys"])])
 
 
 def scene(text, width=20):
@@ -280,6 +326,11 @@ def shows_scenes(tmux):
     tmux.start("tui_view frames", "one", "./hold | ")
     os.kill(tmux.process("out/tui_view"), signal.SIGKILL)
     tmux.ended("scenes: killed", 137)
+    tmux.start("tui_view frames", "one", "./hold | ")
+    tmux.text("xyz")
+    tmux.keys("Enter", "Enter")
+    tmux.until("keys that are typed at scenes", lambda: tmux.screen() == "one")
+    tmux.ended("scenes at which keys were typed", 0)
     tmux.start("tui_view none", "refused")
     tmux.ended("tui_view none", 2, "refused: usage")
 
@@ -300,4 +351,4 @@ def keeps_a_list(tmux):
     tmux.ended("q of list_app_example", 0)
 
 
-PROGRAMS = (browses, cuts_texts, goes_through_folders, asks, watches, shows_scenes, keeps_a_list)
+PROGRAMS = (browses, cuts_texts, goes_through_folders, asks, watches, fits_in_pipes, shows_scenes, keeps_a_list)

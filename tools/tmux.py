@@ -81,12 +81,12 @@ class Tmux:
         self.text(line)
         self.keys("Enter")
 
-    def start(self, command, row="size", before=""):
+    def start(self, command, row="size", before="", after=""):
         """Starts ./live below three rows of a screen. Its exit status goes to the file `status`."""
         (self.folder / "status").unlink(missing_ok=True)
         self.type("clear; seq 3")
         self.until("a screen of three rows", lambda: self.screen() == "1\n2\n3\nready>")
-        self.job = f"{before}./live {command}"
+        self.job = f"{before}./live {command}{after}"
         self.line = f"{self.job}; echo $? >status"
         self.type(self.line)
         self.shows(f"the start of {command}", row)
@@ -99,13 +99,14 @@ class Tmux:
         """Expects that the program has ended, and that the terminal is as before, with the given output."""
         self.restored(name, status, ["1", "2", "3", f"ready> {self.line}", *output])
 
-    def ended_after_fg(self, name, status):
+    def ended_after_fg(self, name, status, *output):
         """Expects the same after `clear; fg; echo $? >status`. The shell then writes which job it continues."""
-        self.restored(name, status, [self.job])
+        self.restored(name, status, [self.job, *output])
 
     def restored(self, name, status, rows):
         """Expects an exit status, and that the terminal is as before, with these rows and the prompt on the screen."""
-        self.until(f"{name}: status {status}", lambda: self.status() == str(status))
+        if status is not None:
+            self.until(f"{name}: status {status}", lambda: self.status() == str(status))
         rows = [*rows, "ready>"]
         modes = self.modes.format(x=7, y=len(rows) - 1)
         self.until(f"{name}: the screen", lambda: self.screen() == "\n".join(rows))

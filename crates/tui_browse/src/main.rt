@@ -2,14 +2,12 @@
 //! provides.
 #![tactic(auto)]
 
-use std::io;
 use std::process::ExitCode;
-use tui_app::IoTerminal;
 use tui_browse_run::{BrowseEnded, file_named, run_program};
 use tui_cells::{Mem, NoMemory};
-use tui_io::{StdSink, StdSource};
-use tui_program::FileSource;
-use tui_system::{arguments, open_file, setting};
+use tui_system::{arguments, input, no_input, setting, terminal};
+
+const NAME: &str = "tui_browse";
 
 fn main(rt: HostRuntime) -> ExitCode {
     match browse(&rt) {
@@ -23,12 +21,12 @@ fn main(rt: HostRuntime) -> ExitCode {
 fn browse(rt: &HostRuntime) -> Mem<BrowseEnded> {
     let alloc = rt.alloc();
     let setting = setting(rt)?;
-    // If the arguments name no file, the empty name is opened. That fails, and nothing is read.
-    let file = match file_named(alloc, arguments(rt)?) {
-        Some(file) => file,
-        None => String::new(alloc),
+    let Some(mut terminal) = terminal(rt, NAME)? else {
+        return Ok(BrowseEnded::WriteFault);
     };
-    let mut source = FileSource::new(open_file(rt, file.as_str())?);
-    let mut terminal = IoTerminal::new(StdSource::new(rt.reader()), StdSink::new(io::writer(rt)));
+    let mut source = match file_named(alloc, arguments(rt)?) {
+        Some(file) => input(rt, NAME, file.as_str())?,
+        None => no_input::<HostRuntime>(),
+    };
     Ok(run_program(alloc, setting, arguments(rt)?, &mut source, &mut terminal))
 }

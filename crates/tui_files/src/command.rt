@@ -6,15 +6,16 @@ use std::env::Args;
 use std::io;
 use tui_program::first_arguments;
 
-/// What the arguments name: the folder, which is the current one if it is left out, and the file for the chosen path,
-/// if there is one.
+/// What the arguments name: the folder, which is the current one if it is left out, the file for the chosen path, if
+/// there is one, and whether the path is to be that of a folder.
 #[derive(Debug, Drop)]
 pub(crate) struct FilesCommand {
+    pub(crate) wants_folder: bool,
     pub(crate) folder: Option<String>,
     pub(crate) chosen: Option<String>,
 }
 
-/// Returns what the system's arguments name; None if there are more than two, or the system rejects one. Does not
+/// Returns what the system's arguments name; None if there are too many, or the system rejects one. Does not
 /// allocate.
 pub(crate) fn command_of(alloc: Global, args: io::Result<Args>) -> Option<FilesCommand> {
     match args {
@@ -23,16 +24,30 @@ pub(crate) fn command_of(alloc: Global, args: io::Result<Args>) -> Option<FilesC
     }
 }
 
+/// `--folder`, FOLDER and CHOSEN, in this order, of which each but FOLDER before CHOSEN may be left out.
 fn named_by(arguments: ArrayVec<String, 4, Global>) -> Option<FilesCommand> {
     let mut arguments = arguments;
-    if arguments.len() > 2 {
+    let wants_folder = match arguments.as_slice().first() {
+        Some(first) => first.as_str() == "--folder",
+        None => false,
+    };
+    let options = if wants_folder { 1 } else { 0 };
+    if arguments.len() > options + 2 {
         return None;
     }
-    let chosen = if arguments.len() == 2 {
+    let chosen = if arguments.len() == options + 2 {
         arguments.pop()
     } else {
         None
     };
-    let folder = arguments.pop();
-    Some(FilesCommand { folder, chosen })
+    let folder = if arguments.len() == options + 1 {
+        arguments.pop()
+    } else {
+        None
+    };
+    Some(FilesCommand {
+        wants_folder,
+        folder,
+        chosen,
+    })
 }

@@ -9,12 +9,12 @@ mod system;
 use crate::command::command_of;
 use crate::ended::FilesEnded;
 use crate::program::{browse, reject_usage};
-use std::io;
 use std::process::ExitCode;
-use tui_app::IoTerminal;
 use tui_cells::{Mem, NoMemory};
-use tui_io::{StdSink, StdSource};
-use tui_system::{arguments, setting};
+use tui_system::{arguments, setting, terminal};
+
+/// The name of the program, in what it writes to standard error.
+pub(crate) const NAME: &str = "tui_files";
 
 fn main(rt: HostRuntime) -> ExitCode {
     match run_files(&rt) {
@@ -28,7 +28,9 @@ fn main(rt: HostRuntime) -> ExitCode {
 fn run_files(rt: &HostRuntime) -> Mem<FilesEnded> {
     let setting = setting(rt)?;
     let command = command_of(rt.alloc(), arguments(rt)?);
-    let mut terminal = IoTerminal::new(StdSource::new(rt.reader()), StdSink::new(io::writer(rt)));
+    let Some(mut terminal) = terminal(rt, NAME)? else {
+        return Ok(FilesEnded::WriteFault);
+    };
     match command {
         Some(command) => browse(rt, setting, &command, &mut terminal),
         None => Ok(reject_usage(&mut terminal)),

@@ -1,3 +1,4 @@
 pub mod Answers
 pub mod Setting
 pub mod Same
+pub mod Stream

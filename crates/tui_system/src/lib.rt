@@ -6,9 +6,18 @@ mod answers;
 mod args_and_files;
 mod environment;
 mod plain;
+mod report;
 mod settings;
+mod stream;
+mod streams;
 
 pub use answers::or_out_of_memory;
 pub use args_and_files::{arguments, open_file};
 pub use environment::{depth, setting, variable};
+pub use report::report;
 pub use settings::Setting;
+pub use stream::Stream;
+pub use streams::{
+    InputStream, OutputStream, StreamTerminal, file_input, has_own_streams, input, keys, no_input,
+    screen, terminal,
+};

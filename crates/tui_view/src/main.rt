@@ -9,10 +9,11 @@ use std::process::ExitCode;
 use tui_app::IoTerminal;
 use tui_cells::{Mem, NoMemory};
 use tui_io::{StdSink, StdSource};
-use tui_program::FileSource;
-use tui_system::{arguments, depth, open_file};
+use tui_system::{arguments, depth, file_input, screen};
 use tui_terminal_model::Depth;
 use tui_view_run::{ViewEnded, exit_code, file_named, is_frames_command, run_program, show_frames};
+
+const NAME: &str = "tui_view";
 
 fn main(rt: HostRuntime) -> ExitCode {
     match view(&rt) {
@@ -27,10 +28,10 @@ fn view(rt: &HostRuntime) -> Mem<ExitCode> {
     let alloc = rt.alloc();
     let depth = depth(rt)?;
     if is_frames_command(alloc, arguments(rt)?) {
-        let mut terminal = IoTerminal::new(
-            StdSource::new(rt.reader()),
-            StdSink::new(io::writer(rt)),
-        );
+        let Some(screen) = screen(rt, NAME)? else {
+            return Ok(ViewEnded::WriteFault.exit_code());
+        };
+        let mut terminal = IoTerminal::new(StdSource::new(rt.reader()), screen);
         Ok(exit_code(show_frames(alloc, depth, &mut terminal)))
     } else {
         Ok(view_rows(rt, depth)?.exit_code())
@@ -42,11 +43,11 @@ fn view_rows(rt: &HostRuntime, depth: Depth) -> Mem<ViewEnded> {
     let alloc = rt.alloc();
     let mut sink = StdSink::new(io::writer(rt));
     match file_named(alloc, arguments(rt)?) {
-        Some(file) => {
-            let mut source = FileSource::new(open_file(rt, file.as_str())?);
+        Some(file) if file.as_str() != "-" => {
+            let mut source = file_input(rt, NAME, file.as_str())?;
             Ok(run_program(alloc, depth, arguments(rt)?, &mut source, &mut sink))
         }
-        None => {
+        _ => {
             let mut source = StdSource::new(rt.reader());
             Ok(run_program(alloc, depth, arguments(rt)?, &mut source, &mut sink))
         }

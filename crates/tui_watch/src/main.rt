@@ -10,11 +10,11 @@ use std::alloc::Global;
 use std::env::Args;
 use std::io;
 use std::process::ExitCode;
-use tui_app::{IoTerminal, Terminal, run};
+use tui_app::{Terminal, run};
 use tui_cells::{Mem, NoMemory};
-use tui_io::{Sink, StdSink, StdSource, WriteFault, write_all};
+use tui_io::{Sink, WriteFault, write_all};
 use tui_program::first_arguments;
-use tui_system::{Setting, arguments, setting};
+use tui_system::{Setting, arguments, setting, terminal};
 use tui_watch_lib::Watch;
 
 fn main(rt: HostRuntime) -> ExitCode {
@@ -29,9 +29,10 @@ fn main(rt: HostRuntime) -> ExitCode {
 fn run_watch(rt: HostRuntime) -> Mem<WatchEnded> {
     let alloc = rt.alloc();
     let setting = setting(&rt)?;
-    let folder = folder_of(alloc, arguments(&rt)?);
-    let mut terminal = IoTerminal::new(StdSource::new(rt.reader()), StdSink::new(io::writer(&rt)));
-    match folder {
+    let Some(mut terminal) = terminal(&rt, "tui_watch")? else {
+        return Ok(WatchEnded::WriteFault);
+    };
+    match folder_of(alloc, arguments(&rt)?) {
         Ok(name) => Ok(watch(alloc, setting, Folder { rt, name }, &mut terminal)),
         Err(Usage) => Ok(reject_usage(&mut terminal)),
     }
