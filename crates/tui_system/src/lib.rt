@@ -6,7 +6,7 @@ mod answers;
 mod args_and_files;
 mod environment;
 mod plain;
-mod report;
+mod reports;
 mod settings;
 mod stream;
 mod streams;
@@ -14,7 +14,7 @@ mod streams;
 pub use answers::or_out_of_memory;
 pub use args_and_files::{arguments, open_file};
 pub use environment::{depth, setting, variable};
-pub use report::report;
+pub use reports::report;
 pub use settings::Setting;
 pub use stream::Stream;
 pub use streams::{

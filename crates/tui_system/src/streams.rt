@@ -6,7 +6,7 @@
 use crate::answers::or_out_of_memory;
 use crate::args_and_files::open_file;
 use crate::environment::variable;
-use crate::report::report;
+use crate::reports::report;
 use crate::stream::Stream;
 use std::alloc::AllocGlobal;
 use std::env::Env;

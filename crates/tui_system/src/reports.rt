@@ -13,10 +13,18 @@ pub fn report<R: AllocGlobal + Eprint>(
     error: &Error,
 ) -> Mem<()> {
     let text = format!(in rt.alloc(); "{error}")?;
-    let reason = match text.as_str().split_once(" (os error ") {
-        Some((reason, _)) => reason,
-        None => text.as_str(),
-    };
-    let _written = eprintln!(rt; "{program}: {name}: {reason}");
+    print_reason(rt, program, name, reason_in(text.as_str()));
     Ok(())
+}
+
+/// Returns what the system says without its number.
+fn reason_in(text: &str) -> &str {
+    match text.split_once(" (os error ") {
+        Some(parts) => parts.0,
+        None => text,
+    }
+}
+
+fn print_reason<R: Eprint>(rt: &R, program: &str, name: &str, reason: &str) {
+    let _written = eprintln!(rt; "{program}: {name}: {reason}");
 }
