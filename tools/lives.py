@@ -7,6 +7,7 @@ import json
 import os
 import shutil
 import signal
+import subprocess
 from typing import NamedTuple
 
 from tmux import MODES, ROOT, SIZE
@@ -287,6 +288,20 @@ def fits_in_pipes(tmux):
     rejects(tmux, "tui_browse", [("-", 6, ["tui_browse: -: standard input gives the keys"])])
 
 
+def is_installed(tmux):
+    """What tools/install copies runs without the repository."""
+    prefix = tmux.folder / "pre"
+    if subprocess.run([ROOT / "tools/install", prefix], check=False).returncode:
+        print("tools/live_check: tools/install was skipped, since not all programs are built")
+        return
+    live = "pre/bin/goldgopher-live"
+    tmux.start("tui_browse entries.json", "1/3", live=live)
+    tmux.text("jq")
+    tmux.ended("an installed program", 0)
+    tmux.start("tui_none", "there is no program", live=live)
+    tmux.ended("no such program", 1, f"live: there is no program tui_none in {prefix.resolve()}/libexec/goldgopher"[:60])
+
+
 def scene(text, width=20):
     return json.dumps({"width": width, "height": 2, "items": [{"area": [0, 0, width, 1], "widget": "paragraph", "text": text}]}) + "\n"
 
@@ -351,4 +366,4 @@ def keeps_a_list(tmux):
     tmux.ended("q of list_app_example", 0)
 
 
-PROGRAMS = (browses, cuts_texts, goes_through_folders, asks, watches, fits_in_pipes, shows_scenes, keeps_a_list)
+PROGRAMS = (browses, cuts_texts, goes_through_folders, asks, watches, fits_in_pipes, is_installed, shows_scenes, keeps_a_list)

@@ -81,12 +81,12 @@ class Tmux:
         self.text(line)
         self.keys("Enter")
 
-    def start(self, command, row="size", before="", after=""):
+    def start(self, command, row="size", before="", after="", live="./live"):
         """Starts ./live below three rows of a screen. Its exit status goes to the file `status`."""
         (self.folder / "status").unlink(missing_ok=True)
         self.type("clear; seq 3")
         self.until("a screen of three rows", lambda: self.screen() == "1\n2\n3\nready>")
-        self.job = f"{before}./live {command}{after}"
+        self.job = f"{before}{live} {command}{after}"
         self.line = f"{self.job}; echo $? >status"
         self.type(self.line)
         self.shows(f"the start of {command}", row)
