@@ -290,16 +290,16 @@ def fits_in_pipes(tmux):
 
 def is_installed(tmux):
     """What tools/install copies runs without the repository."""
-    prefix = tmux.folder / "pre"
+    prefix = tmux.folder / "p"
     if subprocess.run([ROOT / "tools/install", prefix], check=False).returncode:
         print("tools/live_check: tools/install was skipped, since not all programs are built")
         return
-    live = "pre/bin/goldgopher-live"
-    tmux.start("tui_browse entries.json", "1/3", live=live)
+    shutil.copy(CRATES / "tui_browse/data/entries.json", tmux.folder / "e")
+    tmux.start("tui_browse e", "1/3", live="p/bin/goldgopher-live")
     tmux.text("jq")
     tmux.ended("an installed program", 0)
-    tmux.start("tui_none", "there is no program", live=live)
-    tmux.ended("no such program", 1, f"live: there is no program tui_none in {prefix.resolve()}/libexec/goldgopher"[:60])
+    found = tmux.run("p/bin/goldgopher-live tui_none")
+    tmux.equal("no such program", found, f"live: there is no program tui_none in {prefix.resolve()}/libexec/goldgopher\n")
 
 
 def scene(text, width=20):
