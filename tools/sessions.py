@@ -1,4 +1,4 @@
-"""Sessions of the interactive programs, one key in each read: `tools/faults browse` and `tools/faults form`.
+"""Sessions of the interactive programs, one key in each read: `tools/faults browse`, `form`, `files` and `watch`.
 
 - Each request for memory fails in turn (tools/refuse.c). The exit status is 8. If the program has entered the screen,
   it leaves it; else it has written nothing.
@@ -16,6 +16,7 @@ import os
 import pathlib
 import random
 import re
+import shutil
 import socket
 import subprocess
 import tempfile
@@ -287,7 +288,48 @@ def form(work):
     try_all(session, work)
 
 
-PROGRAMS = {"browse": browse, "form": form}
+# ---- tui_files: a folder
+
+# Down to a file and up; a folder and out of it; names with a dot; a filter that is typed, kept and cleared; small sizes. At
+# the end the second of the names is selected.
+WALKED = [b"j", b"\x1b[B", b"k", b"\x1b[F", b"\x1b[H", b"\r", b"j", b"\x1b[D", b".", b"j", b".", b"/", b"p", b"e", b"\x1b[D", b"\x7f", b"\x1b[200~",
+          b"a\nb", b"\x1b[201~", b"\x15", b"a", b"\r", b"\x0c", b"\x1b", b"\x1b[8;4;30t", b"\x1b[8;9;30t", b"\0", b"\x1b[6~", b"\x1b[5~",
+          b"\x1b[8;12;40t", b"j", b"q"]
+
+
+CONTROL_NAME = "a\x1b[6nb\x07"
+
+
+def files(work):
+    program = built("tui_files")
+    house, chosen = work / "house", work / "chosen"
+    (house / "cellar").mkdir(parents=True)
+    for name, text in (("apple", "an apple\n" * 40), ("pear", "漢字\t\r\n"), (".dot", ""), (CONTROL_NAME, CONTROLS), ("cellar/wine", "red\n"), ("cellar/ale", "brown\n")):
+        (house / name).write_text(text, encoding="utf-8")
+    (house / "bytes").write_bytes(b"\xff\xfe")
+    session = Session("files", program, [house, chosen], WALKED, 0, 0, b"\x03q\r\n\x7f\x08", chosen)
+    sends_no_command(session, [b"j", b"/", *PASTE, b"\x1b"])
+    status, _, errors = one_a_read(session, WALKED, {})
+    if status or session.answered() != f"{house}/{CONTROL_NAME}\n":
+        fail("tui_files ends with", status, "and", session.answered(), errors)
+    try_all(session, work)
+
+
+# ---- tui_watch: a dashboard
+
+WATCHED = [b"\0", b"p", b"\0", b"p", b"\x0c", b"\x1b[8;5;20t", b"\0", b"\x1b[8;1;3t", b"\x1b[8;12;40t", b"x", b"\0"]
+
+
+def watch(work):
+    machine = work / "machine"
+    shutil.copytree(ROOT / "crates/tui_watch/data/machine", machine)
+    session = Session("watch", built("tui_watch"), [machine], WATCHED, 0, 0, b"\x03q")
+    (machine / "loadavg").write_text(CONTROLS, encoding="utf-8")
+    sends_no_command(session, [b"\0", *PASTE])
+    try_all(session, work)
+
+
+PROGRAMS = {"browse": browse, "form": form, "files": files, "watch": watch}
 
 
 def built(name):
