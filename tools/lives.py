@@ -115,7 +115,7 @@ def browses(tmux):
     tmux.shows("the second piece", "│>1001 line 1001", "││line 1019")
     tmux.keys("C-c")
     tmux.ended("Ctrl-C of tui_browse", 130)
-    rejects(tmux, "tui_browse", [("text", 4, ["refused: not JSON"]), ("--text latin", 4, ["refused: not UTF-8"]), ("", 2, ["refused: usage"]), ("nothing", 6, ["tui_browse: nothing: No such file or directory"])])
+    rejects(tmux, "tui_browse", [("text", 4, ["refused: not JSON"]), ("--text latin", 4, ["refused: not UTF-8"]), ("", 2, ["refused: usage", "usage: tui_browse [--text] FILE"]), ("nothing", 6, ["tui_browse: nothing: No such file or directory"])])
     (tmux.folder / "wrong.json").write_text('{"entries": [{"title": "one", "body": ""}, {"title": 2, "body": ""}]}', encoding="utf-8")
     (tmux.folder / "long.json").write_text('{"entries": []}'.ljust(LIMIT + 1), encoding="utf-8")
     rejects(tmux, "tui_browse", [("wrong.json", 5, ["refused: field title at 1"]), ("long.json", 3, ["refused: too long"])])
@@ -185,7 +185,7 @@ def goes_through_folders(tmux):
     tmux.keys("Enter", "Enter")
     tmux.ended("Enter at a file", 0)
     tmux.equal("the path that was chosen", (tmux.folder / "chosen").read_text(encoding="utf-8"), f"{folder.resolve()}/pear\n")
-    rejects(tmux, "tui_files", [("a b c", 2, ["refused: usage"]), ("nothing", 6, ["tui_files: nothing: No such file or directory"])])
+    rejects(tmux, "tui_files", [("a b c", 2, ["refused: usage", "usage: tui_files [--folder] [FOLDER [CHOSEN]]"]), ("nothing", 6, ["tui_files: nothing: No such file or directory"])])
 
 
 FORM = {"title": "Ask", "fields": [{"name": "who", "label": "Who?", "kind": "text", "needed": True}, {"name": "secret", "label": "Secret", "kind": "text", "mask": True},
@@ -220,7 +220,7 @@ def asks(tmux):
     tmux.shows("one Esc", "> Who? *")
     tmux.keys("Escape")
     tmux.ended("Esc twice", 1)
-    rejects(tmux, "tui_form", [("", 2, ["refused: usage"]), ("wrong.json", 5, ["refused: field title"]), ("nothing", 6, ["tui_form: nothing: No such file or directory"])])
+    rejects(tmux, "tui_form", [("", 2, ["refused: usage", "usage: tui_form FORM [ANSWERS]"]), ("wrong.json", 5, ["refused: field title"]), ("form.json house", 7, ["tui_form: house: Is a directory"]), ("nothing", 6, ["tui_form: nothing: No such file or directory"])])
 
 
 def watches(tmux):
@@ -239,7 +239,7 @@ def watches(tmux):
     tmux.shows("a file that is missing", "no loadavg")
     tmux.text("q")
     tmux.ended("q of tui_watch", 0)
-    rejects(tmux, "tui_watch", [("a b", 2, ["refused: usage"])])
+    rejects(tmux, "tui_watch", [("a b", 2, ["refused: usage", "usage: tui_watch [FOLDER]"])])
 
 
 def fits_in_pipes(tmux):
@@ -347,7 +347,7 @@ def shows_scenes(tmux):
     tmux.until("keys that are typed at scenes", lambda: tmux.screen() == "one")
     tmux.ended("scenes at which keys were typed", 0)
     tmux.start("tui_view none", "refused")
-    tmux.ended("tui_view none", 2, "refused: usage")
+    tmux.ended("tui_view none", 2, "refused: usage", "usage: tui_view frames | tui_view rows [FILE]")
 
 
 def keeps_a_list(tmux):

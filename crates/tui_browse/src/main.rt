@@ -11,7 +11,12 @@ const NAME: &str = "tui_browse";
 
 fn main(rt: HostRuntime) -> ExitCode {
     match browse(&rt) {
-        Ok(ended) => ended.exit_code(),
+        Ok(ended) => {
+            if ended == BrowseEnded::Usage {
+                let _written = eprintln!(rt; "usage: tui_browse [--text] FILE");
+            }
+            ended.exit_code()
+        }
         Err(NoMemory) => BrowseEnded::NoMemory.exit_code(),
     }
 }

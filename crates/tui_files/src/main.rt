@@ -18,7 +18,12 @@ pub(crate) const NAME: &str = "tui_files";
 
 fn main(rt: HostRuntime) -> ExitCode {
     match run_files(&rt) {
-        Ok(ended) => ended.exit_code(),
+        Ok(ended) => {
+            if ended == FilesEnded::Usage {
+                let _written = eprintln!(rt; "usage: tui_files [--folder] [FOLDER [CHOSEN]]");
+            }
+            ended.exit_code()
+        }
         Err(NoMemory) => FilesEnded::NoMemory.exit_code(),
     }
 }

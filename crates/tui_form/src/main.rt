@@ -14,7 +14,12 @@ const NAME: &str = "tui_form";
 
 fn main(rt: HostRuntime) -> ExitCode {
     match ask(&rt) {
-        Ok(ended) => ended.exit_code(),
+        Ok(ended) => {
+            if ended == FormEnded::Usage {
+                let _written = eprintln!(rt; "usage: tui_form FORM [ANSWERS]");
+            }
+            ended.exit_code()
+        }
         Err(NoMemory) => FormEnded::NoMemory.exit_code(),
     }
 }

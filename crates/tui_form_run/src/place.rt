@@ -25,12 +25,13 @@ ghost use Rattle.tui_form_run.specs.Destination.{Opens};
 ghost use Rattle.tui_io.specs.Causes.{HasCause};
 ghost use Rattle.tui_program.specs.Files.{remaining_of};
 
+use std::alloc::AllocGlobal;
 use std::fs::{Files, OpenFile, OpenOptions};
 use std::io;
-use std::io::Write;
+use std::io::{Eprint, Write};
 use tui_cells::Mem;
 use tui_io::{Failed, MemSink, Sink, StdSink};
-use tui_system::or_out_of_memory;
+use tui_system::{or_out_of_memory, report};
 
 /// A destination of the answers. It is opened before the form is shown, so that nobody fills in a form whose answers
 /// can't be written.
@@ -97,8 +98,8 @@ impl<'r, R: Files> FileDestination<'r, R> {
     }
 }
 
-impl<'r, R: Files> Destination for FileDestination<'r, R> {
-    /// Opens the file. Returns `Failed` if the system can't open it.
+impl<'r, R: Files + AllocGlobal + Eprint> Destination for FileDestination<'r, R> {
+    /// Opens the file. Returns `Failed` if the system can't open it; a line on standard error says why.
     fn open(&mut self) -> Mem<Result<(), Failed>>
         ensures opens { Opens (record { bytes = None; io_errors = self.old.io_errors }) (record { bytes = None; io_errors = self.new.io_errors }) result }
         ensures there { IfOk result (λ ready. OnOk ready (IsSome self.new.file)) }
@@ -111,7 +112,8 @@ impl<'r, R: Files> Destination for FileDestination<'r, R> {
                 self.file = Some(file);
                 Ok(Ok(()))
             }
-            Err(_) => {
+            Err(error) => {
+                report(self.system, "tui_form", self.name.as_str(), &error)?;
                 self.io_errors = self.io_errors.saturating_add(1);
                 Ok(Err(Failed))
             }

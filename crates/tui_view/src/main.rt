@@ -34,7 +34,11 @@ fn view(rt: &HostRuntime) -> Mem<ExitCode> {
         let mut terminal = IoTerminal::new(StdSource::new(rt.reader()), screen);
         Ok(exit_code(show_frames(alloc, depth, &mut terminal)))
     } else {
-        Ok(view_rows(rt, depth)?.exit_code())
+        let ended = view_rows(rt, depth)?;
+        if ended == ViewEnded::Usage {
+            let _written = eprintln!(rt; "usage: tui_view frames | tui_view rows [FILE]");
+        }
+        Ok(ended.exit_code())
     }
 }
 

@@ -34,7 +34,11 @@ fn run_watch(rt: HostRuntime) -> Mem<WatchEnded> {
     };
     match folder_of(alloc, arguments(&rt)?) {
         Ok(name) => Ok(watch(alloc, setting, Folder { rt, name }, &mut terminal)),
-        Err(Usage) => Ok(reject_usage(&mut terminal)),
+        Err(Usage) => {
+            let ended = reject_usage(&mut terminal);
+            let _written = eprintln!(rt; "usage: tui_watch [FOLDER]");
+            Ok(ended)
+        }
     }
 }
 
