@@ -3,6 +3,8 @@
 //! `./live` gives an interactive program its keys and its screen as standard input and standard output, if both are
 //! the terminal. Otherwise these two are the user's, and two variables name files for the keys and the screen.
 
+ghost use Rattle.tui_system.specs.Stream.{FailsAlways};
+
 use crate::answers::or_out_of_memory;
 use crate::args_and_files::open_file;
 use crate::environment::variable;
@@ -32,6 +34,8 @@ pub type OutputStream<'r, R> = Stream<StdSink<Printer<'r, R>>, StdSink<<R as Fil
 
 /// A terminal of two streams.
 pub type StreamTerminal<'r, R> = IoTerminal<InputStream<R>, OutputStream<'r, R>>;
+
+// No clause says what the variables name, or what the files give, since no clause of std does.
 
 /// Returns the source of the keys. If its file can't be opened, every read fails, and a line on standard error says why.
 /// Fails with `NoMemory` if the system was out of memory.
@@ -104,7 +108,9 @@ pub fn input<R: Env + AllocGlobal + Files + Input + Eprint>(
 }
 
 /// Returns a source of which every read fails.
-pub fn no_input<R: Files + Input>() -> InputStream<R> {
+pub fn no_input<R: Files + Input>() -> InputStream<R>
+    ensures { FailsAlways result }
+{
     Stream::File(FileSource::new(Err(Error::from(ErrorKind::NotFound))))
 }
 
