@@ -220,7 +220,9 @@ def asks(tmux):
     tmux.shows("one Esc", "> Who? *")
     tmux.keys("Escape")
     tmux.ended("Esc twice", 1)
-    rejects(tmux, "tui_form", [("", 2, ["refused: usage", "usage: tui_form FORM [ANSWERS]"]), ("wrong.json", 5, ["refused: field title"]), ("form.json house", 7, ["tui_form: house: Is a directory"]), ("nothing", 6, ["tui_form: nothing: No such file or directory"])])
+    (tmux.folder / "full").mkdir(exist_ok=True)
+    tmux.equal("answers that can't be written", tmux.run("./live tui_form form.json full"), "tui_form: full: Is a directory\n")
+    rejects(tmux, "tui_form", [("", 2, ["refused: usage", "usage: tui_form FORM [ANSWERS]"]), ("wrong.json", 5, ["refused: field title"]), ("nothing", 6, ["tui_form: nothing: No such file or directory"])])
 
 
 def watches(tmux):
