@@ -1,11 +1,9 @@
 //! Placing panes.
 
-ghost use Rattle.std.specs.Prelude.{◌≡◌, ◌+◌, ◌<◌, ◌≤◌, ◌++◌, ◌↔◌, Err, IfOk, OnOk, IsTrue, length};
-ghost use Rattle.tui_cells.specs.Rect.{farthest_edge};
-ghost use Rattle.tui_layout.specs.Columns.{columns_of};
+ghost use Rattle.std.specs.Prelude.{◌≡◌, ◌+◌, ◌<◌, ◌↔◌, Err, IfOk};
 ghost use Rattle.tui_panes_lib.specs.Levels.{levels};
 ghost use Rattle.tui_panes_lib.specs.Pane.{pane_data, sizes_data};
-ghost use Rattle.tui_panes_lib.specs.Place.{origin_of, part_of, place_in, leaves_in, side_of};
+ghost use Rattle.tui_panes_lib.specs.Place.{origin_of, part_of, leaves_in, side_of};
 ghost use Rattle.tui_panes_lib.specs.declared.error.PanesError.TheVariants.{TooDeep};
 
 use crate::error::PanesError;
@@ -13,8 +11,8 @@ use crate::levels::is_within_levels;
 use crate::pane::{Pane, Part};
 use std::alloc::Global;
 use tui_cells::{Mem, NoMemory, Rect};
-use tui_layout::{Constraint, Direction, Segment, split};
-use tui_scene::{Placed, Scene};
+use tui_layout::{Constraint, Direction, Segment};
+use tui_scene::Scene;
 
 /// The levels of the deepest tree that can be placed.
 const MAX_LEVELS: u8 = 32;
@@ -34,41 +32,14 @@ pub fn scene_in<'v>(alloc: Global, area: Rect, root: Pane<'v>) -> Result<Scene<'
     }
     let mut scene = Scene::new(alloc);
     let whole = Rect::new(area.x, area.y, area.width, area.height);
-    match place(alloc, whole, root, &mut scene) {
+    match root.place(alloc, whole, &mut scene) {
         Ok(()) => Ok(scene),
         Err(NoMemory) => Err(PanesError::NoMemory),
     }
 }
 
-/// Adds the leaves of a pane to a scene, in order, each with its area.
-fn place<'v>(alloc: Global, area: Rect, pane: Pane<'v>, scene: &mut Scene<'v>) -> Mem<()>
-    requires right { area.x + area.width ≤ farthest_edge }
-    requires bottom { area.y + area.height ≤ farthest_edge }
-    ensures ok { OnOk result (scene.new ≡ scene.old ++ place_in area (pane_data pane.entry)) }
-{
-    match pane {
-        Pane::Leaf(item) => scene.push(Placed { area, item }),
-        Pane::Split {
-            direction,
-            spacing,
-            flex,
-            parts,
-        } => {
-            let sizes = sizes(alloc, &parts)?;
-            let columns = split(alloc, side(direction, area), spacing, &sizes, flex)?;
-            let mut at: usize = 0;
-            'placing: for part in parts {
-                let column = columns[at];
-                place(alloc, part_area(direction, area, column), part.pane, scene)?;
-                at += 1;
-            }
-            Ok(())
-        }
-    }
-}
-
 /// Returns the requested sizes of parts.
-fn sizes(alloc: Global, parts: &[Part<'_>]) -> Mem<Vec<Constraint>>
+pub(crate) fn sizes(alloc: Global, parts: &[Part<'_>]) -> Mem<Vec<Constraint>>
     ensures { IfOk result (λ sizes. sizes.items ≡ sizes_data parts.now) }
 {
     let mut sizes = Vec::with_capacity(alloc, parts.len())?;
@@ -78,7 +49,8 @@ fn sizes(alloc: Global, parts: &[Part<'_>]) -> Mem<Vec<Constraint>>
     Ok(sizes)
 }
 
-fn side(direction: Direction, area: Rect) -> u16
+/// Returns the length of the side that a split in this direction cuts.
+pub(crate) fn side(direction: Direction, area: Rect) -> u16
     ensures { result ≡ side_of direction area }
 {
     match direction {
@@ -87,7 +59,8 @@ fn side(direction: Direction, area: Rect) -> u16
     }
 }
 
-fn part_area(direction: Direction, area: Rect, column: Segment) -> Rect
+/// Returns the part of an area that a segment cuts out in a direction.
+pub(crate) fn part_area(direction: Direction, area: Rect, column: Segment) -> Rect
     requires { origin_of direction area + column.start < 65536 }
     ensures { result ≡ part_of direction area column }
 {
