@@ -132,15 +132,16 @@ fn file_panes<'a>(
     state: ListState,
     text: Paragraph<'a>,
 ) -> anyhow::Result<Panes<'a>> {
-    let mut parts = Vec::new(alloc);
-    parts.push(Part {
-        size: Constraint::Length(12),
-        pane: Pane::Leaf(Item::List(names, state)),
-    })?;
-    parts.push(Part {
-        size: Constraint::Fill(1),
-        pane: Pane::Leaf(Item::Paragraph(text)),
-    })?;
+    let parts = vec![in alloc;
+        Part {
+            size: Constraint::Length(12),
+            pane: Pane::Leaf(Item::List(names, state)),
+        },
+        Part {
+            size: Constraint::Fill(1),
+            pane: Pane::Leaf(Item::Paragraph(text)),
+        },
+    ]?;
     let root = Pane::Split {
         direction: Direction::Horizontal,
         spacing: 1,
