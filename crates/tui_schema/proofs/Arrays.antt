@@ -20,10 +20,10 @@ unfolding joined_of
 joined_end join kind first i vs le = rw (drop_all i vs le) refl
 
 -- arrays of another length
-pub four_other : {A : Type 0} (make : ℕ → ℕ → ℕ → ℕ → A) (vs : List Value) → (length vs ≡ 4 → ⊥) → four_in make (items_view vs) ≡ None
-four_other make [] h = refl
-four_other make (a ∷ []) h = refl
-four_other make (a ∷ b ∷ []) h = refl
-four_other make (a ∷ b ∷ c ∷ []) h = refl
-four_other make (a ∷ b ∷ c ∷ d ∷ []) h = absurd (h refl)
-four_other make (a ∷ b ∷ c ∷ d ∷ e ∷ vs) h = refl
+pub four_other : (vs : List Value) → (length vs ≡ 4 → ⊥) → four_in (items_view vs) ≡ None
+four_other [] h = refl
+four_other (a ∷ []) h = refl
+four_other (a ∷ b ∷ []) h = refl
+four_other (a ∷ b ∷ c ∷ []) h = refl
+four_other (a ∷ b ∷ c ∷ d ∷ []) h = absurd (h refl)
+four_other (a ∷ b ∷ c ∷ d ∷ e ∷ vs) h = refl

@@ -2,6 +2,7 @@
 pub mod Block
 pub mod ChartFields
 pub mod Fill
+pub mod Frame
 pub mod GaugeFields
 pub mod ListFields
 pub mod Logo

@@ -3,6 +3,7 @@
 mod bar_chart;
 mod block;
 mod fill;
+mod frame;
 mod gauge;
 mod line_gauge;
 mod list;

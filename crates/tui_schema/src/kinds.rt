@@ -7,6 +7,7 @@ mod borders;
 mod color;
 mod date;
 mod event;
+mod four;
 mod fraction;
 mod line;
 mod list_item;

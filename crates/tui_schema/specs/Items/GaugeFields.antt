@@ -1,20 +1,20 @@
 -- The fields of `gauge` and of `line_gauge`.
-use Rattle.std.specs.Prelude.{ℕ, false, Bool, ◌&&◌, nat_le, nat_lt, Option, Some, None, Result, Ok, Err, unwrap_or, if◌then◌else◌}
+use Rattle.std.specs.Prelude.{ℕ, List, false, Bool, ◌&&◌, nat_le, nat_lt, Option, Some, None, Result, Ok, Err, unwrap_or, if◌then◌else◌}
 use Rattle.std.specs.Option.{option_or}
 use Rattle.serde_json.specs.Data.{Data}
 use Rattle.serde_json.specs.Find.{as_bool}
-use Rattle.tui_cells.specs.Style.{no_style}
+use Rattle.tui_cells.specs.declared.style.Style.{Style}
 use Rattle.tui_bars.specs.Gauge.{GaugeData, empty_gauge}
 use Rattle.tui_bars.specs.LineGauge.{LineGaugeData, empty_line_gauge}
 use Rattle.tui_layout.specs.declared.fraction.Fraction.{Fraction}
+use Rattle.tui_text.specs.Span.{SpanData}
 use Rattle.tui_schema.specs.declared.field.Field.{Field}
 use Rattle.tui_schema.specs.declared.field.Field.TheVariants as fields
-use Rattle.tui_schema.specs.Kinds.Block.{block_of}
+use Rattle.tui_schema.specs.Items.Frame.{frame_in, style_in}
 use Rattle.tui_schema.specs.Kinds.Fraction.{fraction_of}
 use Rattle.tui_schema.specs.Kinds.Line.{line_of}
 use Rattle.tui_json.specs.Number.{u16_of}
 use Rattle.tui_schema.specs.Kinds.Span.{span_of}
-use Rattle.tui_schema.specs.Kinds.Style.{style_of}
 use Rattle.tui_schema.specs.Kinds.Symbol.{symbol_of}
 use Rattle.tui_json.specs.Refusals.{◌>>=◌}
 use Rattle.tui_schema.specs.Refusals.{optional}
@@ -46,31 +46,27 @@ gauge_with_share i d = do
   percent ← optional u16_of i fields.Percent d
   gauge_with_percent i with_share percent
 
--- with its block and its style
-unfoldable pub framed_gauge : Option ℕ → Data → Result GaugeData BadField
-framed_gauge i d = do
-  block ← optional block_of i fields.Block d
-  style ← optional style_of i fields.Style d
-  with_share ← gauge_with_share i d
-  Ok (record with_share { block = option_or block with_share.block; style = unwrap_or style no_style })
-
--- with its label and its filling
-unfoldable pub filled_gauge : GaugeData → Option ℕ → Data → Result GaugeData BadField
-filled_gauge g i d = do
+-- its label, and how it is filled
+unfoldable pub filling_of : Option ℕ → Data → Result (Option SpanData × Style × Bool) BadField
+filling_of i d = do
   label ← optional span_of i fields.Label d
-  gauge_style ← optional style_of i fields.GaugeStyle d
+  style ← style_in i fields.GaugeStyle d
   use_unicode ← optional as_bool i fields.UseUnicode d
-  Ok (record g {
-    label = option_or label g.label;
-    gauge_style = unwrap_or gauge_style no_style;
-    use_unicode = unwrap_or use_unicode false;
-  })
+  Ok (label, style, unwrap_or use_unicode false)
 
 -- all fields of a gauge
 unfoldable pub shown_gauge : Option ℕ → Data → Result GaugeData BadField
 shown_gauge i d = do
-  framed ← framed_gauge i d
-  filled_gauge framed i d
+  frame ← frame_in i d
+  gauge ← gauge_with_share i d
+  filling ← filling_of i d
+  Ok (record gauge {
+    block = option_or frame.0 gauge.block;
+    style = frame.1;
+    label = option_or filling.0 gauge.label;
+    gauge_style = filling.1;
+    use_unicode = filling.2;
+  })
 
 -- a line gauge with a share
 abbrev pub line_with_ratio : Option ℕ → LineGaugeData → Option Fraction → Result LineGaugeData BadField
@@ -83,35 +79,28 @@ line_gauge_with_share i d = do
   ratio ← optional fraction_of i fields.Ratio d
   line_with_ratio i empty_line_gauge ratio
 
--- with its symbols and their styles
-unfoldable pub drawn_line : LineGaugeData → Option ℕ → Data → Result LineGaugeData BadField
-drawn_line g i d = do
+-- its symbols and their styles
+unfoldable pub strokes_of : Option ℕ → Data → Result (Option (List ℕ) × Option (List ℕ) × Style × Style) BadField
+strokes_of i d = do
   filled ← optional symbol_of i fields.FilledSymbol d
   unfilled ← optional symbol_of i fields.UnfilledSymbol d
-  filled_style ← optional style_of i fields.FilledStyle d
-  unfilled_style ← optional style_of i fields.UnfilledStyle d
-  Ok (record g {
-    filled = unwrap_or filled g.filled;
-    unfilled = unwrap_or unfilled g.unfilled;
-    filled_style = unwrap_or filled_style no_style;
-    unfilled_style = unwrap_or unfilled_style no_style;
-  })
-
--- with its block, its style and its label
-unfoldable pub framed_line : Option ℕ → Data → Result LineGaugeData BadField
-framed_line i d = do
-  block ← optional block_of i fields.Block d
-  style ← optional style_of i fields.Style d
-  with_share ← line_gauge_with_share i d
-  label ← optional line_of i fields.Label d
-  Ok (record with_share {
-    block = option_or block with_share.block;
-    label = option_or label with_share.label;
-    style = unwrap_or style no_style;
-  })
+  filled_style ← style_in i fields.FilledStyle d
+  unfilled_style ← style_in i fields.UnfilledStyle d
+  Ok (filled, unfilled, filled_style, unfilled_style)
 
 -- all fields of a line gauge
 unfoldable pub shown_line_gauge : Option ℕ → Data → Result LineGaugeData BadField
 shown_line_gauge i d = do
-  framed ← framed_line i d
-  drawn_line framed i d
+  frame ← frame_in i d
+  gauge ← line_gauge_with_share i d
+  label ← optional line_of i fields.Label d
+  strokes ← strokes_of i d
+  Ok (record gauge {
+    block = option_or frame.0 gauge.block;
+    style = frame.1;
+    label = option_or label gauge.label;
+    filled = unwrap_or strokes.0 gauge.filled;
+    unfilled = unwrap_or strokes.1 gauge.unfilled;
+    filled_style = strokes.2;
+    unfilled_style = strokes.3;
+  })

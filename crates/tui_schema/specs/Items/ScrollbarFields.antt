@@ -1,7 +1,6 @@
 -- The fields of `scrollbar`.
 use Rattle.std.specs.Prelude.{ℕ, Option, Result, Ok, unwrap_or}
 use Rattle.serde_json.specs.Data.{Data}
-use Rattle.tui_cells.specs.Style.{no_style}
 use Rattle.tui_cells.specs.declared.style.Style.{Style}
 use Rattle.tui_lists.specs.Scrollbar.{ScrollbarData, scrollbar_of as new_scrollbar}
 use Rattle.tui_lists.specs.declared.scrollbar.orientation.ScrollbarOrientation.TheVariants.{VerticalRight}
@@ -9,6 +8,7 @@ use Rattle.tui_lists.specs.declared.scrollbar.state.ScrollbarState.{ScrollbarSta
 use Rattle.tui_schema.specs.declared.field.Field.TheVariants as fields
 use Rattle.tui_json.specs.Members.{or_null}
 use Rattle.tui_json.specs.Named.{named_of}
+use Rattle.tui_schema.specs.Items.Frame.{style_in}
 use Rattle.tui_schema.specs.Kinds.Names.{orientations}
 use Rattle.tui_json.specs.Number.{u64_of}
 use Rattle.tui_schema.specs.Kinds.Style.{style_of}
@@ -63,9 +63,9 @@ scrollbar_state_of i d = do
 -- a scrollbar and its state
 unfoldable pub shown_scrollbar : Option ℕ → Data → Result (ScrollbarData × ScrollbarState) BadField
 shown_scrollbar i d = do
-  style ← optional style_of i fields.Style d
+  style ← style_in i fields.Style d
   orientation ← optional (named_of orientations) i fields.Orientation d
-  with_symbols ← scrollbar_with_symbols (in_style (unwrap_or style no_style) (new_scrollbar (unwrap_or orientation VerticalRight))) i d
+  with_symbols ← scrollbar_with_symbols (in_style style (new_scrollbar (unwrap_or orientation VerticalRight))) i d
   styled ← styled_scrollbar with_symbols i d
   state ← scrollbar_state_of i d
   Ok (styled, state)

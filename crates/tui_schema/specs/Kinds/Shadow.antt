@@ -3,12 +3,11 @@ use Rattle.std.specs.Prelude.{ℕ, pos, List, [], ◌∷◌, if◌then◌else◌
 use Rattle.std.specs.Str.{bytes_eq}
 use Rattle.serde_json.specs.Data.{Data}
 use Rattle.serde_json.specs.Find.{as_str}
-use Rattle.tui_cells.specs.Style.{no_style}
 use Rattle.tui_cells.specs.Symbols.{utf8}
 use Rattle.tui_frames.specs.Shadow.{KindData, ShadowData, dimmed, overlay, symbol}
 use Rattle.tui_json.specs.Members.{◌>>=◌, member, named, optional_member, pair_of}
 use Rattle.tui_json.specs.Number.{i32_of}
-use Rattle.tui_schema.specs.Kinds.Style.{style_of}
+use Rattle.tui_schema.specs.Kinds.Style.{style_member}
 use Rattle.tui_schema.specs.Kinds.Symbol.{symbol_of}
 
 -- the effects that need only a name
@@ -33,10 +32,10 @@ effect_of d = do
 unfoldable pub shadow_of : Data → Option ShadowData
 shadow_of d = do
   effect ← effect_of d
-  style ← optional_member style_of (codes "style") d
+  style ← style_member (codes "style") d
   offset ← optional_member (pair_of i32_of i32_of) (codes "offset") d
   Some (record {
     kind = effect;
-    style = unwrap_or style no_style;
+    style = style;
     offset = let by = unwrap_or offset (pos 1, pos 1) in record { x = by.0; y = by.1 };
   })

@@ -2,12 +2,11 @@
 use Rattle.std.specs.Prelude.{Option, None, Some, unwrap_or, codes}
 use Rattle.serde_json.specs.Data.{Data, array}
 use Rattle.serde_json.specs.Find.{get}
-use Rattle.tui_cells.specs.Style.{no_style}
 use Rattle.tui_table.specs.Cell.{CellData, cell_of}
 use Rattle.tui_table.specs.Row.{RowData, row_of as new_row}
 use Rattle.tui_json.specs.Members.{◌>>=◌, list_of, member, optional_member}
 use Rattle.tui_json.specs.Number.{u16_of}
-use Rattle.tui_schema.specs.Kinds.Style.{style_of}
+use Rattle.tui_schema.specs.Kinds.Style.{style_member}
 use Rattle.tui_schema.specs.Kinds.Text.{text_of}
 
 abbrev cell_by : Option Data → Data → Option CellData
@@ -16,9 +15,9 @@ cell_by None d = do
   Some (cell_of content)
 cell_by (Some text) d = do
   content ← text_of text
-  style ← optional_member style_of (codes "style") d
+  style ← style_member (codes "style") d
   span ← optional_member u16_of (codes "column_span") d
-  Some (record { content = content; style = unwrap_or style no_style; span = unwrap_or span 1 })
+  Some (record { content = content; style = style; span = unwrap_or span 1 })
 
 unfoldable pub table_cell_of : Data → Option CellData
 table_cell_of d = cell_by (get (codes "text") d) d
@@ -32,11 +31,11 @@ row_of d = do
   height ← optional_member u16_of (codes "height") d
   top ← optional_member u16_of (codes "top_margin") d
   bottom ← optional_member u16_of (codes "bottom_margin") d
-  style ← optional_member style_of (codes "style") d
+  style ← style_member (codes "style") d
   Some (record {
     cells = cells;
     height = unwrap_or height 1;
     top_margin = unwrap_or top 0;
     bottom_margin = unwrap_or bottom 0;
-    style = unwrap_or style no_style;
+    style = style;
   })

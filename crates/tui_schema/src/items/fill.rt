@@ -7,12 +7,12 @@ ghost use Rattle.tui_json.specs.Refusals.{Gives};
 
 use crate::bad_field::BadField;
 use crate::field::Field;
+use crate::items::frame::read_style;
 use crate::kinds::Symbol;
 use serde_json::Value;
 use std::alloc::Global;
-use tui_cells::Style;
 use tui_frames::Fill;
-use tui_json::{InputError, optional, required};
+use tui_json::{InputError, required};
 
 #[tactic(auto, unfolding(crate::specs::Items::Fill::fill_of))]
 pub(crate) fn read_fill<'v>(
@@ -23,6 +23,6 @@ pub(crate) fn read_fill<'v>(
     ensures { Gives fill_data result (fill_of item (view value.now)) }
 {
     let Symbol(symbol) = required(alloc, item, Field::Symbol, value)?;
-    let style: Option<Style> = optional(alloc, item, Field::Style, value)?;
-    Ok(Fill::new(symbol).style(style.unwrap_or(Style::new())))
+    let style = read_style(alloc, item, Field::Style, value)?;
+    Ok(Fill::new(symbol).style(style))
 }

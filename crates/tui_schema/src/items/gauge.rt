@@ -6,8 +6,7 @@ ghost use Rattle.serde_json.specs.View.{view};
 ghost use Rattle.tui_bars.specs.Gauge.{gauge_data};
 ghost use Rattle.tui_frames.specs.Block.{block_data};
 ghost use Rattle.tui_schema.specs.Items.GaugeFields.{
-  filled_gauge,
-  framed_gauge,
+  filling_of,
   gauge_with_percent,
   gauge_with_ratio,
   gauge_with_share,
@@ -18,6 +17,7 @@ ghost use Rattle.tui_text.specs.Span.{span_data};
 
 use crate::bad_field::BadField;
 use crate::field::Field;
+use crate::items::frame::{read_frame, read_style};
 use serde_json::Value;
 use std::alloc::Global;
 use tui_bars::Gauge;
@@ -74,59 +74,49 @@ fn read_share<'v>(
     with_percent(item, gauge, percent)
 }
 
-fn in_block<'v>(gauge: Gauge<'v>, block: Option<Block<'v>>) -> Gauge<'v>
-    ensures { gauge_data result ≡ record (gauge_data gauge.entry) {
-      block = option_or (option_map block_data block.entry) (gauge_data gauge.entry).block;
-    } }
-{
-    match block {
-        Some(block) => gauge.block(block),
-        None => gauge,
-    }
-}
-
-#[tactic(auto, unfolding(crate::specs::Items::GaugeFields::framed_gauge))]
-fn read_frame<'v>(
+/// Reads the label, and how the gauge is filled.
+#[tactic(auto, unfolding(crate::specs::Items::GaugeFields::filling_of))]
+fn read_filling<'v>(
     alloc: Global,
     item: Option<usize>,
     value: &'v Value,
-) -> Result<Gauge<'v>, InputError<BadField>>
-    ensures { Gives gauge_data result (framed_gauge item (view value.now)) }
+) -> Result<(Option<Span<'v>>, Style, bool), InputError<BadField>>
+    ensures { Gives (λ filling. (option_map span_data filling.0, filling.1, filling.2)) result (filling_of item (view value.now)) }
 {
-    let block: Option<Block<'v>> = optional(alloc, item, Field::Block, value)?;
-    let style: Option<Style> = optional(alloc, item, Field::Style, value)?;
-    let gauge = read_share(alloc, item, value)?;
-    Ok(in_block(gauge, block).style(style.unwrap_or(Style::new())))
+    let label: Option<Span<'v>> = optional(alloc, item, Field::Label, value)?;
+    let style = read_style(alloc, item, Field::GaugeStyle, value)?;
+    let use_unicode: Option<bool> = optional(alloc, item, Field::UseUnicode, value)?;
+    Ok((label, style, use_unicode.unwrap_or(false)))
 }
 
-fn with_label<'v>(gauge: Gauge<'v>, label: Option<Span<'v>>) -> Gauge<'v>
+/// Returns the gauge in this block, if there is one, with this style and this filling.
+fn filled<'v>(
+    gauge: Gauge<'v>,
+    block: Option<Block<'v>>,
+    style: Style,
+    filling: (Option<Span<'v>>, Style, bool),
+) -> Gauge<'v>
     ensures { gauge_data result ≡ record (gauge_data gauge.entry) {
-      label = option_or (option_map span_data label.entry) (gauge_data gauge.entry).label;
+      block = option_or (option_map block_data block.entry) (gauge_data gauge.entry).block;
+      style = style;
+      label = option_or (option_map span_data filling.entry.0) (gauge_data gauge.entry).label;
+      gauge_style = filling.entry.1;
+      use_unicode = filling.entry.2;
     } }
 {
+    let (label, gauge_style, use_unicode) = filling;
+    let gauge = gauge
+        .style(style)
+        .gauge_style(gauge_style)
+        .use_unicode(use_unicode);
+    let gauge = match block {
+        Some(block) => gauge.block(block),
+        None => gauge,
+    };
     match label {
         Some(label) => gauge.label(label),
         None => gauge,
     }
-}
-
-#[tactic(auto, unfolding(crate::specs::Items::GaugeFields::filled_gauge))]
-fn read_filling<'v>(
-    alloc: Global,
-    gauge: Gauge<'v>,
-    item: Option<usize>,
-    value: &'v Value,
-) -> Result<Gauge<'v>, InputError<BadField>>
-    ensures { Gives gauge_data result (filled_gauge (gauge_data gauge.entry) item (view value.now)) }
-{
-    let label: Option<Span<'v>> = optional(alloc, item, Field::Label, value)?;
-    let style: Option<Style> = optional(alloc, item, Field::GaugeStyle, value)?;
-    let use_unicode: Option<bool> = optional(alloc, item, Field::UseUnicode, value)?;
-    Ok(
-        with_label(gauge, label)
-            .gauge_style(style.unwrap_or(Style::new()))
-            .use_unicode(use_unicode.unwrap_or(false)),
-    )
 }
 
 #[tactic(auto, unfolding(crate::specs::Items::GaugeFields::shown_gauge))]
@@ -137,6 +127,8 @@ pub(crate) fn read_gauge<'v>(
 ) -> Result<Gauge<'v>, InputError<BadField>>
     ensures { Gives gauge_data result (shown_gauge item (view value.now)) }
 {
-    let gauge = read_frame(alloc, item, value)?;
-    read_filling(alloc, gauge, item, value)
+    let (block, style) = read_frame(alloc, item, value)?;
+    let gauge = read_share(alloc, item, value)?;
+    let filling = read_filling(alloc, item, value)?;
+    Ok(filled(gauge, block, style, filling))
 }

@@ -10,6 +10,7 @@ ghost use Rattle.tui_json.specs.Refusals.{Gives};
 
 use crate::bad_field::BadField;
 use crate::field::Field;
+use crate::items::frame::read_frame;
 use serde_json::Value;
 use std::alloc::Global;
 use tui_cells::Style;
@@ -21,7 +22,7 @@ use tui_text::{Alignment, Text};
 /// Returns a paragraph with these fields, and with the defaults of `Paragraph::new` for the others.
 fn paragraph_with<'v>(
     text: Text<'v>,
-    style: Option<Style>,
+    style: Style,
     wrap: Option<Wrap>,
     scroll: Option<(u16, u16)>,
     alignment: Option<Alignment>,
@@ -30,7 +31,7 @@ fn paragraph_with<'v>(
 {
     let alignment = alignment.or(text.text_alignment());
     let paragraph = Paragraph::new(text)
-        .style(style.unwrap_or(Style::new()))
+        .style(style)
         .scroll(scroll.unwrap_or((0, 0)))
         .alignment(alignment.unwrap_or(Alignment::Left));
     match wrap {
@@ -57,8 +58,7 @@ pub(crate) fn read_paragraph<'v>(
 ) -> Result<Paragraph<'v>, InputError<BadField>>
     ensures { Gives paragraph_data result (paragraph_of item (view value.now)) }
 {
-    let block: Option<Block<'v>> = optional(alloc, item, Field::Block, value)?;
-    let style: Option<Style> = optional(alloc, item, Field::Style, value)?;
+    let (block, style) = read_frame(alloc, item, value)?;
     let text: Text<'v> = required(alloc, item, Field::Text, value)?;
     let wrap: Option<Wrap> = optional(alloc, item, Field::Wrap, value)?;
     let scroll: Option<(u16, u16)> = optional(alloc, item, Field::Scroll, value)?;

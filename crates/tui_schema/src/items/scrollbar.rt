@@ -8,6 +8,7 @@ ghost use Rattle.tui_json.specs.Refusals.{Gives};
 
 use crate::bad_field::BadField;
 use crate::field::Field;
+use crate::items::frame::read_style;
 use crate::kinds::Symbol;
 use serde_json::Value;
 use std::alloc::Global;
@@ -155,7 +156,7 @@ pub(crate) fn read_scrollbar<'v>(
 ) -> Result<(Scrollbar<'v>, ScrollbarState), InputError<BadField>>
     ensures { Gives (λ p. (scrollbar_data p.0, p.1)) result (shown_scrollbar item (view value.now)) }
 {
-    let style: Option<Style> = optional(alloc, item, Field::Style, value)?;
+    let style = read_style(alloc, item, Field::Style, value)?;
     let orientation: Option<ScrollbarOrientation> = optional_named(
         alloc,
         item,
@@ -163,7 +164,7 @@ pub(crate) fn read_scrollbar<'v>(
         value,
     )?;
     let bar = Scrollbar::new(orientation.unwrap_or(ScrollbarOrientation::VerticalRight)).style(
-        style.unwrap_or(Style::new()),
+        style,
     );
     let bar = read_symbols(alloc, bar, item, value)?;
     let bar = read_styles(alloc, bar, item, value)?;

@@ -7,21 +7,20 @@ ghost use Rattle.tui_frames.specs.Block.{block_data};
 ghost use Rattle.tui_table.specs.Row.{row_data};
 ghost use Rattle.tui_table.specs.Table.{table_data};
 ghost use Rattle.tui_schema.specs.Items.TableFields.{
-  framed_table,
   in_widths,
-  marked_table,
-  placed_table,
   shown_table,
+  table_layout_of,
+  table_marks_of,
   table_state_of,
   table_with_rows,
   widths_of,
-  with_edges,
 };
 ghost use Rattle.tui_json.specs.Refusals.{Gives};
-ghost use Rattle.tui_text.specs.Text.{raw_text};
+ghost use Rattle.tui_text.specs.Text.{empty_text, raw_text, text_data};
 
 use crate::bad_field::BadField;
 use crate::field::Field;
+use crate::items::frame::{read_frame, read_style};
 use crate::kinds::Symbol;
 use serde_json::Value;
 use std::alloc::Global;
@@ -50,48 +49,43 @@ fn in_widths<'v>(
     }
 }
 
-fn in_block<'v>(table: Table<'v>, block: Option<Block<'v>>) -> Table<'v>
+/// Returns the table in this block, if there is one, and with this style.
+fn framed<'v>(table: Table<'v>, block: Option<Block<'v>>, style: Style) -> Table<'v>
     ensures { table_data result ≡ record (table_data table.entry) {
       block = option_or (option_map block_data block.entry) (table_data table.entry).block;
+      style = style;
     } }
 {
+    let table = table.style(style);
     match block {
         Some(block) => table.block(block),
         None => table,
     }
 }
 
-/// Returns a table with its header and its footer.
-fn with_edges<'v>(
-    alloc: Global,
-    item: Option<usize>,
-    rows: Vec<Row<'v>>,
-    header: Option<Row<'v>>,
-    footer: Option<Row<'v>>,
-    widths: Vec<Constraint>,
-) -> Result<Table<'v>, InputError<BadField>>
-    ensures { Gives table_data result (with_edges item (map row_data rows.entry.items)
-        (option_map row_data header.entry) (option_map row_data footer.entry) widths.items) }
+/// Returns the table with this header and this footer, if they are given.
+fn edged<'v>(table: Table<'v>, header: Option<Row<'v>>, footer: Option<Row<'v>>) -> Table<'v>
+    ensures { table_data result ≡ record (table_data table.entry) {
+      header = option_or (option_map row_data header.entry) (table_data table.entry).header;
+      footer = option_or (option_map row_data footer.entry) (table_data table.entry).footer;
+    } }
 {
-    let table = in_widths(alloc, item, rows, widths)?;
     let table = match header {
         Some(header) => table.header(header),
         None => table,
     };
-    Ok(match footer {
+    match footer {
         Some(footer) => table.footer(footer),
         None => table,
-    })
+    }
 }
 
-fn with_symbol<'v>(alloc: Global, table: Table<'v>, symbol: Option<Symbol<'v>>) -> Mem<Table<'v>>
-    ensures { IfOk result (λ marked. table_data marked ≡ record (table_data table.entry) {
-      symbol = unwrap_or (option_map (λ s. raw_text s.0.now) symbol.entry) (table_data table.entry).symbol;
-    }) }
+fn symbol_text<'v>(alloc: Global, symbol: Option<Symbol<'v>>) -> Mem<Text<'v>>
+    ensures { IfOk result (λ text. text_data text ≡ unwrap_or (option_map (λ s. raw_text s.0.now) symbol.entry) empty_text) }
 {
     match symbol {
-        Some(Symbol(symbol)) => Ok(table.highlight_symbol(Text::raw(alloc, symbol)?)),
-        None => Ok(table),
+        Some(Symbol(symbol)) => Text::raw(alloc, symbol),
+        None => Ok(Text::new(alloc)),
     }
 }
 
@@ -120,69 +114,34 @@ fn read_rows<'v>(
     let header: Option<Row<'v>> = optional(alloc, item, Field::Header, value)?;
     let footer: Option<Row<'v>> = optional(alloc, item, Field::Footer, value)?;
     let widths = read_widths(alloc, item, value)?;
-    with_edges(alloc, item, rows, header, footer, widths)
+    let table = in_widths(alloc, item, rows, widths)?;
+    Ok(edged(table, header, footer))
 }
 
-/// Reads a table with its block and its style.
-#[tactic(auto, unfolding(crate::specs::Items::TableFields::framed_table))]
-fn read_frame<'v>(
+/// Reads the column spacing, and the styles of the selected row, column and cell.
+#[tactic(auto, unfolding(crate::specs::Items::TableFields::table_marks_of))]
+fn read_marks(
     alloc: Global,
     item: Option<usize>,
-    value: &'v Value,
-) -> Result<Table<'v>, InputError<BadField>>
-    ensures { Gives table_data result (framed_table item (view value.now)) }
-{
-    let block: Option<Block<'v>> = optional(alloc, item, Field::Block, value)?;
-    let style: Option<Style> = optional(alloc, item, Field::Style, value)?;
-    let table = read_rows(alloc, item, value)?;
-    Ok(in_block(table, block).style(style.unwrap_or(Style::new())))
-}
-
-/// Returns the table with a column spacing, and with the styles of its selected row, column and cell.
-fn marked<'v>(table: Table<'v>, spacing: u16, row: Style, column: Style, cell: Style) -> Table<'v>
-    ensures { table_data result ≡ record (table_data table.entry) {
-      spacing = spacing;
-      row_style = row;
-      column_style = column;
-      cell_style = cell;
-    } }
-{
-    table
-        .column_spacing(spacing)
-        .row_highlight_style(row)
-        .column_highlight_style(column)
-        .cell_highlight_style(cell)
-}
-
-/// Reads the column spacing, and the highlight of the selected row, column and cell.
-#[tactic(auto, unfolding(crate::specs::Items::TableFields::marked_table))]
-fn read_marks<'v>(
-    alloc: Global,
-    table: Table<'v>,
-    item: Option<usize>,
-    value: &'v Value,
-) -> Result<Table<'v>, InputError<BadField>>
-    ensures { Gives table_data result (marked_table (table_data table.entry) item (view value.now)) }
+    value: &Value,
+) -> Result<(u16, Style, Style, Style), InputError<BadField>>
+    ensures { Gives (λ marks. marks) result (table_marks_of item (view value.now)) }
 {
     let spacing: Option<u16> = optional(alloc, item, Field::ColumnSpacing, value)?;
-    let row: Option<Style> = optional(alloc, item, Field::RowHighlightStyle, value)?;
-    let column: Option<Style> = optional(alloc, item, Field::ColumnHighlightStyle, value)?;
-    let cell: Option<Style> = optional(alloc, item, Field::CellHighlightStyle, value)?;
-    let spacing = spacing.unwrap_or(1);
-    let row = row.unwrap_or(Style::new());
-    let column = column.unwrap_or(Style::new());
-    Ok(marked(table, spacing, row, column, cell.unwrap_or(Style::new())))
+    let row = read_style(alloc, item, Field::RowHighlightStyle, value)?;
+    let column = read_style(alloc, item, Field::ColumnHighlightStyle, value)?;
+    let cell = read_style(alloc, item, Field::CellHighlightStyle, value)?;
+    Ok((spacing.unwrap_or(1), row, column, cell))
 }
 
 /// Reads the symbol beside the selected row, and how the columns are placed.
-#[tactic(auto, unfolding(crate::specs::Items::TableFields::placed_table))]
-fn read_column_layout<'v>(
+#[tactic(auto, unfolding(crate::specs::Items::TableFields::table_layout_of))]
+fn read_layout<'v>(
     alloc: Global,
-    table: Table<'v>,
     item: Option<usize>,
     value: &'v Value,
-) -> Result<Table<'v>, InputError<BadField>>
-    ensures { Gives table_data result (placed_table (table_data table.entry) item (view value.now)) }
+) -> Result<(Text<'v>, HighlightSpacing, Flex), InputError<BadField>>
+    ensures { Gives (λ layout. (text_data layout.0, layout.1, layout.2)) result (table_layout_of item (view value.now)) }
 {
     let symbol: Option<Symbol<'v>> = optional(alloc, item, Field::HighlightSymbol, value)?;
     let spacing: Option<HighlightSpacing> = optional_named(
@@ -192,11 +151,37 @@ fn read_column_layout<'v>(
         value,
     )?;
     let flex: Option<Flex> = optional_named(alloc, item, Field::Flex, value)?;
-    Ok(
-        with_symbol(alloc, table, symbol)?
-            .highlight_spacing(spacing.unwrap_or(HighlightSpacing::WhenSelected))
-            .flex(flex.unwrap_or(Flex::Start)),
-    )
+    let symbol = symbol_text(alloc, symbol)?;
+    let spacing = spacing.unwrap_or(HighlightSpacing::WhenSelected);
+    Ok((symbol, spacing, flex.unwrap_or(Flex::Start)))
+}
+
+/// Returns the table with these marks and this layout.
+fn marked<'v>(
+    table: Table<'v>,
+    marks: (u16, Style, Style, Style),
+    layout: (Text<'v>, HighlightSpacing, Flex),
+) -> Table<'v>
+    ensures { table_data result ≡ record (table_data table.entry) {
+      spacing = marks.0;
+      row_style = marks.1;
+      column_style = marks.2;
+      cell_style = marks.3;
+      symbol = text_data layout.entry.0;
+      symbol_spacing = layout.entry.1;
+      flex = layout.entry.2;
+    } }
+{
+    let (spacing, row, column, cell) = marks;
+    let (symbol, symbol_spacing, flex) = layout;
+    table
+        .column_spacing(spacing)
+        .row_highlight_style(row)
+        .column_highlight_style(column)
+        .cell_highlight_style(cell)
+        .highlight_symbol(symbol)
+        .highlight_spacing(symbol_spacing)
+        .flex(flex)
 }
 
 #[tactic(auto, unfolding(crate::specs::Items::TableFields::table_state_of))]
@@ -227,8 +212,10 @@ pub(crate) fn read_table<'v>(
 ) -> Result<(Table<'v>, TableState), InputError<BadField>>
     ensures { Gives (λ p. (table_data p.0, p.1)) result (shown_table item (view value.now)) }
 {
-    let table = read_frame(alloc, item, value)?;
-    let table = read_marks(alloc, table, item, value)?;
-    let table = read_column_layout(alloc, table, item, value)?;
-    Ok((table, read_state(alloc, item, value)?))
+    let (block, style) = read_frame(alloc, item, value)?;
+    let table = framed(read_rows(alloc, item, value)?, block, style);
+    let marks = read_marks(alloc, item, value)?;
+    let layout = read_layout(alloc, item, value)?;
+    let state = read_state(alloc, item, value)?;
+    Ok((marked(table, marks, layout), state))
 }

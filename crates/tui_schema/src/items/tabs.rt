@@ -7,13 +7,14 @@ ghost use Rattle.tui_cells.specs.Cell.{space};
 ghost use Rattle.tui_cells.specs.Symbols.{utf8};
 ghost use Rattle.tui_frames.specs.Block.{block_data};
 ghost use Rattle.tui_lists.specs.Tabs.{tabs_data};
-ghost use Rattle.tui_schema.specs.Items.TabsFields.{marked_tabs, shown_tabs, spaced_tabs, tabs_with_titles};
+ghost use Rattle.tui_schema.specs.Items.TabsFields.{selection_of, shown_tabs, tabs_space_of};
 ghost use Rattle.tui_json.specs.Refusals.{Gives};
 ghost use Rattle.tui_text.specs.Line.{line_data, raw_line};
 ghost use Rattle.tui_text.specs.Span.{raw_span, span_data};
 
 use crate::bad_field::BadField;
 use crate::field::Field;
+use crate::items::frame::read_frame;
 use crate::kinds::Symbol;
 use serde_json::Value;
 use std::alloc::Global;
@@ -23,22 +24,16 @@ use tui_json::{InputError, given, optional, required};
 use tui_lists::Tabs;
 use tui_text::{Line, Span};
 
-fn in_block<'v>(tabs: Tabs<'v>, block: Option<Block<'v>>) -> Tabs<'v>
+/// Returns the tabs in this block, if there is one, and with this style.
+fn framed<'v>(tabs: Tabs<'v>, block: Option<Block<'v>>, style: Style) -> Tabs<'v>
     ensures { tabs_data result ≡ record (tabs_data tabs.entry) {
       block = option_or (option_map block_data block.entry) (tabs_data tabs.entry).block;
+      style = style;
     } }
 {
+    let tabs = tabs.style(style);
     match block {
         Some(block) => tabs.block(block),
-        None => tabs,
-    }
-}
-
-fn with_selection<'v>(tabs: Tabs<'v>, selected: Option<Option<u64>>) -> Tabs<'v>
-    ensures { tabs_data result ≡ record (tabs_data tabs.entry) { selected = unwrap_or selected (tabs_data tabs.entry).selected } }
-{
-    match selected {
-        Some(selected) => tabs.select(selected.map(|place| place as usize)),
         None => tabs,
     }
 }
@@ -61,71 +56,62 @@ fn padding_of<'v>(alloc: Global, symbol: Option<Symbol<'v>>) -> Mem<Line<'v>>
     }
 }
 
-/// Returns the tabs with these texts between two titles, and left and right of each title.
-fn with_padding<'v>(
-    alloc: Global,
-    tabs: Tabs<'v>,
-    divider: Option<Symbol<'v>>,
-    left: Option<Symbol<'v>>,
-    right: Option<Symbol<'v>>,
-) -> Mem<Tabs<'v>>
-    ensures { IfOk result (λ spaced. tabs_data spaced ≡ record (tabs_data tabs.entry) {
-      divider = raw_span (unwrap_or (option_map (λ s. s.0.now) divider.entry) (utf8 "│"));
-      padding_left = raw_line (unwrap_or (option_map (λ s. s.0.now) left.entry) space);
-      padding_right = raw_line (unwrap_or (option_map (λ s. s.0.now) right.entry) space);
-    }) }
-{
-    let left = padding_of(alloc, left)?;
-    let right = padding_of(alloc, right)?;
-    Ok(tabs.divider(divider_of(divider)).padding(left, right))
-}
-
-/// Reads the titles, with their block and their style.
-#[tactic(auto, unfolding(crate::specs::Items::TabsFields::tabs_with_titles))]
-fn read_titles<'v>(
-    alloc: Global,
-    item: Option<usize>,
-    value: &'v Value,
-) -> Result<Tabs<'v>, InputError<BadField>>
-    ensures { Gives tabs_data result (tabs_with_titles item (view value.now)) }
-{
-    let block: Option<Block<'v>> = optional(alloc, item, Field::Block, value)?;
-    let style: Option<Style> = optional(alloc, item, Field::Style, value)?;
-    let titles: Vec<Line<'v>> = required(alloc, item, Field::Titles, value)?;
-    let tabs = Tabs::new(alloc, titles)?;
-    Ok(in_block(tabs, block).style(style.unwrap_or(Style::new())))
-}
-
 /// Reads the selected title and its style.
-#[tactic(auto, unfolding(crate::specs::Items::TabsFields::marked_tabs))]
-fn read_selection<'v>(
+#[tactic(auto, unfolding(crate::specs::Items::TabsFields::selection_of))]
+fn read_selection(
     alloc: Global,
-    tabs: Tabs<'v>,
     item: Option<usize>,
-    value: &'v Value,
-) -> Result<Tabs<'v>, InputError<BadField>>
-    ensures { Gives tabs_data result (marked_tabs (tabs_data tabs.entry) item (view value.now)) }
+    value: &Value,
+) -> Result<(Option<Option<u64>>, Style), InputError<BadField>>
+    ensures { Gives (λ selection. selection) result (selection_of item (view value.now)) }
 {
     let selected: Option<Option<u64>> = given(alloc, item, Field::Selected, value)?;
     let style: Option<Style> = optional(alloc, item, Field::HighlightStyle, value)?;
     let reversed = Style::new().add_modifier(Modifier::REVERSED);
-    Ok(with_selection(tabs, selected).highlight_style(style.unwrap_or(reversed)))
+    Ok((selected, style.unwrap_or(reversed)))
 }
 
-/// Reads what is beside the titles.
-#[tactic(auto, unfolding(crate::specs::Items::TabsFields::spaced_tabs))]
+/// Reads what is between two titles, and left and right of each title.
+#[tactic(auto, unfolding(crate::specs::Items::TabsFields::tabs_space_of))]
 fn read_space<'v>(
     alloc: Global,
-    tabs: Tabs<'v>,
     item: Option<usize>,
     value: &'v Value,
-) -> Result<Tabs<'v>, InputError<BadField>>
-    ensures { Gives tabs_data result (spaced_tabs (tabs_data tabs.entry) item (view value.now)) }
+) -> Result<(Span<'v>, Line<'v>, Line<'v>), InputError<BadField>>
+    ensures { Gives (λ space. (span_data space.0, line_data space.1, line_data space.2)) result (tabs_space_of item (view value.now)) }
 {
     let divider: Option<Symbol<'v>> = optional(alloc, item, Field::Divider, value)?;
     let left: Option<Symbol<'v>> = optional(alloc, item, Field::PaddingLeft, value)?;
     let right: Option<Symbol<'v>> = optional(alloc, item, Field::PaddingRight, value)?;
-    Ok(with_padding(alloc, tabs, divider, left, right)?)
+    let left = padding_of(alloc, left)?;
+    let right = padding_of(alloc, right)?;
+    Ok((divider_of(divider), left, right))
+}
+
+/// Returns the tabs with this selection, if there is one, and with this space beside the titles.
+fn spaced<'v>(
+    tabs: Tabs<'v>,
+    selection: (Option<Option<u64>>, Style),
+    space: (Span<'v>, Line<'v>, Line<'v>),
+) -> Tabs<'v>
+    ensures { tabs_data result ≡ record (tabs_data tabs.entry) {
+      selected = unwrap_or selection.0 (tabs_data tabs.entry).selected;
+      highlight_style = selection.1;
+      divider = span_data space.entry.0;
+      padding_left = line_data space.entry.1;
+      padding_right = line_data space.entry.2;
+    } }
+{
+    let (selected, style) = selection;
+    let (divider, left, right) = space;
+    let tabs = tabs
+        .highlight_style(style)
+        .divider(divider)
+        .padding(left, right);
+    match selected {
+        Some(selected) => tabs.select(selected.map(|place| place as usize)),
+        None => tabs,
+    }
 }
 
 #[tactic(auto, unfolding(crate::specs::Items::TabsFields::shown_tabs))]
@@ -136,7 +122,10 @@ pub(crate) fn read_tabs<'v>(
 ) -> Result<Tabs<'v>, InputError<BadField>>
     ensures { Gives tabs_data result (shown_tabs item (view value.now)) }
 {
-    let tabs = read_titles(alloc, item, value)?;
-    let tabs = read_selection(alloc, tabs, item, value)?;
-    read_space(alloc, tabs, item, value)
+    let (block, style) = read_frame(alloc, item, value)?;
+    let titles: Vec<Line<'v>> = required(alloc, item, Field::Titles, value)?;
+    let tabs = framed(Tabs::new(alloc, titles)?, block, style);
+    let selection = read_selection(alloc, item, value)?;
+    let space = read_space(alloc, item, value)?;
+    Ok(spaced(tabs, selection, space))
 }

@@ -3,11 +3,11 @@
 ghost use Rattle.tui_schema.specs.Kinds.Area.{area_in};
 
 use crate::field::Field;
-use crate::kinds::member::read;
+use crate::kinds::four::read_four;
 use serde_json::Value;
 use std::alloc::Global;
 use tui_cells::Rect;
-use tui_json::{Kind, KindError, elements};
+use tui_json::{Kind, KindError};
 
 impl<'v> Kind<'v, Field> for Rect {
     ghost use Rattle.tui_cells.specs.declared.rect.Rect.{Rect};
@@ -18,16 +18,14 @@ impl<'v> Kind<'v, Field> for Rect {
 
     ghost kind = { area_in };
 
-    #[tactic(auto, using(crate::proofs::Arrays::four_other), unfolding(crate::specs::Kinds::Area::area_in))]
+    #[tactic(auto, unfolding(crate::specs::Kinds::Area::area_in))]
     fn read(alloc: Global, value: &'v Value) -> Result<Rect, KindError> {
-        let [x, y, width, height] = elements(value)? else {
-            return Err(KindError::WrongKind);
-        };
+        let (x, y, width, height) = read_four(alloc, value)?;
         Ok(Rect {
-            x: read(alloc, x)?,
-            y: read(alloc, y)?,
-            width: read(alloc, width)?,
-            height: read(alloc, height)?,
+            x,
+            y,
+            width,
+            height,
         })
     }
 }

@@ -1,15 +1,17 @@
 //! Blocks: objects whose members may all be left out.
 
-ghost use Rattle.std.specs.Prelude.{◌≡◌, option_map};
+ghost use Rattle.std.specs.Prelude.{◌≡◌, map, option_map};
 ghost use Rattle.std.specs.Option.{option_or};
 ghost use Rattle.serde_json.specs.View.{view};
-ghost use Rattle.tui_frames.specs.Block.{block_data};
+ghost use Rattle.tui_frames.specs.Block.{block_data, block_of as new_block, title_data};
+ghost use Rattle.tui_frames.specs.BorderType.{symbols_of};
 ghost use Rattle.tui_frames.specs.Shadow.{shadow_data};
 ghost use Rattle.tui_json.specs.Kinds.{Reads};
-ghost use Rattle.tui_schema.specs.Kinds.Block.{block_of, bordered_of, spaced_of, titled_of};
+ghost use Rattle.tui_schema.specs.Kinds.Block.{block_of, borders_in, space_in, titles_in};
 
 use crate::field::Field;
 use crate::kinds::member::{optional_member, optional_named_member};
+use crate::kinds::style::style_member;
 use serde_json::Value;
 use std::alloc::Global;
 use tui_cells::{MergeStrategy, Style};
@@ -17,60 +19,82 @@ use tui_frames::{Block, BorderType, Borders, Padding, Shadow, Title, TitlePositi
 use tui_json::{Kind, KindError};
 use tui_text::Alignment;
 
-/// Reads the borders of a block.
-#[tactic(auto, unfolding(crate::specs::Kinds::Block::bordered_of))]
-fn read_borders<'v>(
-    alloc: Global,
-    block: Block<'v>,
-    value: &'v Value,
-) -> Result<Block<'v>, KindError>
-    ensures { Reads block_data result (bordered_of (block_data block.entry) (view value.now)) }
+/// Reads the sides, the kind and the style of the borders.
+#[tactic(auto, unfolding(crate::specs::Kinds::Block::borders_in))]
+fn read_borders(alloc: Global, value: &Value) -> Result<(Borders, BorderType, Style), KindError>
+    ensures { Reads (λ borders. borders) result (borders_in (view value.now)) }
 {
     let borders: Option<Borders> = optional_member(alloc, value, "borders")?;
     let kind: Option<BorderType> = optional_named_member(alloc, value, "border_type")?;
-    let style: Option<Style> = optional_member(alloc, value, "border_style")?;
-    Ok(
-        block
-            .borders(borders.unwrap_or(Borders::NONE))
-            .border_type(kind.unwrap_or(BorderType::Plain))
-            .border_style(style.unwrap_or(Style::new())),
-    )
+    let style = style_member(alloc, value, "border_style")?;
+    let borders = borders.unwrap_or(Borders::NONE);
+    let kind = kind.unwrap_or(BorderType::Plain);
+    Ok((borders, kind, style))
 }
 
 /// Reads the style and the padding of a block.
-#[tactic(auto, unfolding(crate::specs::Kinds::Block::spaced_of))]
-fn read_space<'v>(alloc: Global, block: Block<'v>, value: &'v Value) -> Result<Block<'v>, KindError>
-    ensures { Reads block_data result (spaced_of (block_data block.entry) (view value.now)) }
+#[tactic(auto, unfolding(crate::specs::Kinds::Block::space_in))]
+fn read_space(alloc: Global, value: &Value) -> Result<(Style, Padding), KindError>
+    ensures { Reads (λ space. space) result (space_in (view value.now)) }
 {
-    let style: Option<Style> = optional_member(alloc, value, "style")?;
+    let style = style_member(alloc, value, "style")?;
     let padding: Option<Padding> = optional_member(alloc, value, "padding")?;
-    Ok(
-        block
-            .style(style.unwrap_or(Style::new()))
-            .padding(padding.unwrap_or(Padding::ZERO)),
-    )
+    Ok((style, padding.unwrap_or(Padding::ZERO)))
 }
 
-/// Reads the titles of a block.
-#[tactic(auto, unfolding(crate::specs::Kinds::Block::titled_of))]
+/// Reads the titles of a block, and their style, alignment and position.
+#[tactic(auto, unfolding(crate::specs::Kinds::Block::titles_in))]
 fn read_titles<'v>(
     alloc: Global,
-    block: Block<'v>,
     value: &'v Value,
-) -> Result<Block<'v>, KindError>
-    ensures { Reads block_data result (titled_of (block_data block.entry) (view value.now)) }
+) -> Result<(Vec<Title<'v>>, Style, Alignment, TitlePosition), KindError>
+    ensures { Reads (λ titles. (map title_data titles.0.items, titles.1, titles.2, titles.3)) result (titles_in (view value.now)) }
 {
     let titles: Option<Vec<Title<'v>>> = optional_member(alloc, value, "titles")?;
-    let style: Option<Style> = optional_member(alloc, value, "title_style")?;
+    let style = style_member(alloc, value, "title_style")?;
     let alignment: Option<Alignment> = optional_named_member(alloc, value, "title_alignment")?;
     let position: Option<TitlePosition> = optional_named_member(alloc, value, "title_position")?;
-    Ok(
-        block
-            .titles(titles.unwrap_or(Vec::new(alloc)))
-            .title_style(style.unwrap_or(Style::new()))
-            .title_alignment(alignment.unwrap_or(Alignment::Left))
-            .title_position(position.unwrap_or(TitlePosition::Top)),
-    )
+    let titles = titles.unwrap_or(Vec::new(alloc));
+    let alignment = alignment.unwrap_or(Alignment::Left);
+    Ok((
+        titles,
+        style,
+        alignment,
+        position.unwrap_or(TitlePosition::Top),
+    ))
+}
+
+/// Returns a block with these borders and titles, and with this space around its content.
+fn framed<'v>(
+    alloc: Global,
+    borders: (Borders, BorderType, Style),
+    space: (Style, Padding),
+    titles: (Vec<Title<'v>>, Style, Alignment, TitlePosition),
+) -> Block<'v>
+    ensures { block_data result ≡ record (new_block 0) {
+      borders = borders.0;
+      symbols = symbols_of borders.1;
+      border_style = borders.2;
+      style = space.0;
+      padding = space.1;
+      titles = map title_data titles.entry.0.items;
+      title_style = titles.entry.1;
+      title_alignment = titles.entry.2;
+      title_position = titles.entry.3;
+    } }
+{
+    let block = Block::new(alloc)
+        .borders(borders.0)
+        .border_type(borders.1)
+        .border_style(borders.2)
+        .style(space.0)
+        .padding(space.1);
+    let (titles, style, alignment, position) = titles;
+    block
+        .titles(titles)
+        .title_style(style)
+        .title_alignment(alignment)
+        .title_position(position)
 }
 
 /// Returns the block with a merge strategy of its borders, and with a shadow, if there is one.
@@ -101,11 +125,12 @@ impl<'v> Kind<'v, Field> for Block<'v> {
         if !value.is_object() {
             return Err(KindError::WrongKind);
         }
-        let block = read_borders(alloc, Block::new(alloc), value)?;
-        let block = read_space(alloc, block, value)?;
-        let block = read_titles(alloc, block, value)?;
+        let borders = read_borders(alloc, value)?;
+        let space = read_space(alloc, value)?;
+        let titles = read_titles(alloc, value)?;
         let strategy: Option<MergeStrategy> = optional_named_member(alloc, value, "merge_borders")?;
         let shadow: Option<Shadow<'v>> = optional_member(alloc, value, "shadow")?;
+        let block = framed(alloc, borders, space, titles);
         Ok(joined(block, strategy.unwrap_or(MergeStrategy::Replace), shadow))
     }
 }

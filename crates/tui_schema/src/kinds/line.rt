@@ -6,10 +6,10 @@ ghost use Rattle.tui_schema.specs.Kinds.Line.{line_of, line_with_spans};
 ghost use Rattle.tui_text.specs.Line.{line_data};
 
 use crate::field::Field;
-use crate::kinds::member::{member, optional_member, optional_named_member, read};
+use crate::kinds::member::{member, optional_named_member, read};
+use crate::kinds::style::style_member;
 use serde_json::Value;
 use std::alloc::Global;
-use tui_cells::Style;
 use tui_json::{Kind, KindError};
 use tui_text::{Alignment, Line, Span};
 
@@ -18,9 +18,9 @@ fn line_with_spans<'v>(alloc: Global, value: &'v Value) -> Result<Line<'v>, Kind
     ensures { Reads line_data result (line_with_spans (view value.now)) }
 {
     let spans: Vec<Span<'v>> = member(alloc, value, "spans")?;
-    let style: Option<Style> = optional_member(alloc, value, "style")?;
+    let style = style_member(alloc, value, "style")?;
     let alignment: Option<Alignment> = optional_named_member(alloc, value, "alignment")?;
-    let line = Line::from(spans).style(style.unwrap_or(Style::new()));
+    let line = Line::from(spans).style(style);
     match alignment {
         Some(alignment) => Ok(line.alignment(alignment)),
         None => Ok(line),

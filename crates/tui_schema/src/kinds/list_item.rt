@@ -3,10 +3,10 @@
 ghost use Rattle.tui_schema.specs.Kinds.ListItem.{list_item_of};
 
 use crate::field::Field;
-use crate::kinds::member::{optional_member, read};
+use crate::kinds::member::read;
+use crate::kinds::style::style_member;
 use serde_json::Value;
 use std::alloc::Global;
-use tui_cells::Style;
 use tui_json::{Kind, KindError};
 use tui_lists::ListItem;
 use tui_text::Text;
@@ -26,8 +26,8 @@ impl<'v> Kind<'v, Field> for ListItem<'v> {
             None => Ok(ListItem::new(read(alloc, value)?)),
             Some(content) => {
                 let content = read(alloc, content)?;
-                let style: Option<Style> = optional_member(alloc, value, "style")?;
-                Ok(ListItem::new(content).style(style.unwrap_or(Style::new())))
+                let style = style_member(alloc, value, "style")?;
+                Ok(ListItem::new(content).style(style))
             }
         }
     }

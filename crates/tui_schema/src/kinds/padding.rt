@@ -3,11 +3,11 @@
 ghost use Rattle.tui_schema.specs.Kinds.Padding.{padding_of};
 
 use crate::field::Field;
-use crate::kinds::member::read;
+use crate::kinds::four::read_four;
 use serde_json::Value;
 use std::alloc::Global;
 use tui_frames::Padding;
-use tui_json::{Kind, KindError, elements};
+use tui_json::{Kind, KindError};
 
 impl<'v> Kind<'v, Field> for Padding {
     ghost use Rattle.tui_frames.specs.declared.padding.Padding.{Padding};
@@ -18,16 +18,14 @@ impl<'v> Kind<'v, Field> for Padding {
 
     ghost kind = { padding_of };
 
-    #[tactic(auto, using(crate::proofs::Arrays::four_other), unfolding(crate::specs::Kinds::Padding::padding_of))]
+    #[tactic(auto, unfolding(crate::specs::Kinds::Padding::padding_of))]
     fn read(alloc: Global, value: &'v Value) -> Result<Padding, KindError> {
-        let [left, right, top, bottom] = elements(value)? else {
-            return Err(KindError::WrongKind);
-        };
+        let (left, right, top, bottom) = read_four(alloc, value)?;
         Ok(Padding {
-            left: read(alloc, left)?,
-            right: read(alloc, right)?,
-            top: read(alloc, top)?,
-            bottom: read(alloc, bottom)?,
+            left,
+            right,
+            top,
+            bottom,
         })
     }
 }

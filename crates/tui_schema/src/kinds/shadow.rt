@@ -8,10 +8,11 @@ ghost use Rattle.tui_schema.specs.Kinds.Shadow.{effect_of, shadow_of};
 
 use crate::field::Field;
 use crate::kinds::member::{member, optional_member};
+use crate::kinds::style::style_member;
 use crate::kinds::symbol::Symbol;
 use serde_json::Value;
 use std::alloc::Global;
-use tui_cells::{Offset, Style};
+use tui_cells::Offset;
 use tui_frames::Shadow;
 use tui_json::{Kind, KindError};
 
@@ -48,13 +49,9 @@ impl<'v> Kind<'v, Field> for Shadow<'v> {
     #[tactic(auto, unfolding(crate::specs::Kinds::Shadow::shadow_of))]
     fn read(alloc: Global, value: &'v Value) -> Result<Shadow<'v>, KindError> {
         let shadow = read_effect(alloc, value)?;
-        let style: Option<Style> = optional_member(alloc, value, "style")?;
+        let style = style_member(alloc, value, "style")?;
         let offset: Option<(i32, i32)> = optional_member(alloc, value, "offset")?;
         let (x, y) = offset.unwrap_or((1, 1));
-        Ok(
-            shadow
-                .style(style.unwrap_or(Style::new()))
-                .offset(Offset { x, y }),
-        )
+        Ok(shadow.style(style).offset(Offset { x, y }))
     }
 }

@@ -6,10 +6,10 @@ ghost use Rattle.tui_schema.specs.Kinds.Span.{span_of, span_with_text};
 ghost use Rattle.tui_text.specs.Span.{span_data};
 
 use crate::field::Field;
-use crate::kinds::member::{member, optional_member};
+use crate::kinds::member::member;
+use crate::kinds::style::style_member;
 use serde_json::Value;
 use std::alloc::Global;
-use tui_cells::Style;
 use tui_json::{Kind, KindError};
 use tui_text::Span;
 
@@ -18,8 +18,8 @@ fn span_with_text<'v>(alloc: Global, value: &'v Value) -> Result<Span<'v>, KindE
     ensures { Reads span_data result (span_with_text (view value.now)) }
 {
     let content: &'v str = member(alloc, value, "text")?;
-    let style: Option<Style> = optional_member(alloc, value, "style")?;
-    Ok(Span::styled(content, style.unwrap_or(Style::new())))
+    let style = style_member(alloc, value, "style")?;
+    Ok(Span::styled(content, style))
 }
 
 impl<'v> Kind<'v, Field> for Span<'v> {

@@ -1,7 +1,9 @@
 //! Styles: objects of colours and modifiers.
 
 ghost use Rattle.std.specs.Prelude.{◌≡◌};
-ghost use Rattle.tui_schema.specs.Kinds.Style.{styled, modifiers_or_none, style_of};
+ghost use Rattle.serde_json.specs.View.{view};
+ghost use Rattle.tui_json.specs.Kinds.{Reads};
+ghost use Rattle.tui_schema.specs.Kinds.Style.{modifiers_or_none, style_member, styled, style_of};
 
 use crate::field::Field;
 use crate::kinds::member::optional_member;
@@ -50,4 +52,13 @@ impl<'v> Kind<'v, Field> for Style {
         let sub = optional_member(alloc, value, "sub")?;
         Ok(styled(fg, bg, add, sub))
     }
+}
+
+/// Reads the member of this name, which may be absent or null, as a style. Without it, the style is empty.
+#[tactic(auto, unfolding(crate::specs::Kinds::Style::style_member))]
+pub(crate) fn style_member(alloc: Global, value: &Value, name: &str) -> Result<Style, KindError>
+    ensures { Reads (λ style. style) result (style_member name.now (view value.now)) }
+{
+    let style: Option<Style> = optional_member(alloc, value, name)?;
+    Ok(style.unwrap_or(Style::new()))
 }

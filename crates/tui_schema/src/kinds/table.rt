@@ -5,9 +5,9 @@ ghost use Rattle.tui_schema.specs.Kinds.Table.{row_of, table_cell_of};
 
 use crate::field::Field;
 use crate::kinds::member::{member, optional_member, read};
+use crate::kinds::style::style_member;
 use serde_json::Value;
 use std::alloc::Global;
-use tui_cells::Style;
 use tui_json::{Kind, KindError};
 use tui_table::{Cell, Row};
 use tui_text::Text;
@@ -27,9 +27,9 @@ impl<'v> Kind<'v, Field> for Cell<'v> {
             None => Ok(Cell::new(read(alloc, value)?)),
             Some(content) => {
                 let content = read(alloc, content)?;
-                let style: Option<Style> = optional_member(alloc, value, "style")?;
+                let style = style_member(alloc, value, "style")?;
                 let span: Option<u16> = optional_member(alloc, value, "column_span")?;
-                let cell = Cell::new(content).style(style.unwrap_or(Style::new()));
+                let cell = Cell::new(content).style(style);
                 Ok(cell.column_span(span.unwrap_or(1)))
             }
         }
@@ -57,13 +57,13 @@ impl<'v> Kind<'v, Field> for Row<'v> {
                 let height: Option<u16> = optional_member(alloc, value, "height")?;
                 let top: Option<u16> = optional_member(alloc, value, "top_margin")?;
                 let bottom: Option<u16> = optional_member(alloc, value, "bottom_margin")?;
-                let style: Option<Style> = optional_member(alloc, value, "style")?;
+                let style = style_member(alloc, value, "style")?;
                 Ok(
                     Row::new(cells)
                         .height(height.unwrap_or(1))
                         .top_margin(top.unwrap_or(0))
                         .bottom_margin(bottom.unwrap_or(0))
-                        .style(style.unwrap_or(Style::new())),
+                        .style(style),
                 )
             }
         }

@@ -7,10 +7,10 @@ ghost use Rattle.tui_schema.specs.Kinds.Text.{text_of, text_with_lines};
 ghost use Rattle.tui_text.specs.Text.{text_data};
 
 use crate::field::Field;
-use crate::kinds::member::{member, optional_member, optional_named_member, read};
+use crate::kinds::member::{member, optional_named_member, read};
+use crate::kinds::style::style_member;
 use serde_json::Value;
 use std::alloc::Global;
-use tui_cells::Style;
 use tui_json::{Kind, KindError};
 use tui_text::{Alignment, Line, Text};
 
@@ -19,9 +19,9 @@ fn text_with_lines<'v>(alloc: Global, value: &'v Value) -> Result<Text<'v>, Kind
     ensures { Reads text_data result (text_with_lines (view value.now)) }
 {
     let lines: Vec<Line<'v>> = member(alloc, value, "lines")?;
-    let style: Option<Style> = optional_member(alloc, value, "style")?;
+    let style = style_member(alloc, value, "style")?;
     let alignment: Option<Alignment> = optional_named_member(alloc, value, "alignment")?;
-    let text = Text::from(lines).style(style.unwrap_or(Style::new()));
+    let text = Text::from(lines).style(style);
     match alignment {
         Some(alignment) => Ok(text.alignment(alignment)),
         None => Ok(text),
