@@ -185,6 +185,12 @@ def goes_through_folders(tmux):
     tmux.keys("Enter", "Enter")
     tmux.ended("Enter at a file", 0)
     tmux.equal("the path that was chosen", (tmux.folder / "chosen").read_text(encoding="utf-8"), f"{folder.resolve()}/pear\n")
+    tmux.equal("a path that can't be written", tmux.run("./live tui_files house house"), "tui_files: house: Is a directory\n")
+    tmux.start("tui_files house chosen", ">cellar/")
+    tmux.equal("CHOSEN during a session", (tmux.folder / "chosen").read_text(encoding="utf-8"), f"{folder.resolve()}/pear\n")
+    tmux.keys("C-c")
+    tmux.ended("Ctrl-C before a path is written", 130)
+    tmux.equal("CHOSEN after Ctrl-C", (tmux.folder / "chosen").read_text(encoding="utf-8"), f"{folder.resolve()}/pear\n")
     rejects(tmux, "tui_files", [("a b c", 2, ["refused: usage", "usage: tui_files [--folder] [FOLDER [CHOSEN]]"]), ("nothing", 6, ["tui_files: nothing: No such file or directory"])])
 
 

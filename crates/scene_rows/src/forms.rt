@@ -42,7 +42,7 @@ fn ask<W: Write>(alloc: Global, form: Form, asking: &Value, out: &mut W) -> Resu
 
 fn answer<W: Write>(alloc: Global, form: &Form, out: &mut W) -> Result<()> {
     let mut sink = MemSink::new(alloc, ROOM, Vec::new(alloc))?;
-    if write_answers_line(alloc, form.fields(), &mut sink).is_err() {
+    if write_answers_line::<BadForm, MemSink>(alloc, form.fields(), &mut sink).is_err() {
         bail!("no room for the answers");
     }
     write!(out, "accepted ")?;

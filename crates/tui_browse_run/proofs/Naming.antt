@@ -1,18 +1,13 @@
 -- What the first arguments name.
-use Rattle.std.proofs.Common.{◌≡◌, ◌<◌, ℕ, List, [], ◌∷◌, length, take, codes, String, Global, string_bytes, sym, ap, subst, ◌∙◌, arith, inl, inr}
-use Rattle.std.proofs.lemmas.Bool.{cases_lt}
-use Rattle.std.proofs.lemmas.List.{length-map, length-take-le, take_all}
-use Rattle.tui_browse_run.specs.Ends.{EndsBy}
+use Rattle.std.proofs.Common.{◌≡◌, ◌<◌, ℕ, ◌≤◌, List, [], ◌∷◌, length, take, codes, String, Global, string_bytes, sym, ap, subst, ◌∙◌, arith, inl, inr}
+use Rattle.std.proofs.lemmas.List.{length-map, take_all}
 use Rattle.tui_browse_run.specs.Arguments.{Names, NamesFile}
-use Rattle.tui_browse_run.specs.declared.ended.BrowseEnded.{BrowseEnded}
 use Rattle.tui_browse_run.specs.declared.format.Format.{Format}
 use Rattle.tui_browse_run.specs.declared.format.Format.TheVariants.{Entries, Text}
-use Rattle.tui_system.specs.declared.settings.Setting.{Setting}
-use Rattle.tui_program.specs.Transcript.{Transcript}
-use Rattle.tui_program.specs.Arguments.{AreTexts}
+use Rattle.tui_program.specs.Arguments.{AreTexts, most_arguments}
 
 -- arguments that name a format are few
-few : (format : Format) (arguments : List (String Global)) → Names format arguments → length arguments < 4
+pub few : (format : Format) (arguments : List (String Global)) → Names format arguments → length arguments ≤ most_arguments
 few Entries arguments names = omega arith
 few Text arguments names = omega (arith, names.2)
 
@@ -31,16 +26,4 @@ named_first all first file is names = elim names [
   | inr two ↦
       let count = count_of (codes "--text" ∷ string_bytes file ∷ []) all two in
       (Text, subst (Names Text) (sym (first_is_all all first is (omega arith))) (string_bytes file ∷ [], two, count))
-]
-
-pub ends_by_all : (setting : Setting) (all first : List (String Global)) (t : Transcript) (e : BrowseEnded) → first ≡ take 4 all → EndsBy setting first t e →
-    EndsBy setting all t e
-ends_by_all setting all first t e is h = elim (cases_lt (length all) 4) [
-  | inl below ↦ subst (λ (arguments : List (String Global)). EndsBy setting arguments t e) (first_is_all all first is below) h
-  | inr above ↦
-      let four : length first ≡ 4 = ap length is ∙ length-take-le 4 all above in
-      elim h [
-        | inl named ↦ absurd (let short = few named.0 first named.1 in omega arith)
-        | inr unnamed ↦ inr (λ format names. let short = few format all names in omega arith, unnamed.1, unnamed.2)
-      ]
 ]

@@ -13,9 +13,6 @@ abbrev pub Names : Format → List (String Global) → Type 0
 Names Entries arguments = length arguments ≡ 1
 Names Text arguments = StartWith (codes "--text") 2 arguments
 
-abbrev pub NameNoFile : List (String Global) → Type 0
-NameNoFile arguments = (format : Format) → Names format arguments → ⊥
-
 -- the arguments name a file: it is the last of them
 abbrev pub NamesFile : String Global → List (String Global) → Type 0
 NamesFile file arguments = AreTexts (string_bytes file ∷ []) arguments ⊎ AreTexts (codes "--text" ∷ string_bytes file ∷ []) arguments

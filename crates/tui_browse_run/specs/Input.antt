@@ -1,53 +1,44 @@
--- What a file means: its entries, or why it is rejected.
-use Rattle.std.specs.Prelude.{◌≡◌, ℕ, List, map, Some, None, Result, Ok, Err, IsUtf8}
+-- What a file means: its entries, or why there are none.
+use Rattle.std.specs.Prelude.{◌≡◌, ℕ, List, map, None, Result, Ok, Err, IsUtf8}
 use Rattle.serde_json.specs.Data.{Data}
-use Rattle.serde_json.specs.Read.{read}
-use Rattle.tui_browse_run.specs.Pieces.{AreAllPieces, HasMorePieces, PieceData}
-use Rattle.tui_browse_run.specs.Pieces as pieces
+use Rattle.tui_browse_run.specs.Arguments.{Names}
+use Rattle.tui_browse_run.specs.Pieces.{AreAllPieces, HasMorePieces, PieceData, entry_of}
 use Rattle.tui_browse_run.specs.declared.format.Format.{Format}
 use Rattle.tui_browse_run.specs.declared.format.Format.TheVariants as formats
-use Rattle.tui_browse_run.specs.declared.refusal.Refusal.{Refusal}
-use Rattle.tui_browse_run.specs.declared.refusal.Refusal.TheVariants.{TooLong, NotJson, NotText, BadInput}
 use Rattle.tui_json.specs.Members.{elements_within}
 use Rattle.tui_json.specs.Refusals.{◌>>=◌, numbered}
 use Rattle.tui_pager_lib.specs.Entry.{EntryData}
-use Rattle.tui_pager_run.specs.Input.{entry_of, required}
-use Rattle.tui_pager_run.specs.declared.bad_input.BadInput.{BadInput as Bad}
+use Rattle.tui_pager_run.specs.Input.{required}
+use Rattle.tui_pager_run.specs.Input as pager
+use Rattle.tui_pager_run.specs.declared.bad_input.BadInput.{BadInput}
 use Rattle.tui_pager_run.specs.declared.field.PagerField.TheVariants as fields
+use Rattle.tui_program.specs.Input.{MeansJson, Reader}
+use Rattle.tui_program.specs.declared.stop.Stop.{Stop}
+use Rattle.tui_program.specs.declared.stop.Stop.TheVariants as stop
 
 -- the entries of an input, or its first field that fails its test
-unfoldable pub entries_of : Data → Result (List EntryData) Bad
+unfoldable pub entries_of : Data → Result (List EntryData) BadInput
 entries_of d = do
   values ← required (elements_within 0 1000) None fields.Entries d
-  numbered entry_of 0 values
+  numbered pager.entry_of 0 values
 
--- entries, or why the file is rejected
-abbrev pub Parsed : Type 0
-Parsed = Result (List EntryData) Refusal
+-- what a text means: its pieces are the entries, if there are not too many
+abbrev pub PiecesMean : List ℕ → Result (List EntryData) (Stop BadInput) → Type 0
+PiecesMean text (Ok entries) = (all : List PieceData) × AreAllPieces text all × (entries ≡ map entry_of all)
+PiecesMean text (Err stop.TooLong) = HasMorePieces text
+PiecesMean text (Err stop.NoMemory) = Unit {0}
+PiecesMean text (Err other) = ⊥
 
--- a JSON value
-abbrev pub ValueParsesTo : Data → Parsed → Type 0
-ValueParsesTo d (Ok entries) = entries_of d ≡ Ok entries
-ValueParsesTo d (Err (BadInput x)) = entries_of d ≡ Err x
-ValueParsesTo d (Err other) = ⊥
+-- what bytes mean that should be UTF-8 text
+abbrev pub TextMeans : List ℕ → Result (List EntryData) (Stop BadInput) → Type 0
+TextMeans bytes (Err stop.NotText) = IsUtf8 bytes → ⊥
+TextMeans bytes x = IsUtf8 bytes × PiecesMean bytes x
 
--- bytes that should be JSON
-abbrev pub JsonParsesTo : List ℕ → Parsed → Type 0
-JsonParsesTo bytes (Err NotJson) = IsUtf8 bytes → read bytes ≡ None
-JsonParsesTo bytes parsed = (d : Data) × IsUtf8 bytes × (read bytes ≡ Some d) × ValueParsesTo d parsed
+-- what the bytes of a file mean
+abbrev pub Means : Format → List ℕ → Result (List EntryData) (Stop BadInput) → Type 0
+Means formats.Entries bytes x = MeansJson entries_of bytes x
+Means formats.Text bytes x = TextMeans bytes x
 
--- a text, whose pieces are the entries
-abbrev pub PiecesParseTo : List ℕ → Parsed → Type 0
-PiecesParseTo text (Ok entries) = (all : List PieceData) × AreAllPieces text all × (entries ≡ map pieces.entry_of all)
-PiecesParseTo text (Err TooLong) = HasMorePieces text
-PiecesParseTo text (Err other) = ⊥
-
--- bytes that should be UTF-8 text
-abbrev pub TextParsesTo : List ℕ → Parsed → Type 0
-TextParsesTo bytes (Err NotText) = IsUtf8 bytes → ⊥
-TextParsesTo bytes parsed = IsUtf8 bytes × PiecesParseTo bytes parsed
-
--- the bytes of a file
-abbrev pub ParsesTo : Format → List ℕ → Parsed → Type 0
-ParsesTo formats.Entries bytes parsed = JsonParsesTo bytes parsed
-ParsesTo formats.Text bytes parsed = TextParsesTo bytes parsed
+-- what the program reads
+abbrev pub browse_reader : Reader Format (List EntryData) BadInput
+browse_reader = record { named = Names; means = Means }

@@ -1,11 +1,8 @@
 pub mod Pieces
 pub mod Cuts
 pub mod TextEntry
-pub mod Refusals
 pub mod Input
 pub mod Arguments
 pub mod Shown
-pub mod Ended
 pub mod Ends
 pub mod Laws
-pub mod Same

@@ -1,9 +1,12 @@
 -- A text cut into pieces.
-use Rattle.std.specs.Prelude.{◌≡◌, ◌≢◌, ◌⊎◌, ◌==◌, ℕ, ◌+◌, ◌-◌, ◌<◌, ◌≤◌, Bool, List, [], ◌∷◌, ◌++◌, codes, decimal, length, take, slice_index}
+use Rattle.std.specs.Prelude.{◌≡◌, ◌≢◌, ◌⊎◌, ◌==◌, ℕ, ◌+◌, ◌-◌, ◌<◌, ◌≤◌, Bool, List, [], ◌∷◌, ◌++◌, codes, decimal, length, map, take, slice_index, Result, Ok, Err, Vec}
 use Rattle.std.specs.List.{before_first, count_by, flat_map}
 use Rattle.std.specs.Str.{IsCharBoundary}
+use Rattle.std.specs.declared.alloc.Global.{Global}
 use Rattle.tui_browse_run.specs.declared.piece.TextPiece.{TextPiece}
 use Rattle.tui_pager_lib.specs.Entry.{EntryData}
+use Rattle.tui_program.specs.declared.stop.Stop.{Stop}
+use Rattle.tui_program.specs.declared.stop.Stop.TheVariants as stop
 
 -- ---- one piece
 
@@ -87,3 +90,10 @@ title_of piece = decimal piece.line ++ (codes " " ++ first_line piece.body)
 -- a piece as an entry
 abbrev pub entry_of : PieceData → EntryData
 entry_of piece = record { title = title_of piece; body = piece.body }
+
+-- what cutting a text gives: all its pieces, or a stop: there are too many, or memory ran out
+abbrev pub IsCut : {R : Type 0} → List ℕ → Result (Vec TextPiece Global) (Stop R) → Type 0
+IsCut text (Ok pieces) = AreAllPieces text (map piece_data pieces.items)
+IsCut text (Err stop.TooLong) = HasMorePieces text
+IsCut text (Err stop.NoMemory) = Unit {0}
+IsCut text (Err other) = ⊥

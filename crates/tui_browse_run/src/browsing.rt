@@ -1,140 +1,89 @@
-//! Runs over a file that was read to its end.
+//! From the arguments and a file to a session.
 
-ghost use Rattle.serde_json.specs.View.{view};
-ghost use Rattle.std.specs.Prelude.{◌≡◌, Ok, map};
-ghost use Rattle.tui_browse_run.specs.Ends.{EndsOver};
-ghost use Rattle.tui_browse_run.specs.Input.{ParsesTo, JsonParsesTo, PiecesParseTo, TextParsesTo, ValueParsesTo};
-ghost use Rattle.tui_browse_run.specs.Pieces.{entry_of, piece_data};
-ghost use Rattle.tui_browse_run.specs.TextEntry.{text_entry_data};
-ghost use Rattle.tui_pager_lib.specs.Entry.{entry_data};
+ghost use Rattle.std.specs.Prelude.{◌≡◌, OnErr};
+ghost use Rattle.tui_browse_run.specs.Input.{Means, browse_reader, entries_of, TextMeans};
+ghost use Rattle.tui_browse_run.specs.Shown.{AreEntriesShown};
+ghost use Rattle.tui_io.specs.Causes.{Observed};
+ghost use Rattle.tui_program.specs.Input.{ComesTo, MeansJson, Reaches};
+ghost use Rattle.tui_program.specs.Transcript.{transcript_of};
 
-use crate::ended::{BrowseEnded, reject};
+use crate::arguments::format_of;
 use crate::entries::read_entries;
 use crate::format::Format;
-use crate::piece::TextPiece;
-use crate::pieces::{PiecesError, pieces_of};
-use crate::refusal::Refusal;
+use crate::pieces::pieces_of;
 use crate::session::show;
-use crate::text_entry::{TextEntry, borrowed_entries, text_entries};
-use serde_json::Value;
+use crate::text_entry::{borrowed_entries, text_entries};
 use std::alloc::Global;
-use tui_app::Terminal;
-use tui_cells::NoMemory;
-use tui_json::InputError;
-use tui_pager_lib::Entry;
-use tui_program::{JsonError, json_of};
+use tui_app::{AppEnd, Terminal};
+use tui_io::Source;
+use tui_pager_run::BadInput;
+use tui_program::{Outcome, Stop, json_of, read_input};
 use tui_system::Setting;
 
-/// Shows what these bytes of a format hold, or rejects them.
-pub(crate) fn browse_bytes<T: Terminal>(
+/// Shows what the file has that the arguments name. If the run is stopped before, the terminal is left alone.
+pub(crate) fn show_file<S: Source, T: Terminal>(
+    alloc: Global,
+    setting: Setting,
+    arguments: &[String],
+    source: &mut S,
+    terminal: &mut T,
+) -> Outcome<AppEnd, BadInput>
+    ensures shown { (sink sink_then : Observed) → Reaches
+        (ComesTo browse_reader arguments.now (transcript_of (S.observed source.old) (S.observed source.new) sink sink_then))
+        (AreEntriesShown setting (T.observed terminal.old) (T.observed terminal.new)) result }
+    ensures still { OnErr result (terminal.new ≡ terminal.old) }
+{
+    let Some(format) = format_of(arguments) else {
+        return Err(Stop::Usage);
+    };
+    let bytes = read_input(alloc, source)?;
+    show_bytes(alloc, setting, format, bytes, terminal)
+}
+
+fn show_bytes<T: Terminal>(
     alloc: Global,
     setting: Setting,
     format: Format,
     bytes: Vec<u8>,
     terminal: &mut T,
-) -> BrowseEnded
-    ensures { EndsOver setting (ParsesTo format bytes.items) (T.observed terminal.old) (T.observed terminal.new) result }
+) -> Outcome<AppEnd, BadInput>
+    ensures shown { Reaches (Means format bytes.items) (AreEntriesShown setting (T.observed terminal.old) (T.observed terminal.new)) result }
+    ensures still { OnErr result (terminal.new ≡ terminal.old) }
 {
     match format {
-        Format::Entries => browse_json(alloc, setting, bytes, terminal),
-        Format::Text => browse_text(alloc, setting, bytes.as_slice(), terminal),
+        Format::Entries => show_json(alloc, setting, bytes, terminal),
+        Format::Text => show_text(alloc, setting, bytes.as_slice(), terminal),
     }
 }
 
-fn browse_json<T: Terminal>(
+fn show_json<T: Terminal>(
     alloc: Global,
     setting: Setting,
     bytes: Vec<u8>,
     terminal: &mut T,
-) -> BrowseEnded
-    ensures { EndsOver setting (JsonParsesTo bytes.items) (T.observed terminal.old) (T.observed terminal.new) result }
+) -> Outcome<AppEnd, BadInput>
+    ensures shown { Reaches (MeansJson entries_of bytes.items) (AreEntriesShown setting (T.observed terminal.old) (T.observed terminal.new)) result }
+    ensures still { OnErr result (terminal.new ≡ terminal.old) }
 {
-    match json_of(alloc, bytes) {
-        Ok(value) => browse_value(alloc, setting, &value, terminal),
-        Err(JsonError::NotJson) => reject(Refusal::NotJson, terminal),
-        Err(JsonError::NoMemory) => BrowseEnded::NoMemory,
-    }
+    let value = json_of(alloc, bytes)?;
+    let entries = read_entries(alloc, &value)?;
+    Ok(show(alloc, entries, setting, terminal))
 }
 
-fn browse_value<T: Terminal>(
-    alloc: Global,
-    setting: Setting,
-    value: &Value,
-    terminal: &mut T,
-) -> BrowseEnded
-    ensures { EndsOver setting (ValueParsesTo (view value.now)) (T.observed terminal.old) (T.observed terminal.new) result }
-{
-    match read_entries(alloc, value) {
-        Ok(entries) => browse_entries(alloc, setting, entries, terminal),
-        Err(InputError::Refused(bad)) => reject(Refusal::BadInput(bad), terminal),
-        Err(InputError::NoMemory) => BrowseEnded::NoMemory,
-    }
-}
-
-fn browse_text<T: Terminal>(
+fn show_text<T: Terminal>(
     alloc: Global,
     setting: Setting,
     bytes: &[u8],
     terminal: &mut T,
-) -> BrowseEnded
-    ensures { EndsOver setting (TextParsesTo bytes.now) (T.observed terminal.old) (T.observed terminal.new) result }
+) -> Outcome<AppEnd, BadInput>
+    ensures shown { Reaches (TextMeans bytes.now) (AreEntriesShown setting (T.observed terminal.old) (T.observed terminal.new)) result }
+    ensures still { OnErr result (terminal.new ≡ terminal.old) }
 {
-    match str::from_utf8(bytes) {
-        Ok(text) => browse_pieces_of(alloc, setting, text, terminal),
-        Err(_) => reject(Refusal::NotText, terminal),
-    }
-}
-
-fn browse_pieces_of<T: Terminal>(
-    alloc: Global,
-    setting: Setting,
-    text: &str,
-    terminal: &mut T,
-) -> BrowseEnded
-    ensures { EndsOver setting (PiecesParseTo text.now) (T.observed terminal.old) (T.observed terminal.new) result }
-{
-    match pieces_of(alloc, text) {
-        Ok(pieces) => browse_pieces(alloc, setting, pieces.as_slice(), terminal),
-        Err(PiecesError::TooMany) => reject(Refusal::TooLong, terminal),
-        Err(PiecesError::NoMemory) => BrowseEnded::NoMemory,
-    }
-}
-
-fn browse_pieces<T: Terminal>(
-    alloc: Global,
-    setting: Setting,
-    pieces: &[TextPiece<'_>],
-    terminal: &mut T,
-) -> BrowseEnded
-    ensures { EndsOver setting (λ parsed. parsed ≡ Ok (map (λ p. entry_of (piece_data p)) pieces.now)) (T.observed terminal.old) (T.observed terminal.new) result }
-{
-    match text_entries(alloc, pieces) {
-        Ok(entries) => browse_borrowed(alloc, setting, entries.as_slice(), terminal),
-        Err(NoMemory) => BrowseEnded::NoMemory,
-    }
-}
-
-fn browse_borrowed<T: Terminal>(
-    alloc: Global,
-    setting: Setting,
-    entries: &[TextEntry],
-    terminal: &mut T,
-) -> BrowseEnded
-    ensures { EndsOver setting (λ parsed. parsed ≡ Ok (map text_entry_data entries.now)) (T.observed terminal.old) (T.observed terminal.new) result }
-{
-    match borrowed_entries(alloc, entries) {
-        Ok(borrowed) => browse_entries(alloc, setting, borrowed, terminal),
-        Err(NoMemory) => BrowseEnded::NoMemory,
-    }
-}
-
-fn browse_entries<T: Terminal>(
-    alloc: Global,
-    setting: Setting,
-    entries: Vec<Entry<'_>>,
-    terminal: &mut T,
-) -> BrowseEnded
-    ensures { EndsOver setting (λ parsed. parsed ≡ Ok (map entry_data entries.entry.items)) (T.observed terminal.old) (T.observed terminal.new) result }
-{
-    show(alloc, entries, setting.output, setting.size, terminal).into()
+    let Ok(text) = str::from_utf8(bytes) else {
+        return Err(Stop::NotText);
+    };
+    let pieces = pieces_of(alloc, text)?;
+    let entries = text_entries(alloc, pieces.as_slice())?;
+    let borrowed = borrowed_entries(alloc, entries.as_slice())?;
+    Ok(show(alloc, borrowed, setting, terminal))
 }

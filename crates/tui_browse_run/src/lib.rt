@@ -5,7 +5,6 @@
 mod arguments;
 mod browsing;
 mod cutting;
-mod ended;
 mod entries;
 mod format;
 mod laws;
@@ -13,16 +12,13 @@ mod piece;
 mod pieces;
 mod plain;
 mod program;
-mod refusal;
 mod session;
 mod text_entry;
 
 pub use arguments::file_named;
-pub use ended::BrowseEnded;
 pub use format::Format;
 pub use laws::browsing_law;
 pub use piece::TextPiece;
-pub use pieces::{PiecesError, pieces_of};
+pub use pieces::pieces_of;
 pub use program::{browse, run_program};
-pub use refusal::Refusal;
 pub use session::show;

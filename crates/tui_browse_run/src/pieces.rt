@@ -1,38 +1,18 @@
 //! The pieces of a text.
 
-ghost use Rattle.std.specs.Prelude.{◌≡◌, IfOk, IsErrOf, map};
-ghost use Rattle.tui_browse_run.specs.Pieces.{AreAllPieces, HasMorePieces, piece_data};
+ghost use Rattle.tui_browse_run.specs.Pieces.{IsCut};
 
 use crate::cutting::first_piece;
 use crate::piece::TextPiece;
-use std::alloc::{AllocFailed, Global};
+use std::alloc::Global;
+use tui_program::{Outcome, Stop};
 
 /// The most pieces that a text may have.
 const MOST_PIECES: usize = 1000;
 
-/// Why a text was not cut into pieces.
-#[derive(Clone, Copy, Debug, PartialEq, Eq)]
-pub enum PiecesError {
-    /// The text has more than 1,000 pieces.
-    TooMany,
-    NoMemory,
-}
-
-impl<T: Drop> From<AllocFailed<T>> for PiecesError {
-    ghost use Rattle.std.specs.Prelude.{◌≡◌};
-    ghost use Rattle.tui_browse_run.specs.declared.pieces.PiecesError.TheVariants.{NoMemory};
-
-    ghost from_gives = { λ _ e. e ≡ NoMemory };
-
-    fn from(_error: AllocFailed<T>) -> PiecesError {
-        PiecesError::NoMemory
-    }
-}
-
-/// Cuts a text into pieces, of which there may be at most 1,000. Fails with `TooMany` if there are more.
-pub fn pieces_of(alloc: Global, text: &str) -> Result<Vec<TextPiece<'_>>, PiecesError>
-    ensures ok { IfOk result (λ pieces. AreAllPieces text.now (map piece_data pieces.items)) }
-    ensures many { IsErrOf result PiecesError.TooMany → HasMorePieces text.now }
+/// Cuts a text into pieces, of which there may be at most 1,000. Fails with `TooLong` if there are more.
+pub fn pieces_of<R>(alloc: Global, text: &str) -> Outcome<Vec<TextPiece<'_>>, R>
+    ensures { IsCut text.now result }
 {
     let mut pieces = Vec::new(alloc);
     let mut rest = text;
@@ -50,6 +30,6 @@ pub fn pieces_of(alloc: Global, text: &str) -> Result<Vec<TextPiece<'_>>, Pieces
     if rest.is_empty() {
         Ok(pieces)
     } else {
-        Err(PiecesError::TooMany)
+        Err(Stop::TooLong)
     }
 }

@@ -4,7 +4,8 @@ use arrayvec::ArrayVec;
 use std::alloc::Global;
 use std::env::Args;
 use std::io;
-use tui_program::first_arguments;
+use tui_io::{Sink, WriteFault};
+use tui_program::{Outcome, Rejects, Stop, given_arguments};
 
 /// What the arguments name: the folder, which is the current one if it is left out, the file for the chosen path, if
 /// there is one, and whether the path is to be that of a folder.
@@ -15,17 +16,27 @@ pub(crate) struct FilesCommand {
     pub(crate) chosen: Option<String>,
 }
 
-/// Returns what the system's arguments name; None if there are too many, or the system rejects one. Does not
-/// allocate.
-pub(crate) fn command_of(alloc: Global, args: io::Result<Args>) -> Option<FilesCommand> {
-    match args {
-        Ok(all) => named_by(first_arguments(alloc, all)),
-        Err(_) => None,
+/// The program rejects no value.
+impl Rejects for FilesCommand {
+    ghost use Rattle.std.specs.Prelude.{[]};
+
+    type Refusal = ();
+
+    ghost line = { λ _. [] };
+
+    fn reject<K: Sink>(_refusal: (), _sink: &mut K) -> Result<(), WriteFault> {
+        Ok(())
     }
 }
 
+/// Returns what the system's arguments name. Fails with `Usage` if there are too many, or the system rejects one. Does
+/// not allocate.
+pub(crate) fn command_of(alloc: Global, args: io::Result<Args>) -> Outcome<FilesCommand, ()> {
+    named_by(given_arguments(alloc, args)?)
+}
+
 /// `--folder`, FOLDER and CHOSEN, in this order, of which each but FOLDER before CHOSEN may be left out.
-fn named_by(arguments: ArrayVec<String, 4, Global>) -> Option<FilesCommand> {
+fn named_by(arguments: ArrayVec<String, 4, Global>) -> Outcome<FilesCommand, ()> {
     let mut arguments = arguments;
     let wants_folder = match arguments.as_slice().first() {
         Some(first) => first.as_str() == "--folder",
@@ -33,7 +44,7 @@ fn named_by(arguments: ArrayVec<String, 4, Global>) -> Option<FilesCommand> {
     };
     let options = if wants_folder { 1 } else { 0 };
     if arguments.len() > options + 2 {
-        return None;
+        return Err(Stop::Usage);
     }
     let chosen = if arguments.len() == options + 2 {
         arguments.pop()
@@ -45,7 +56,7 @@ fn named_by(arguments: ArrayVec<String, 4, Global>) -> Option<FilesCommand> {
     } else {
         None
     };
-    Some(FilesCommand {
+    Ok(FilesCommand {
         wants_folder,
         folder,
         chosen,

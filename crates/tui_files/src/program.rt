@@ -2,80 +2,111 @@
 
 use crate::NAME;
 use crate::command::FilesCommand;
-use crate::ended::FilesEnded;
 use crate::system::SystemFolders;
 use std::io::IsTerminal;
 use std::{fs, io};
 use tui_app::{AppEnd, Terminal, run};
 use tui_cells::Mem;
 use tui_files_lib::FilesApp;
-use tui_io::{Sink, StdSink, WriteFault, write_all};
-use tui_system::{Setting, has_own_streams, or_out_of_memory, report};
+use tui_io::{Failed, StdSink, write_all};
+use tui_program::{Outcome, Stop};
+use tui_system::{
+    Destination, FileDestination, Left, Setting, has_own_streams, or_out_of_memory, report,
+    session_outcome,
+};
 
-/// Shows a folder until the user quits, and then writes the chosen path.
+/// Shows a folder until the user quits, and then writes the chosen path to the file that the arguments name, which is
+/// opened before. If they name none, writes it to standard output, unless that is the screen or a terminal.
 pub(crate) fn browse<T: Terminal>(
     rt: &HostRuntime,
     setting: Setting,
     command: &FilesCommand,
     terminal: &mut T,
-) -> Mem<FilesEnded> {
-    let Some(app) = first_app(rt, command)? else {
-        return Ok(FilesEnded::ReadFault);
-    };
-    let mut app = app;
-    let end = run(rt.alloc(), &mut app, setting.output, setting.size, terminal);
-    match end {
-        AppEnd::Quit => write_chosen(rt, &app, command),
-        end => Ok(end.into()),
-    }
-}
-
-/// Writes the line that says that the arguments are not valid.
-pub(crate) fn reject_usage<K: Sink>(sink: &mut K) -> FilesEnded {
-    match write_all(sink, b"refused: usage\n") {
-        Ok(()) => FilesEnded::Usage,
-        Err(WriteFault) => FilesEnded::WriteFault,
-    }
-}
-
-/// Returns the app for the folder that the arguments name; None if the folder can't be read, and then a line on
-/// standard error says why.
-fn first_app<'r>(
-    rt: &'r HostRuntime,
-    command: &FilesCommand,
-) -> Mem<Option<FilesApp<SystemFolders<'r>>>> {
-    let named = match &command.folder {
-        Some(folder) => folder.as_str(),
-        None => ".",
-    };
-    match or_out_of_memory(fs::canonicalize(rt, named))? {
-        Ok(path) => FilesApp::new(rt.alloc(), SystemFolders { rt }, path.as_str()),
-        Err(error) => {
-            report(rt, NAME, named, &error)?;
-            Ok(None)
-        }
-    }
-}
-
-/// Writes the chosen path and a newline to the file that the arguments name. If they name none, writes it to standard
-/// output, unless that is the screen or a terminal.
-fn write_chosen(
-    rt: &HostRuntime,
-    app: &FilesApp<SystemFolders<'_>>,
-    command: &FilesCommand,
-) -> Mem<FilesEnded> {
-    let mut path = app.chosen(rt.alloc())?;
-    if command.wants_folder {
-        path = folder_of(rt, path)?;
-    }
-    path.push('\n')?;
+) -> Outcome<Left, ()> {
+    let mut browser = Browser::new(rt, setting, command)?;
     match &command.chosen {
-        Some(file) if file.as_str() != "-" => write_file(rt, file.as_str(), path.as_str()),
-        Some(_) => Ok(write_output(rt, path.as_str())),
-        None if has_own_streams(rt)? && !rt.stdout().is_terminal() => {
-            Ok(write_output(rt, path.as_str()))
+        Some(name) if name.as_str() != "-" => {
+            let name = String::from_str(rt.alloc(), name.as_str())?;
+            browser.run_and_write(terminal, &mut FileDestination::new(rt, NAME, name))
         }
-        None => Ok(FilesEnded::Quit),
+        Some(_) => browser.run_and_write(terminal, &mut StdSink::new(io::writer(rt))),
+        None if has_own_streams(rt)? && !rt.stdout().is_terminal() => {
+            browser.run_and_write(terminal, &mut StdSink::new(io::writer(rt)))
+        }
+        None => session_outcome(browser.run(terminal)),
+    }
+}
+
+/// A browser of the folders that the system has.
+#[derive(Drop)]
+struct Browser<'r> {
+    rt: &'r HostRuntime,
+    setting: Setting,
+    app: FilesApp<SystemFolders<'r>>,
+    wants_folder: bool,
+}
+
+impl<'r> Browser<'r> {
+    /// Returns a browser of the folder that the arguments name. Fails with `ReadFault` if the folder can't be read; then
+    /// a line on standard error says why.
+    fn new(
+        rt: &'r HostRuntime,
+        setting: Setting,
+        command: &FilesCommand,
+    ) -> Outcome<Browser<'r>, ()> {
+        let named = match &command.folder {
+            Some(folder) => folder.as_str(),
+            None => ".",
+        };
+        match or_out_of_memory(fs::canonicalize(rt, named))? {
+            Ok(path) => match FilesApp::new(rt.alloc(), SystemFolders { rt }, path.as_str())? {
+                Some(app) => Ok(Browser {
+                    rt,
+                    setting,
+                    app,
+                    wants_folder: command.wants_folder,
+                }),
+                None => Err(Stop::ReadFault),
+            },
+            Err(error) => {
+                report(rt, NAME, named, &error)?;
+                Err(Stop::ReadFault)
+            }
+        }
+    }
+
+    fn run<T: Terminal>(&mut self, terminal: &mut T) -> AppEnd {
+        let Setting { output, size } = self.setting;
+        run(self.rt.alloc(), &mut self.app, output, size, terminal)
+    }
+
+    /// Opens the destination of the chosen path, runs the browser, and writes the path if the user quit. If the
+    /// destination can't be opened, the terminal is not entered.
+    fn run_and_write<T: Terminal, A: Destination>(
+        &mut self,
+        terminal: &mut T,
+        chosen: &mut A,
+    ) -> Outcome<Left, ()> {
+        if let Err(Failed) = chosen.open()? {
+            return Err(Stop::WriteFault);
+        }
+        match self.run(terminal) {
+            AppEnd::Quit => {
+                write_all(chosen, self.chosen_line()?.as_bytes())?;
+                Ok(Left::Quit)
+            }
+            end => session_outcome(end),
+        }
+    }
+
+    /// Returns the chosen path, or its folder if that is wanted, and a newline.
+    fn chosen_line(&self) -> Mem<String> {
+        let mut path = self.app.chosen(self.rt.alloc())?;
+        if self.wants_folder {
+            path = folder_of(self.rt, path)?;
+        }
+        path.push('\n')?;
+        Ok(path)
     }
 }
 
@@ -88,22 +119,5 @@ fn folder_of(rt: &HostRuntime, path: String) -> Mem<String> {
             Some((folder, _)) => Ok(String::from_str(rt.alloc(), folder)?),
             None => Ok(path),
         },
-    }
-}
-
-fn write_file(rt: &HostRuntime, file: &str, text: &str) -> Mem<FilesEnded> {
-    match or_out_of_memory(fs::write(rt, file, text))? {
-        Ok(()) => Ok(FilesEnded::Quit),
-        Err(error) => {
-            report(rt, NAME, file, &error)?;
-            Ok(FilesEnded::WriteFault)
-        }
-    }
-}
-
-fn write_output(rt: &HostRuntime, text: &str) -> FilesEnded {
-    match write_all(&mut StdSink::new(io::writer(rt)), text.as_bytes()) {
-        Ok(()) => FilesEnded::Quit,
-        Err(WriteFault) => FilesEnded::WriteFault,
     }
 }

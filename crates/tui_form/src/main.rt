@@ -5,28 +5,23 @@
 use std::io;
 use std::io::IsTerminal;
 use std::process::ExitCode;
-use tui_cells::{Mem, NoMemory};
-use tui_form_run::{Destination, FileDestination, FormEnded, FormFiles, files_named, run_program};
+use tui_cells::Mem;
+use tui_form_run::{BadForm, FormFiles, FormLeft, files_named, run_program};
 use tui_io::StdSink;
-use tui_system::{arguments, has_own_streams, input, no_input, setting, terminal};
+use tui_program::{Outcome, Stop};
+use tui_system::{
+    Destination, FileDestination, arguments, finish, has_own_streams, input, no_input, setting,
+    terminal,
+};
 
 const NAME: &str = "tui_form";
 
 fn main(rt: HostRuntime) -> ExitCode {
-    match ask(&rt) {
-        Ok(ended) => {
-            if ended == FormEnded::Usage {
-                let _written = eprintln!(rt; "usage: tui_form FORM [ANSWERS]");
-            }
-            ended.exit_code()
-        }
-        Err(NoMemory) => FormEnded::NoMemory.exit_code(),
-    }
+    finish(&rt, &ask(&rt), "tui_form FORM [ANSWERS]")
 }
 
-/// Runs the program with what the system gives. Fails with `NoMemory` if the system has no memory for that, before
-/// anything is read or written.
-fn ask(rt: &HostRuntime) -> Mem<FormEnded> {
+/// Runs the program with what the system gives.
+fn ask(rt: &HostRuntime) -> Outcome<FormLeft, BadForm> {
     let files = files_named(rt.alloc(), arguments(rt)?);
     let (form, answers) = match files {
         Some(FormFiles { form, answers }) => (Some(form), answers),
@@ -34,7 +29,7 @@ fn ask(rt: &HostRuntime) -> Mem<FormEnded> {
     };
     match answers {
         Some(name) if name.as_str() != "-" => {
-            ask_by(rt, form, &mut FileDestination::new(rt, name))
+            ask_by(rt, form, &mut FileDestination::new(rt, NAME, name))
         }
         Some(_) => ask_by(rt, form, &mut StdSink::new(io::writer(rt))),
         None if answers_on_output(rt)? => ask_by(rt, form, &mut StdSink::new(io::writer(rt))),
@@ -52,21 +47,21 @@ fn ask_by<A: Destination>(
     rt: &HostRuntime,
     form: Option<String>,
     answers: &mut A,
-) -> Mem<FormEnded> {
+) -> Outcome<FormLeft, BadForm> {
     let setting = setting(rt)?;
     let Some(mut terminal) = terminal(rt, NAME)? else {
-        return Ok(FormEnded::WriteFault);
+        return Err(Stop::WriteFault);
     };
     let mut source = match &form {
         Some(form) => input(rt, NAME, form.as_str())?,
         None => no_input::<HostRuntime>(),
     };
-    Ok(run_program(
+    run_program(
         rt.alloc(),
         setting,
         arguments(rt)?,
         &mut source,
         &mut terminal,
         answers,
-    ))
+    )
 }

@@ -5,11 +5,11 @@ use Rattle.json.specs.Print.{print}
 use Rattle.json.specs.Token.{Token, key}
 use Rattle.json.specs.Tree.{json_tokens}
 use Rattle.tui_form_lib.specs.Field.{FieldData, Reply, answer_of, flag_reply, text_reply}
-use Rattle.tui_form_run.specs.declared.answers.AnswersError.{AnswersError}
-use Rattle.tui_form_run.specs.declared.answers.AnswersError.TheVariants.{WriteFault, NoMemory}
 use Rattle.tui_io.specs.Causes.{WritesAll, WritesPrefix, Observed}
 use Rattle.tui_io.specs.Texts.{newline}
 use Rattle.tui_program.specs.Transcript.{Unwritten}
+use Rattle.tui_program.specs.declared.stop.Stop.{Stop}
+use Rattle.tui_program.specs.declared.stop.Stop.TheVariants as stop
 
 -- a text as a string, and a checked or unchecked box as `true` or `false`
 abbrev pub json_of : Reply → Json
@@ -38,7 +38,8 @@ answers_line fields = answers_text fields ++ newline
 
 -- how the answers were written: as a line; or as the first part of it, if a write failed; or not at all, if memory ran
 -- out
-abbrev pub WritesAnswersLine : List FieldData → Observed → Observed → Result (Unit {0}) AnswersError → Type 0
+abbrev pub WritesAnswersLine : {R : Type 0} → List FieldData → Observed → Observed → Result (Unit {0}) (Stop R) → Type 0
 WritesAnswersLine fields old new (Ok x) = WritesAll old new (answers_line fields)
-WritesAnswersLine fields old new (Err WriteFault) = WritesPrefix old new (answers_line fields)
-WritesAnswersLine fields old new (Err NoMemory) = Unwritten old new
+WritesAnswersLine fields old new (Err stop.WriteFault) = WritesPrefix old new (answers_line fields)
+WritesAnswersLine fields old new (Err stop.NoMemory) = Unwritten old new
+WritesAnswersLine fields old new (Err other) = ⊥

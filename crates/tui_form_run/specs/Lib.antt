@@ -4,9 +4,7 @@ pub mod Input
 pub mod Filled
 pub mod Answers
 pub mod Arguments
-pub mod ParsesTo
-pub mod Destination
-pub mod Ended
 pub mod Ends
+pub mod FormLeft
 pub mod Laws
 pub mod Same

@@ -3,8 +3,6 @@ use Rattle.std.specs.Prelude.{ℕ, List, Option, codes}
 use Rattle.tui_form_run.specs.declared.bad_form.BadForm.{BadForm}
 use Rattle.tui_form_run.specs.declared.key.FormKey.{FormKey}
 use Rattle.tui_form_run.specs.declared.key.FormKey.TheVariants.{Title, Fields, Name, Label, Kind, Most, Mask, Of, Needed, Value}
-use Rattle.tui_form_run.specs.declared.refusal.Refusal.{Refusal}
-use Rattle.tui_form_run.specs.declared.refusal.Refusal.TheVariants as refusals
 use Rattle.tui_program.specs.FieldLine.{refused_field}
 
 -- the name of a key in the JSON
@@ -25,7 +23,5 @@ abbrev pub bad_form : Option ℕ → FormKey → BadForm
 bad_form at key = record { at = at; key = key }
 
 -- the line that says why the form is rejected
-abbrev pub line_of : Refusal → List ℕ
-line_of refusals.TooLong = codes "refused: too long\n"
-line_of refusals.NotJson = codes "refused: not JSON\n"
-line_of (refusals.BadForm x) = refused_field (key_name x.key) x.at
+abbrev pub refusal_line : BadForm → List ℕ
+refusal_line x = refused_field (key_name x.key) x.at

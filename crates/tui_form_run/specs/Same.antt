@@ -1,20 +1,14 @@
--- Laws: values of `Refusal` and of `FormEnded` that are equal by `==` are the same.
+-- Laws: keys that are equal by `==` are the same.
 use Rattle.std.specs.Prelude.{◌≡◌, true}
 use Rattle.std.proofs.Common.{rules}
 use Rattle.std.proofs.lemmas.Bool.{and_parts}
 use denote.Enum.Bare.{same_true}
 use denote.Enum.Declared.{declared}
 use Rattle.tui_form_run.specs.contracts.bad_form.BadFormPartialEq as bad_form
-use Rattle.tui_form_run.specs.contracts.ended.FormEndedPartialEq as ended
 use Rattle.tui_form_run.specs.contracts.key.FormKey.{enum}
 use Rattle.tui_form_run.specs.contracts.key.FormKeyPartialEq as key
-use Rattle.tui_form_run.specs.contracts.refusal.RefusalPartialEq as refusal
 use Rattle.tui_form_run.specs.declared.bad_form.BadForm.{BadForm}
-use Rattle.tui_form_run.specs.declared.ended.FormEnded.{FormEnded}
-use Rattle.tui_form_run.specs.declared.ended.FormEnded.TheVariants as endings
 use Rattle.tui_form_run.specs.declared.key.FormKey.{FormKey}
-use Rattle.tui_form_run.specs.declared.refusal.Refusal.{Refusal}
-use Rattle.tui_form_run.specs.declared.refusal.Refusal.TheVariants as refusals
 
 -- keys that are equal by `==` are the same
 pub same_key : (a b : FormKey) → key.TheImpl.ghosts.eq a b ≡ true → a ≡ b
@@ -25,15 +19,3 @@ pub same_bad_form : (a b : BadForm) → bad_form.TheImpl.ghosts.eq a b ≡ true 
 same_bad_form a b e =
     let both = and_parts _ (key.TheImpl.ghosts.eq a.key b.key) e in
     Prim.search (rules, both.0, same_key a.key b.key both.1)
-
--- so are values of `Refusal`
-pub same_refusal : (a b : Refusal) → refusal.TheImpl.ghosts.eq a b ≡ true → a ≡ b
-same_refusal (refusals.BadForm a) (refusals.BadForm b) e = Prim.search (rules, same_bad_form a b e)
-same_refusal a b e = Prim.search rules
-
--- so are values of `FormEnded`
-pub same_ended : (a b : FormEnded) → ended.TheImpl.ghosts.eq a b ≡ true → a ≡ b
-same_ended (endings.BadForm p k) (endings.BadForm q l) e =
-    let both = and_parts _ (key.TheImpl.ghosts.eq k l) e in
-    Prim.search (rules, both.0, same_key k l both.1)
-same_ended a b e = Prim.search rules

@@ -6,35 +6,25 @@ ghost use Rattle.tui_form_run.specs.Answers.{WritesAnswersLine, answer_tokens, a
 
 use json::Writer;
 use std::alloc::Global;
-use tui_cells::{Mem, NoMemory};
+use tui_cells::Mem;
 use tui_form_lib::{Answer, FormField};
-use tui_io::{Sink, WriteFault, write_all};
-
-/// Why the answers were not written in full.
-#[derive(Clone, Copy, Debug, PartialEq, Eq)]
-pub enum AnswersError {
-    /// A write failed: the sink has taken a first part of the bytes, but not all of them.
-    WriteFault,
-    /// There was no memory for the line; nothing was written.
-    NoMemory,
-}
+use tui_io::{Sink, write_all};
+use tui_program::Outcome;
 
 /// Writes the answers of these fields, in order, as one line. The line is a JSON object (RFC 8259) and a newline. The
-/// object has each field's name with its answer, a string or a boolean, without spaces between its parts.
-pub fn write_answers_line<K: Sink>(
+/// object has each field's name with its answer, a string or a boolean, without spaces between its parts. Fails with
+/// `WriteFault` if the sink has taken a first part of the bytes, but not all of them, and with `NoMemory` if nothing was
+/// written.
+pub fn write_answers_line<R, K: Sink>(
     alloc: Global,
     fields: &[FormField],
     sink: &mut K,
-) -> Result<(), AnswersError>
+) -> Outcome<(), R>
     ensures { WritesAnswersLine (map field_data fields.now) (K.observed sink.old) (K.observed sink.new) result }
 {
-    match answers_line(alloc, fields) {
-        Ok(line) => match write_all(sink, line.as_slice()) {
-            Ok(()) => Ok(()),
-            Err(WriteFault) => Err(AnswersError::WriteFault),
-        },
-        Err(NoMemory) => Err(AnswersError::NoMemory),
-    }
+    let line = answers_line(alloc, fields)?;
+    write_all(sink, line.as_slice())?;
+    Ok(())
 }
 
 fn answers_line(alloc: Global, fields: &[FormField]) -> Mem<Vec<u8>>

@@ -1,111 +1,94 @@
-//! Runs over a file that was read to its end.
+//! From the arguments and a file to a session, and to the answers.
 
-ghost use Rattle.std.specs.Prelude.{◌≡◌, Ok};
-ghost use Rattle.serde_json.specs.View.{view};
+ghost use Rattle.std.specs.Prelude.{◌≡◌, OnErr};
 ghost use Rattle.tui_form_lib.specs.Form.{form_data};
-ghost use Rattle.tui_form_run.specs.Ends.{EndsAccepted, EndsAnswering, EndsOver};
-ghost use Rattle.tui_form_run.specs.ParsesTo.{ParsesTo, ValueParsesTo};
+ghost use Rattle.tui_system.specs.Destination.{IsOpened};
+ghost use Rattle.tui_form_run.specs.Ends.{EndsAccepted, EndsAnswering, EndsWithForm, form_reader};
+ghost use Rattle.tui_io.specs.Causes.{Observed};
+ghost use Rattle.tui_program.specs.Input.{ComesTo, Reaches};
+ghost use Rattle.tui_program.specs.Transcript.{transcript_of};
 
-use crate::answers::{AnswersError, write_answers_line};
-use crate::ended::{FormEnded, ended_as, reject};
-use crate::place::Destination;
+use crate::answers::write_answers_line;
+use crate::arguments::are_named;
+use crate::bad_form::BadForm;
+use crate::form_left::{FormLeft, left_as};
 use crate::reading::form_of;
-use crate::refusal::Refusal;
 use crate::session::show_form;
-use serde_json::Value;
 use std::alloc::Global;
 use tui_app::{AppEnd, Terminal};
 use tui_cells::NoMemory;
 use tui_form_lib::Form;
-use tui_io::Failed;
-use tui_json::InputError;
-use tui_program::{JsonError, json_of};
-use tui_system::Setting;
+use tui_io::{Failed, Source};
+use tui_program::{Outcome, Stop, json_of, read_input};
+use tui_system::{Destination, Setting};
 
-/// Asks the user with the form that these bytes hold, or rejects them.
-pub(crate) fn ask_by_bytes<T: Terminal, A: Destination>(
+/// Asks the user with the form that the source has. If the run is stopped before, the terminal and the destination of
+/// the answers are left alone.
+pub(crate) fn ask_by_file<S: Source, T: Terminal, A: Destination>(
     alloc: Global,
     setting: Setting,
-    bytes: Vec<u8>,
+    arguments: &[String],
+    source: &mut S,
     terminal: &mut T,
     answers: &mut A,
-) -> FormEnded
-    ensures { EndsOver setting (ParsesTo bytes.items) (T.observed terminal.old) (T.observed terminal.new)
-        (A.observed answers.old) (A.observed answers.new) result }
+) -> Outcome<Outcome<FormLeft, BadForm>, BadForm>
+    ensures asked { (sink sink_then : Observed) → Reaches
+        (ComesTo form_reader arguments.now (transcript_of (S.observed source.old) (S.observed source.new) sink sink_then))
+        (EndsWithForm setting (T.observed terminal.old) (T.observed terminal.new) (A.Sink.observed answers.old) (A.Sink.observed answers.new)
+        (IsOpened A.Sink.observed A.Destination.is_open (A.Sink.observed answers.old))) result }
+    ensures terminal { OnErr result (terminal.new ≡ terminal.old) }
+    ensures answers { OnErr result (answers.new ≡ answers.old) }
 {
-    match json_of(alloc, bytes) {
-        Ok(value) => ask_by_value(alloc, setting, &value, terminal, answers),
-        Err(JsonError::NotJson) => reject(Refusal::NotJson, terminal),
-        Err(JsonError::NoMemory) => FormEnded::NoMemory,
+    if !are_named(arguments) {
+        return Err(Stop::Usage);
     }
+    let bytes = read_input(alloc, source)?;
+    let value = json_of(alloc, bytes)?;
+    let form = form_of(alloc, &value)?;
+    Ok(ask(alloc, setting, form, terminal, answers))
 }
 
-fn ask_by_value<T: Terminal, A: Destination>(
-    alloc: Global,
-    setting: Setting,
-    value: &Value,
-    terminal: &mut T,
-    answers: &mut A,
-) -> FormEnded
-    ensures { EndsOver setting (ValueParsesTo (view value.now)) (T.observed terminal.old) (T.observed terminal.new)
-        (A.observed answers.old) (A.observed answers.new) result }
-{
-    match form_of(alloc, value) {
-        Ok(form) => ask_by_form(alloc, setting, form, terminal, answers),
-        Err(InputError::Refused(bad)) => reject(Refusal::BadForm(bad), terminal),
-        Err(InputError::NoMemory) => FormEnded::NoMemory,
-    }
-}
-
-fn ask_by_form<T: Terminal, A: Destination>(
-    alloc: Global,
-    setting: Setting,
-    form: Form,
-    terminal: &mut T,
-    answers: &mut A,
-) -> FormEnded
-    ensures { EndsOver setting (λ parsed. parsed ≡ Ok (form_data form)) (T.observed terminal.old) (T.observed terminal.new)
-        (A.observed answers.old) (A.observed answers.new) result }
-{
-    match answers.open() {
-        Ok(Ok(())) => ask(alloc, setting, form, terminal, answers),
-        Ok(Err(Failed)) => FormEnded::WriteFault,
-        Err(NoMemory) => FormEnded::NoMemory,
-    }
-}
-
-/// Shows a form, leaves the terminal, and then writes the answers if the form was accepted.
+/// Opens the destination of the answers, shows the form, and writes the answers. If the destination can't be opened, the
+/// terminal is not entered.
 fn ask<T: Terminal, A: Destination>(
     alloc: Global,
     setting: Setting,
     form: Form,
     terminal: &mut T,
     answers: &mut A,
-) -> FormEnded
-    ensures { EndsOver setting (λ parsed. parsed ≡ Ok (form_data form)) (T.observed terminal.old) (T.observed terminal.new)
-        (A.observed answers.old) (A.observed answers.new) result }
+) -> Outcome<FormLeft, BadForm>
+    ensures { EndsWithForm setting (T.observed terminal.old) (T.observed terminal.new) (A.Sink.observed answers.old) (A.Sink.observed answers.new)
+        (IsOpened A.Sink.observed A.Destination.is_open (A.Sink.observed answers.old)) (form_data form) result }
 {
     let mut form = form;
-    let end = show_form(alloc, setting, &mut form, terminal);
-    answer(alloc, &form, end, answers)
+    match answers.open() {
+        Ok(Ok(())) => {
+            let end = show_form(alloc, setting, &mut form, terminal);
+            answer(alloc, &form, end, answers)
+        }
+        Ok(Err(Failed)) => Err(Stop::WriteFault),
+        Err(NoMemory) => Err(Stop::NoMemory),
+    }
 }
 
 /// Writes the answers of a form, if it was accepted.
-fn answer<A: Destination>(alloc: Global, form: &Form, end: AppEnd, answers: &mut A) -> FormEnded
+fn answer<A: Destination>(
+    alloc: Global,
+    form: &Form,
+    end: AppEnd,
+    answers: &mut A,
+) -> Outcome<FormLeft, BadForm>
     ensures { EndsAnswering (form_data form.now) end (A.observed answers.old) (A.observed answers.new) result }
 {
-    match ended_as(end, form.outcome()) {
-        FormEnded::Accepted => accept(alloc, form, answers),
-        ended => ended,
+    match left_as(end, form.outcome()) {
+        Ok(FormLeft::Accepted) => accept(alloc, form, answers),
+        left => left,
     }
 }
 
-fn accept<A: Destination>(alloc: Global, form: &Form, answers: &mut A) -> FormEnded
+fn accept<A: Destination>(alloc: Global, form: &Form, answers: &mut A) -> Outcome<FormLeft, BadForm>
     ensures { EndsAccepted (form_data form.now).fields (A.observed answers.old) (A.observed answers.new) result }
 {
-    match write_answers_line(alloc, form.fields(), answers) {
-        Ok(()) => FormEnded::Accepted,
-        Err(AnswersError::WriteFault) => FormEnded::WriteFault,
-        Err(AnswersError::NoMemory) => FormEnded::NoMemory,
-    }
+    write_answers_line(alloc, form.fields(), answers)?;
+    Ok(FormLeft::Accepted)
 }

@@ -1,21 +1,13 @@
 //! Plain values of the program: equal by `==` means the same, and a clone is the value.
 
 ghost use Rattle.std.proofs.Common.{rules};
-ghost use Rattle.tui_form_run.specs.Same.{same_bad_form, same_ended, same_key, same_refusal};
+ghost use Rattle.tui_form_run.specs.Same.{same_bad_form, same_key};
 
-use crate::answers::AnswersError;
 use crate::bad_form::BadForm;
-use crate::ended::FormEnded;
 use crate::field_kind::FieldKind;
+use crate::form_left::FormLeft;
 use crate::key::FormKey;
-use crate::refusal::Refusal;
 use tui_cells::Plain;
-
-impl Plain for AnswersError {
-    ghost same = { Prim.search rules };
-
-    ghost cloned = { Prim.search rules };
-}
 
 impl Plain for FieldKind {
     ghost same = { Prim.search rules };
@@ -35,14 +27,8 @@ impl Plain for BadForm {
     ghost cloned = { Prim.search rules };
 }
 
-impl Plain for Refusal {
-    ghost same = { same_refusal };
-
-    ghost cloned = { Prim.search rules };
-}
-
-impl Plain for FormEnded {
-    ghost same = { same_ended };
+impl Plain for FormLeft {
+    ghost same = { Prim.search rules };
 
     ghost cloned = { Prim.search rules };
 }

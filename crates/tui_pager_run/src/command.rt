@@ -11,7 +11,7 @@ use crate::run::press_keys;
 use serde_json::Value;
 use std::alloc::Global;
 use tui_io::{Sink, WriteFault};
-use tui_program::{Cleanup, Job, JsonCommand, Stop, are_empty, write_refused_field};
+use tui_program::{Cleanup, Job, JsonCommand, Outcome, Rejects, are_empty, write_refused_field};
 
 /// The command of the program. It reads entries and keys. It writes the state after each key, and the last screen.
 #[derive(Clone, Copy, Debug, PartialEq, Eq)]
@@ -33,10 +33,20 @@ impl JsonCommand for PagerCommand {
     }
 }
 
-impl Job for PagerCommand {
-    ghost use Rattle.tui_pager_run.specs.Rules.{pager_job};
+impl Rejects for PagerCommand {
+    ghost use Rattle.tui_pager_run.specs.Refusals.{refusal_line};
 
     type Refusal = BadInput;
+
+    ghost line = { refusal_line };
+
+    fn reject<K: Sink>(refusal: BadInput, sink: &mut K) -> Result<(), WriteFault> {
+        write_refused_field(refusal.field.name(), refusal.at, sink)
+    }
+}
+
+impl Job for PagerCommand {
+    ghost use Rattle.tui_pager_run.specs.Rules.{pager_job};
 
     ghost job_rules = { pager_job };
 
@@ -46,13 +56,9 @@ impl Job for PagerCommand {
         value: &Value,
         sink: &mut K,
         cleanup: Cleanup,
-    ) -> Result<(), Stop<BadInput>> {
+    ) -> Outcome<(), BadInput> {
         let input = read_input(alloc, value)?;
         show(alloc, input, sink, cleanup)
-    }
-
-    fn reject<K: Sink>(&self, refusal: BadInput, sink: &mut K) -> Result<(), WriteFault> {
-        write_refused_field(refusal.field.name(), refusal.at, sink)
     }
 }
 
@@ -62,7 +68,7 @@ fn show<K: Sink>(
     input: Input<'_>,
     sink: &mut K,
     cleanup: Cleanup,
-) -> Result<(), Stop<BadInput>>
+) -> Outcome<(), BadInput>
     ensures { AnswersWith (IsWritten (input_data input.entry)) nothing no_refusal (K.observed sink.old) (K.observed sink.new) result }
 {
     let run = press_keys(alloc, input)?;

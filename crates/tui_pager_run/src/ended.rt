@@ -3,7 +3,7 @@
 use crate::bad_input::BadInput;
 use crate::field::PagerField;
 use std::process::ExitCode;
-use tui_program::{Broken, Outcome, Written};
+use tui_program::{Outcome, Stop};
 
 /// The outcome of a run. Only `Ok` has written the output completely. The outcomes from `Usage` to `BadInput` have
 /// written one line that says what is wrong.
@@ -30,24 +30,23 @@ pub enum PagerEnded {
     NoMemory,
 }
 
-impl From<Outcome<BadInput>> for PagerEnded {
+impl From<Outcome<(), BadInput>> for PagerEnded {
     ghost use Rattle.std.specs.Prelude.{◌≡◌};
+    ghost use Rattle.tui_program.specs.Stops.{IsOfCommand};
     ghost use Rattle.tui_pager_run.specs.Ended.{outcome_of};
 
-    ghost from_gives = { λ outcome ended. outcome_of ended ≡ outcome };
+    ghost from_gives = { λ outcome ended. IsOfCommand outcome → outcome_of ended ≡ outcome };
 
-    fn from(outcome: Outcome<BadInput>) -> PagerEnded {
+    fn from(outcome: Outcome<(), BadInput>) -> PagerEnded {
         match outcome {
-            Outcome::Written(Written::Output) => PagerEnded::Ok,
-            Outcome::Written(Written::Usage) => PagerEnded::Usage,
-            Outcome::Written(Written::TooLong) => PagerEnded::TooLong,
-            Outcome::Written(Written::NotJson) => PagerEnded::NotJson,
-            Outcome::Written(Written::Refused(BadInput { at, field })) => {
-                PagerEnded::BadInput { at, field }
-            }
-            Outcome::Broken(Broken::ReadFault) => PagerEnded::ReadFault,
-            Outcome::Broken(Broken::WriteFault) => PagerEnded::WriteFault,
-            Outcome::Broken(Broken::NoMemory) => PagerEnded::NoMemory,
+            Ok(()) => PagerEnded::Ok,
+            Err(Stop::Usage) => PagerEnded::Usage,
+            Err(Stop::TooLong) => PagerEnded::TooLong,
+            Err(Stop::NotJson | Stop::NotText) => PagerEnded::NotJson,
+            Err(Stop::Rejected(BadInput { at, field })) => { PagerEnded::BadInput { at, field } }
+            Err(Stop::ReadFault | Stop::ManyReads) => PagerEnded::ReadFault,
+            Err(Stop::WriteFault) => PagerEnded::WriteFault,
+            Err(Stop::NoMemory) => PagerEnded::NoMemory,
         }
     }
 }

@@ -11,7 +11,7 @@ use crate::refusal::{PagesRefusal, write_refusal};
 use serde_json::Value;
 use std::alloc::Global;
 use tui_io::{Sink, WriteFault};
-use tui_program::{Cleanup, Job, JsonCommand, Stop, are_empty, is_single_argument};
+use tui_program::{Cleanup, Job, JsonCommand, Outcome, Rejects, are_empty, is_single_argument};
 
 /// A command of the program. Each reads a report.
 #[derive(Clone, Copy, Debug, PartialEq, Eq)]
@@ -40,10 +40,20 @@ impl JsonCommand for PagesCommand {
     }
 }
 
-impl Job for PagesCommand {
-    ghost use Rattle.tui_pages_run.specs.Rules.{pages_job};
+impl Rejects for PagesCommand {
+    ghost use Rattle.tui_pages_run.specs.Refusals.{refusal_line};
 
     type Refusal = PagesRefusal;
+
+    ghost line = { refusal_line };
+
+    fn reject<K: Sink>(refusal: PagesRefusal, sink: &mut K) -> Result<(), WriteFault> {
+        write_refusal(refusal, sink)
+    }
+}
+
+impl Job for PagesCommand {
+    ghost use Rattle.tui_pages_run.specs.Rules.{pages_job};
 
     ghost job_rules = { pages_job };
 
@@ -53,15 +63,11 @@ impl Job for PagesCommand {
         value: &Value,
         sink: &mut K,
         cleanup: Cleanup,
-    ) -> Result<(), Stop<PagesRefusal>> {
+    ) -> Outcome<(), PagesRefusal> {
         let paged = read_report(alloc, value)?;
         let answer = write(*self, alloc, &paged, sink);
         cleanup.dispose_of(paged);
         answer
-    }
-
-    fn reject<K: Sink>(&self, refusal: PagesRefusal, sink: &mut K) -> Result<(), WriteFault> {
-        write_refusal(refusal, sink)
     }
 }
 
@@ -71,7 +77,7 @@ fn write<K: Sink>(
     alloc: Global,
     paged: &PagedReport<'_>,
     sink: &mut K,
-) -> Result<(), Stop<PagesRefusal>>
+) -> Outcome<(), PagesRefusal>
     requires { paged.now.area ≡ page_area paged.now.report }
     ensures { AnswersWith (IsWritten command paged.now.report) (IsAllowedPartial command paged.now.report) no_refusal
         (K.observed sink.old) (K.observed sink.new) result }

@@ -5,7 +5,7 @@ ghost use Rattle.std.specs.Prelude.{◌≡◌};
 use crate::field::ReportField;
 use crate::refusal::PagesRefusal;
 use std::process::ExitCode;
-use tui_program::{Broken, Outcome, Written};
+use tui_program::{Outcome, Stop};
 
 /// The outcome of a run. Only `Ok` has written the output completely. The outcomes from `Usage` to `TooTall` have
 /// written one line that says what is wrong.
@@ -36,26 +36,27 @@ pub enum PagesEnded {
     NoMemory,
 }
 
-impl From<Outcome<PagesRefusal>> for PagesEnded {
+impl From<Outcome<(), PagesRefusal>> for PagesEnded {
+    ghost use Rattle.tui_program.specs.Stops.{IsOfCommand};
     ghost use Rattle.tui_pages_run.specs.Ended.{outcome_of};
 
-    ghost from_gives = { λ outcome ended. outcome_of ended ≡ outcome };
+    ghost from_gives = { λ outcome ended. IsOfCommand outcome → outcome_of ended ≡ outcome };
 
-    fn from(outcome: Outcome<PagesRefusal>) -> PagesEnded {
+    fn from(outcome: Outcome<(), PagesRefusal>) -> PagesEnded {
         match outcome {
-            Outcome::Written(Written::Output) => PagesEnded::Ok,
-            Outcome::Written(Written::Usage) => PagesEnded::Usage,
-            Outcome::Written(Written::TooLong) => PagesEnded::TooLong,
-            Outcome::Written(Written::NotJson) => PagesEnded::NotJson,
-            Outcome::Written(Written::Refused(PagesRefusal::BadInput { at, field })) => {
+            Ok(()) => PagesEnded::Ok,
+            Err(Stop::Usage) => PagesEnded::Usage,
+            Err(Stop::TooLong) => PagesEnded::TooLong,
+            Err(Stop::NotJson | Stop::NotText) => PagesEnded::NotJson,
+            Err(Stop::Rejected(PagesRefusal::BadInput { at, field })) => {
                 PagesEnded::BadInput { at, field }
             }
-            Outcome::Written(Written::Refused(PagesRefusal::TooTall { place })) => {
+            Err(Stop::Rejected(PagesRefusal::TooTall { place })) => {
                 PagesEnded::TooTall { place }
             }
-            Outcome::Broken(Broken::ReadFault) => PagesEnded::ReadFault,
-            Outcome::Broken(Broken::WriteFault) => PagesEnded::WriteFault,
-            Outcome::Broken(Broken::NoMemory) => PagesEnded::NoMemory,
+            Err(Stop::ReadFault | Stop::ManyReads) => PagesEnded::ReadFault,
+            Err(Stop::WriteFault) => PagesEnded::WriteFault,
+            Err(Stop::NoMemory) => PagesEnded::NoMemory,
         }
     }
 }

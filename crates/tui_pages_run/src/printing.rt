@@ -13,7 +13,7 @@ use std::alloc::Global;
 use tui_cells::{Buffer, Mem, NoMemory, Rect};
 use tui_io::{Print, Sink, WriteFault};
 use tui_pages_lib::Report;
-use tui_program::Stop;
+use tui_program::{Outcome, Stop};
 use tui_rows::emit_rows;
 
 /// The rows of the title and the names.
@@ -26,7 +26,7 @@ pub(crate) fn print_pages<K: Sink>(
     area: Rect,
     report: &Report<'_>,
     sink: &mut K,
-) -> Result<(), Stop<PagesRefusal>>
+) -> Outcome<(), PagesRefusal>
     requires { area ≡ page_area report.now }
     ensures { AnswersWith (AreAllPages report.now) (AreFewerPages report.now) no_refusal (K.observed sink.old) (K.observed sink.new) result }
 {
@@ -46,8 +46,8 @@ pub(crate) fn print_pages<K: Sink>(
 fn ended<K: Sink>(
     print: &mut Print,
     sink: &mut K,
-    answer: Result<(), Stop<PagesRefusal>>,
-) -> Result<(), Stop<PagesRefusal>>
+    answer: Outcome<(), PagesRefusal>,
+) -> Outcome<(), PagesRefusal>
     ensures { (goes : Bool) × WritesIf (K.observed sink.old) (K.observed sink.new) print.old.ok_so_far goes print.old.bytes
         × (result ≡ (if goes then answer else Err stop.WriteFault)) }
 {
@@ -109,10 +109,7 @@ fn emit_page<K: Sink>(
 }
 
 /// Writes the number of pages.
-pub(crate) fn print_count<K: Sink>(
-    report: &Report<'_>,
-    sink: &mut K,
-) -> Result<(), Stop<PagesRefusal>>
+pub(crate) fn print_count<K: Sink>(report: &Report<'_>, sink: &mut K) -> Outcome<(), PagesRefusal>
     ensures { AnswersWith (λ text. text ≡ count_line report.now) nothing no_refusal (K.observed sink.old) (K.observed sink.new) result }
 {
     write_count(report, sink)?;

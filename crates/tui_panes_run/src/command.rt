@@ -19,7 +19,8 @@ use tui_cells::Position;
 use tui_io::{Sink, WriteFault};
 use tui_print::write_screen;
 use tui_program::{
-    Cleanup, Job, JsonCommand, Numerals, Stop, are_empty, is_single_argument, numbers_after,
+    Cleanup, Job, JsonCommand, Numerals, Outcome, Rejects, are_empty, is_single_argument,
+    numbers_after,
 };
 
 /// A command of the program. Each reads a tree of panes and changes.
@@ -61,10 +62,20 @@ impl JsonCommand for PanesCommand {
     }
 }
 
-impl Job for PanesCommand {
-    ghost use Rattle.tui_panes_run.specs.Rules.{panes_job};
+impl Rejects for PanesCommand {
+    ghost use Rattle.tui_panes_run.specs.Refusals.{refusal_line};
 
     type Refusal = PanesRefusal;
+
+    ghost line = { refusal_line };
+
+    fn reject<K: Sink>(refusal: PanesRefusal, sink: &mut K) -> Result<(), WriteFault> {
+        write_refusal(refusal, sink)
+    }
+}
+
+impl Job for PanesCommand {
+    ghost use Rattle.tui_panes_run.specs.Rules.{panes_job};
 
     ghost job_rules = { panes_job };
 
@@ -74,13 +85,9 @@ impl Job for PanesCommand {
         value: &Value,
         sink: &mut K,
         cleanup: Cleanup,
-    ) -> Result<(), Stop<PanesRefusal>> {
+    ) -> Outcome<(), PanesRefusal> {
         let input = read_input(alloc, value)?;
         write(*self, alloc, input, sink, cleanup)
-    }
-
-    fn reject<K: Sink>(&self, refusal: PanesRefusal, sink: &mut K) -> Result<(), WriteFault> {
-        write_refusal(refusal, sink)
     }
 }
 
@@ -91,7 +98,7 @@ fn write<K: Sink>(
     input: Input<'_>,
     sink: &mut K,
     cleanup: Cleanup,
-) -> Result<(), Stop<PanesRefusal>>
+) -> Outcome<(), PanesRefusal>
     requires depth { levels (input_data input).root ≤ 32 }
     requires leaves { All (λ c. c.leaf < length (leaves_of (input_data input))) (input_data input).changes }
     ensures { AnswersWith (IsWritten command (input_data input.entry)) nothing no_refusal (K.observed sink.old) (K.observed sink.new) result }
@@ -108,7 +115,7 @@ fn show<K: Sink>(
     order: Order,
     sink: &mut K,
     cleanup: Cleanup,
-) -> Result<(), Stop<PanesRefusal>>
+) -> Outcome<(), PanesRefusal>
     requires depth { levels (input_data input).root ≤ 32 }
     requires leaves { All (λ c. c.leaf < length (leaves_of (input_data input))) (input_data input).changes }
     ensures { AnswersWith (ArePanesShown order (input_data input.entry)) nothing no_refusal (K.observed sink.old) (K.observed sink.new) result }
@@ -125,7 +132,7 @@ fn find<K: Sink>(
     position: Position,
     sink: &mut K,
     cleanup: Cleanup,
-) -> Result<(), Stop<PanesRefusal>>
+) -> Outcome<(), PanesRefusal>
     requires { levels (input_data input).root ≤ 32 }
     ensures { AnswersWith (IsFound position.x position.y (input_data input.entry)) nothing no_refusal
         (K.observed sink.old) (K.observed sink.new) result }

@@ -3,7 +3,7 @@
 use crate::field::PaneField;
 use crate::refusal::PanesRefusal;
 use std::process::ExitCode;
-use tui_program::{Broken, Outcome, Written};
+use tui_program::{Outcome, Stop};
 use tui_schema::{BadField, Field};
 
 /// How a run ends. Only `Ok` has written the output in full. `Usage`, `TooLong`, `NotJson`, `BadPane` and `BadField`
@@ -38,26 +38,28 @@ pub enum PanesEnded {
     NoMemory,
 }
 
-impl From<Outcome<PanesRefusal>> for PanesEnded {
+impl From<Outcome<(), PanesRefusal>> for PanesEnded {
     ghost use Rattle.std.specs.Prelude.{◌≡◌};
+    ghost use Rattle.tui_program.specs.Stops.{IsOfCommand};
     ghost use Rattle.tui_panes_run.specs.Ended.{outcome_of};
 
-    ghost from_gives = { λ outcome ended. outcome_of ended ≡ outcome };
+    ghost from_gives = { λ outcome ended. IsOfCommand outcome → outcome_of ended ≡ outcome };
 
-    fn from(outcome: Outcome<PanesRefusal>) -> PanesEnded {
+    fn from(outcome: Outcome<(), PanesRefusal>) -> PanesEnded {
         match outcome {
-            Outcome::Written(Written::Output) => PanesEnded::Ok,
-            Outcome::Written(Written::Usage) => PanesEnded::Usage,
-            Outcome::Written(Written::TooLong) => PanesEnded::TooLong,
-            Outcome::Written(Written::NotJson) => PanesEnded::NotJson,
-            Outcome::Written(Written::Refused(PanesRefusal::BadPane { pane, field })) => {
+            Ok(()) => PanesEnded::Ok,
+            Err(Stop::Usage) => PanesEnded::Usage,
+            Err(Stop::TooLong) => PanesEnded::TooLong,
+            Err(Stop::NotJson | Stop::NotText) => PanesEnded::NotJson,
+            Err(Stop::Rejected(PanesRefusal::BadPane { pane, field })) => {
                 PanesEnded::BadPane { pane, field }
             }
-            Outcome::Written(Written::Refused(PanesRefusal::BadField(BadField { item, field }))) =>
-                { PanesEnded::BadField { item, field } }
-            Outcome::Broken(Broken::ReadFault) => PanesEnded::ReadFault,
-            Outcome::Broken(Broken::WriteFault) => PanesEnded::WriteFault,
-            Outcome::Broken(Broken::NoMemory) => PanesEnded::NoMemory,
+            Err(Stop::Rejected(PanesRefusal::BadField(BadField { item, field }))) => {
+                PanesEnded::BadField { item, field }
+            }
+            Err(Stop::ReadFault | Stop::ManyReads) => PanesEnded::ReadFault,
+            Err(Stop::WriteFault) => PanesEnded::WriteFault,
+            Err(Stop::NoMemory) => PanesEnded::NoMemory,
         }
     }
 }

@@ -7,7 +7,7 @@ use Rattle.tui_program.specs.Outcomes.{NameNoCommand}
 use Rattle.tui_program.specs.Rules.{Rules}
 use Rattle.tui_program.specs.Runs.{IsRun}
 use Rattle.tui_program.specs.Arguments.{most_arguments}
-use Rattle.tui_program.specs.declared.outcome.Outcome.{Outcome}
+use Rattle.tui_program.specs.Stops.{Outcome}
 
 -- the next item is taken after those that were taken
 pub one_more : {X : Type 0} (taken now rest left all : List X) (x : X) (i : ℕ) → i < 4 → rest ≡ x ∷ left → now ≡ taken ++ x ∷ [] →

@@ -8,10 +8,8 @@ use Rattle.tui_io.specs.Limits.{limit}
 use Rattle.tui_program.specs.Transcript.{Transcript}
 use Rattle.tui_program.specs.Outcomes.{NameNoCommand}
 use Rattle.tui_program.specs.Rules.{JobRules, Rules, Task, reads, only_writes}
-use Rattle.tui_program.specs.declared.broken.Broken.TheVariants as broken
-use Rattle.tui_program.specs.declared.outcome.Outcome.{Outcome}
-use Rattle.tui_program.specs.declared.outcome.Outcome.TheVariants as outcome
-use Rattle.tui_program.specs.declared.written.Written.TheVariants as written
+use Rattle.tui_program.specs.Stops.{Outcome}
+use Rattle.tui_program.specs.declared.stop.Stop.TheVariants as stop
 
 -- bytes within the limit that are JSON for this value
 pub record AreJson (bytes : List ℕ) (value : Data) : Type 0 where
@@ -21,23 +19,23 @@ pub record AreJson (bytes : List ℕ) (value : Data) : Type 0 where
 
 -- the outcome that the bytes of a source lead to
 abbrev pub CallFor : {R : Type 0} → JobRules R → List ℕ → Outcome R → Type 0
-CallFor r bytes (outcome.Written written.TooLong) = limit < length bytes
-CallFor r bytes (outcome.Written written.NotJson) = (length bytes ≤ limit) × (IsUtf8 bytes → read bytes ≡ None)
-CallFor r bytes (outcome.Written (written.Refused x)) = (d : Data) × AreJson bytes d × (r.input_of d ≡ Err x)
-CallFor r bytes (outcome.Written written.Output) = (d : Data) × AreJson bytes d × ((input : r.Input) × (r.input_of d ≡ Ok input))
+CallFor r bytes (Err stop.TooLong) = limit < length bytes
+CallFor r bytes (Err stop.NotJson) = (length bytes ≤ limit) × (IsUtf8 bytes → read bytes ≡ None)
+CallFor r bytes (Err (stop.Rejected x)) = (d : Data) × AreJson bytes d × (r.input_of d ≡ Err x)
+CallFor r bytes (Ok u) = (d : Data) × AreJson bytes d × ((input : r.Input) × (r.input_of d ≡ Ok input))
 CallFor r bytes e = ⊥
 
 -- if no I/O error occurs, memory suffices and the bytes of the source are known: a run that reads has the outcome that
 -- these bytes lead to
 abbrev pub IsCompleteReading : {R : Type 0} → JobRules R → Transcript → Outcome R → Type 0
 IsCompleteReading {R} r t e =
-    (HasFailed t.source t.source_then → ⊥) → (HasFailed t.sink t.sink_then → ⊥) → e ≢ outcome.Broken broken.NoMemory
+    (HasFailed t.source t.source_then → ⊥) → (HasFailed t.sink t.sink_then → ⊥) → e ≢ Err stop.NoMemory
     → (bytes : List ℕ) → t.source.bytes ≡ Some bytes → (expected : Outcome R) → (e ≡ expected) ↔ CallFor r bytes expected
 
 -- if no write fails and memory suffices, a run that reads nothing writes its output, whatever its source is
 abbrev pub IsCompleteWithoutReading : {R : Type 0} → Transcript → Outcome R → Type 0
 IsCompleteWithoutReading t e =
-    (HasFailed t.sink t.sink_then → ⊥) → e ≢ outcome.Broken broken.NoMemory → e ≡ outcome.Written written.Output
+    (HasFailed t.sink t.sink_then → ⊥) → e ≢ Err stop.NoMemory → e ≡ Ok tt
 
 -- one of these for each task: for one that reads, and for one that only writes
 abbrev pub IsCompleteBy : {R : Type 0} → Task R → Transcript → Outcome R → Type 0
@@ -50,4 +48,4 @@ IsComplete {C} rules arguments t e = (command : C) → rules.named command argum
 
 -- if the arguments name no command, no other outcome is possible
 abbrev pub IsUsage : {C R : Type 0} → Rules C R → List (String Global) → Outcome R → Type 0
-IsUsage rules arguments e = NameNoCommand rules arguments → (e ≡ outcome.Written written.Usage) ⊎ (e ≡ outcome.Broken broken.WriteFault)
+IsUsage rules arguments e = NameNoCommand rules arguments → (e ≡ Err stop.Usage) ⊎ (e ≡ Err stop.WriteFault)

@@ -1,9 +1,10 @@
 pub mod Complete
+pub mod Input
 pub mod Outcomes
 pub mod FieldLine
 pub mod Rules
 pub mod Runs
-pub mod Status
+pub mod Stops
 pub mod Transcript
 pub mod Arguments
 pub mod Files

@@ -6,13 +6,9 @@ use Rattle.serde_json.specs.Read.{read}
 use Rattle.tui_io.specs.Causes.{HasFailed, WritesAll, WritesPrefix, Observed}
 use Rattle.tui_program.specs.Transcript.{ReadJson, ReadPast, ReadWhole, ReadWithin, Transcript, Unwritten, Unread}
 use Rattle.tui_program.specs.Rules.{JobRules, Rules, Task, reads, only_writes}
-use Rattle.tui_program.specs.declared.broken.Broken.TheVariants as broken
-use Rattle.tui_program.specs.declared.outcome.Outcome.{Outcome}
-use Rattle.tui_program.specs.declared.outcome.Outcome.TheVariants as outcome
+use Rattle.tui_program.specs.Stops.{Outcome}
 use Rattle.tui_program.specs.declared.stop.Stop.{Stop}
 use Rattle.tui_program.specs.declared.stop.Stop.TheVariants as stop
-use Rattle.tui_program.specs.declared.written.Written.{Written}
-use Rattle.tui_program.specs.declared.written.Written.TheVariants as written
 
 -- holds for no text
 abbrev pub nothing : List ℕ → Type 0
@@ -31,17 +27,17 @@ abbrev pub IsPartialOutput : {R : Type 0} → JobRules R → Data → List ℕ �
 IsPartialOutput r d text = (input : r.Input) × (r.input_of d ≡ Ok input) × r.part input text
 
 -- what has to be written completely for a value
-abbrev pub IsExpectedFor : {R : Type 0} → JobRules R → Data → List ℕ → Written R → Type 0
-IsExpectedFor r d text written.Output = IsOutput r d text
-IsExpectedFor r d text (written.Refused x) = (r.input_of d ≡ Err x) × (text ≡ r.line x)
-IsExpectedFor r d text w = ⊥
+abbrev pub IsExpectedFor : {R : Type 0} → JobRules R → Data → List ℕ → Outcome R → Type 0
+IsExpectedFor r d text (Ok u) = IsOutput r d text
+IsExpectedFor r d text (Err (stop.Rejected x)) = (r.input_of d ≡ Err x) × (text ≡ r.line x)
+IsExpectedFor r d text e = ⊥
 
 -- what has to be written completely after reading
-abbrev pub IsExpected : {R : Type 0} → JobRules R → Transcript → List ℕ → Written R → Type 0
-IsExpected r t text written.TooLong = ReadPast t × (text ≡ codes "refused: too long\n")
-IsExpected r t text written.NotJson =
+abbrev pub IsExpected : {R : Type 0} → JobRules R → Transcript → List ℕ → Outcome R → Type 0
+IsExpected r t text (Err stop.TooLong) = ReadPast t × (text ≡ codes "refused: too long\n")
+IsExpected r t text (Err stop.NotJson) =
     ((bytes : List ℕ) × ReadWhole t bytes × (IsUtf8 bytes → read bytes ≡ None)) × (text ≡ codes "refused: not JSON\n")
-IsExpected r t text w = (bytes : List ℕ) × (d : Data) × ReadJson t bytes d × IsExpectedFor r d text w
+IsExpected r t text e = (bytes : List ℕ) × (d : Data) × ReadJson t bytes d × IsExpectedFor r d text e
 
 -- the parts of the output that may remain after reading
 abbrev pub IsPartExpected : {R : Type 0} → JobRules R → Transcript → List ℕ → Type 0
@@ -49,23 +45,22 @@ IsPartExpected r t text = (bytes : List ℕ) × (d : Data) × ReadJson t bytes d
 
 -- the sink has the whole text; or a write failed and it has a first part of it; or memory ran out and it has nothing or
 -- a part that may remain
-abbrev pub EndsWith : {R : Type 0} → (List ℕ → Written R → Type 0) → (List ℕ → Type 0) → Observed → Observed → Outcome R → Type 0
-EndsWith expected part old new (outcome.Written w) = (text : List ℕ) × expected text w × WritesAll old new text
-EndsWith {R} expected part old new (outcome.Broken broken.WriteFault) = (text : List ℕ) × (w : Written R) × expected text w × WritesPrefix old new text
-EndsWith expected part old new (outcome.Broken broken.NoMemory) = Unwritten old new ⊎ ((text : List ℕ) × part text × WritesAll old new text)
-EndsWith expected part old new (outcome.Broken broken.ReadFault) = ⊥
+abbrev pub EndsWith : {R : Type 0} → (List ℕ → Outcome R → Type 0) → (List ℕ → Type 0) → Observed → Observed → Outcome R → Type 0
+EndsWith {R} expected part old new (Err stop.WriteFault) = (text : List ℕ) × (e : Outcome R) × expected text e × WritesPrefix old new text
+EndsWith expected part old new (Err stop.NoMemory) = Unwritten old new ⊎ ((text : List ℕ) × part text × WritesAll old new text)
+EndsWith expected part old new e = (text : List ℕ) × expected text e × WritesAll old new text
 
 -- the outcome of a run that reads a JSON value
 abbrev pub EndsReading : {R : Type 0} → JobRules R → Transcript → Outcome R → Type 0
-EndsReading r t (outcome.Broken broken.ReadFault) = ReadWithin t × Unwritten t.sink t.sink_then × HasFailed t.source t.source_then
-EndsReading r t (outcome.Broken broken.NoMemory) = ReadWithin t × (t.source_then.io_errors ≡ t.source.io_errors)
-    × EndsWith (IsExpected r t) (IsPartExpected r t) t.sink t.sink_then (outcome.Broken broken.NoMemory)
+EndsReading r t (Err stop.ReadFault) = ReadWithin t × Unwritten t.sink t.sink_then × HasFailed t.source t.source_then
+EndsReading r t (Err stop.NoMemory) = ReadWithin t × (t.source_then.io_errors ≡ t.source.io_errors)
+    × EndsWith (IsExpected r t) (IsPartExpected r t) t.sink t.sink_then (Err stop.NoMemory)
 EndsReading r t e = EndsWith (IsExpected r t) (IsPartExpected r t) t.sink t.sink_then e
 
 -- the expected output of a command that reads nothing
-abbrev pub IsOutputOf : {R : Type 0} → (List ℕ → Type 0) → List ℕ → Written R → Type 0
-IsOutputOf expected text written.Output = expected text
-IsOutputOf expected text w = ⊥
+abbrev pub IsOutputOf : {R : Type 0} → (List ℕ → Type 0) → List ℕ → Outcome R → Type 0
+IsOutputOf expected text (Ok u) = expected text
+IsOutputOf expected text e = ⊥
 
 -- the outcome of a run that reads nothing
 abbrev pub EndsWithoutReading : {R : Type 0} → (List ℕ → Type 0) → Transcript → Outcome R → Type 0
@@ -83,8 +78,8 @@ NameNoCommand {C} rules arguments = (command : C) → rules.named command argume
 -- the outcome of a run with such arguments: nothing is read, and the usage line is written, completely or up to a
 -- failed write
 abbrev pub EndsAsUsage : {R : Type 0} → Transcript → Outcome R → Type 0
-EndsAsUsage t (outcome.Written written.Usage) = Unread t × WritesAll t.sink t.sink_then (codes "refused: usage\n")
-EndsAsUsage t (outcome.Broken broken.WriteFault) = Unread t × WritesPrefix t.sink t.sink_then (codes "refused: usage\n")
+EndsAsUsage t (Err stop.Usage) = Unread t × WritesAll t.sink t.sink_then (codes "refused: usage\n")
+EndsAsUsage t (Err stop.WriteFault) = Unread t × WritesPrefix t.sink t.sink_then (codes "refused: usage\n")
 EndsAsUsage t e = ⊥
 
 -- the outcome of a run of a program
@@ -92,21 +87,15 @@ abbrev pub Ends : {C R : Type 0} → Rules C R → List (String Global) → Tran
 Ends {C} rules arguments t e = ((command : C) × rules.named command arguments × EndsBy (rules.task command) t e)
     ⊎ (NameNoCommand rules arguments × EndsAsUsage t e)
 
--- How the result of a command leaves the sink. Ok: with the output. `WriteFault`: with a first part of it. `Refused`:
--- unchanged. `NoMemory`: unchanged, or with a part that may remain.
+-- How the result of a command leaves the sink. Ok: with the output. `WriteFault`: with a first part of it. `Rejected`:
+-- unchanged. `NoMemory`: unchanged, or with a part that may remain. It has no other result.
 abbrev pub AnswersWith : {T R : Type 0} → (List ℕ → Type 0) → (List ℕ → Type 0) → (R → Type 0) → Observed → Observed → Result T (Stop R) → Type 0
 AnswersWith expected part refused old new (Ok u) = (text : List ℕ) × expected text × WritesAll old new text
 AnswersWith expected part refused old new (Err stop.WriteFault) = (text : List ℕ) × expected text × WritesPrefix old new text
-AnswersWith expected part refused old new (Err (stop.Refused x)) = refused x × Unwritten old new
+AnswersWith expected part refused old new (Err (stop.Rejected x)) = refused x × Unwritten old new
 AnswersWith expected part refused old new (Err stop.NoMemory) = Unwritten old new ⊎ ((text : List ℕ) × part text × WritesAll old new text)
+AnswersWith expected part refused old new (Err other) = ⊥
 
 -- the same for a value
 abbrev pub Answers : {T R : Type 0} → JobRules R → Data → Observed → Observed → Result T (Stop R) → Type 0
 Answers r d old new answer = AnswersWith (IsOutput r d) (IsPartialOutput r d) (λ x. r.input_of d ≡ Err x) old new answer
-
--- the outcome of a run, given a command's result, if its rejection was written
-abbrev pub outcome_after : {T R : Type 0} → Result T (Stop R) → Outcome R
-outcome_after (Ok u) = outcome.Written written.Output
-outcome_after (Err (stop.Refused x)) = outcome.Written (written.Refused x)
-outcome_after (Err stop.WriteFault) = outcome.Broken broken.WriteFault
-outcome_after (Err stop.NoMemory) = outcome.Broken broken.NoMemory

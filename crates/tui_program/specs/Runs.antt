@@ -10,9 +10,8 @@ use Rattle.tui_program.specs.Complete.{IsComplete, IsUsage}
 use Rattle.tui_program.specs.Outcomes.{Ends}
 use Rattle.tui_program.specs.Rules.{Rules}
 use Rattle.tui_program.specs.Arguments.{AreArguments}
-use Rattle.tui_program.specs.declared.broken.Broken.TheVariants as broken
-use Rattle.tui_program.specs.declared.outcome.Outcome.{Outcome}
-use Rattle.tui_program.specs.declared.outcome.Outcome.TheVariants as outcome
+use Rattle.tui_program.specs.Stops.{Outcome}
+use Rattle.tui_program.specs.declared.stop.Stop.TheVariants as stop
 
 -- a run with these arguments
 pub record IsRun {C R : Type 0} (rules : Rules C R) (arguments : List (String Global)) (t : Transcript) (e : Outcome R) : Type 0 where
@@ -28,4 +27,4 @@ ArgsOutOfMemory (Err e) = error_kind e ≡ OutOfMemory
 -- a run with the system's arguments; or the system was out of memory, and nothing is read or written
 pub record IsRunFrom {C R : Type 0} (rules : Rules C R) (args : Result (IntoIter (String Global) Global) Error) (t : Transcript) (e : Outcome R) : Type 0 where
   pub run : ((arguments : List (String Global)) × AreArguments args arguments × IsRun rules arguments t e)
-      ⊎ (ArgsOutOfMemory args × (e ≡ outcome.Broken broken.NoMemory) × Unread t × Unwritten t.sink t.sink_then)
+      ⊎ (ArgsOutOfMemory args × (e ≡ Err stop.NoMemory) × Unread t × Unwritten t.sink t.sink_then)

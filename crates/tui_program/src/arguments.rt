@@ -3,10 +3,14 @@
 ghost use Rattle.std.specs.Prelude.{◌≡◌, ◌↔◌, ◌<◌, IsTrue, [], ◌∷◌, drop, take};
 ghost use Rattle.std.specs.Vec.Iter.{into_iter_items};
 ghost use Rattle.tui_program.specs.Arguments.{AreTexts, StartWith};
+ghost use Rattle.tui_program.specs.Input.{AreGiven};
 
+use crate::stop::{Outcome, Stop};
 use arrayvec::ArrayVec;
 use std::alloc::Global;
 use std::env::Args;
+use std::io;
+use std::io::ErrorKind;
 
 /// One argument more than any command has.
 const FIRST_ARGUMENTS: usize = 4;
@@ -26,6 +30,21 @@ pub fn first_arguments(alloc: Global, all: Args) -> ArrayVec<String, 4, Global>
         }
     }
     arguments
+}
+
+/// Returns the first arguments of those that the system gives. Fails with `Usage` if the system rejects one, and with
+/// `NoMemory` if it has no memory for them. Does not allocate.
+pub fn given_arguments<R>(
+    alloc: Global,
+    args: io::Result<Args>,
+) -> Outcome<ArrayVec<String, 4, Global>, R>
+    ensures { AreGiven args result }
+{
+    match args {
+        Ok(all) => Ok(first_arguments(alloc, all)),
+        Err(error) if error.kind() == ErrorKind::OutOfMemory => Err(Stop::NoMemory),
+        Err(_) => Err(Stop::Usage),
+    }
 }
 
 /// Returns whether there are no arguments.

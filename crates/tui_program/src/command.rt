@@ -8,15 +8,13 @@ ghost use Rattle.tui_program.specs.Rules.{Rules};
 ghost use Rattle.tui_program.specs.Arguments.{IsOnly, most_arguments};
 
 use crate::cleanup::Cleanup;
-use crate::outcome::Outcome;
+use crate::rejects::Rejects;
+use crate::stop::Outcome;
 use std::alloc::Global;
 use tui_io::{Sink, Source};
 
 /// A command of a program, named by its arguments.
-pub trait ProgramCommand: Sized {
-    /// What the command rejects its input with.
-    type Refusal: Copy;
-
+pub trait ProgramCommand: Rejects + Sized {
     // The arguments that name each command, and what it has to do.
     ghost rules: { Rules Self Self.Refusal };
 
@@ -34,7 +32,7 @@ pub trait ProgramCommand: Sized {
         source: &mut S,
         sink: &mut K,
         cleanup: Cleanup,
-    ) -> Outcome<Self::Refusal>
+    ) -> Outcome<(), Self::Refusal>
         requires { (arguments : List (String Global)) × rules.named self.now arguments }
         ensures { EndsBy (rules.task self.now)
             (transcript_of (S.observed source.old) (S.observed source.new) (K.observed sink.old) (K.observed sink.new)) result };

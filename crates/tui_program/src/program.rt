@@ -6,16 +6,15 @@ ghost use Rattle.tui_program.specs.Transcript.{transcript_of};
 ghost use Rattle.tui_program.specs.Runs.{IsRun, IsRunFrom};
 
 use crate::arguments::first_arguments;
-use crate::broken::Broken;
 use crate::cleanup::Cleanup;
 use crate::command::ProgramCommand;
-use crate::outcome::Outcome;
-use crate::written::Written;
+use crate::rejects::tell;
+use crate::stop::{Outcome, Stop};
 use std::alloc::Global;
 use std::env::Args;
 use std::io;
 use std::io::ErrorKind;
-use tui_io::{Sink, Source, write_all};
+use tui_io::{Sink, Source};
 
 /// Runs the command that the arguments name. If they name none, reads nothing, and writes the usage line, which doesn't
 /// allocate.
@@ -25,13 +24,13 @@ pub fn run<C: ProgramCommand + Drop, S: Source, K: Sink>(
     source: &mut S,
     sink: &mut K,
     cleanup: Cleanup,
-) -> Outcome<C::Refusal>
+) -> Outcome<(), C::Refusal>
     ensures { IsRun C.rules arguments.now
         (transcript_of (S.observed source.old) (S.observed source.new) (K.observed sink.old) (K.observed sink.new)) result }
 {
     match C::from_arguments(arguments) {
         Some(command) => command.run(alloc, source, sink, cleanup),
-        None => Written::Usage.if_written(write_all(sink, b"refused: usage\n")),
+        None => Err(tell::<C, K>(Stop::Usage, sink)),
     }
 }
 
@@ -45,7 +44,7 @@ pub fn run_program<C: ProgramCommand + Drop, S: Source, K: Sink>(
     args: io::Result<Args>,
     source: &mut S,
     sink: &mut K,
-) -> Outcome<C::Refusal>
+) -> Outcome<(), C::Refusal>
     ensures { IsRunFrom C.rules args
         (transcript_of (S.observed source.old) (S.observed source.new) (K.observed sink.old) (K.observed sink.new)) result }
 {
@@ -54,7 +53,7 @@ pub fn run_program<C: ProgramCommand + Drop, S: Source, K: Sink>(
             let arguments = first_arguments(alloc, all);
             run::<C, S, K>(alloc, arguments.as_slice(), source, sink, Cleanup::Left)
         }
-        Err(error) if error.kind() == ErrorKind::OutOfMemory => Outcome::Broken(Broken::NoMemory),
+        Err(error) if error.kind() == ErrorKind::OutOfMemory => Err(Stop::NoMemory),
         Err(_) => run_rejected_argument::<C, S, K>(alloc, source, sink),
     }
 }
@@ -64,7 +63,7 @@ fn run_rejected_argument<C: ProgramCommand + Drop, S: Source, K: Sink>(
     alloc: Global,
     source: &mut S,
     sink: &mut K,
-) -> Outcome<C::Refusal>
+) -> Outcome<(), C::Refusal>
     ensures { (arguments : List (String Global)) × (map string_bytes arguments ≡ [] ∷ []) × IsRun C.rules arguments
         (transcript_of (S.observed source.old) (S.observed source.new) (K.observed sink.old) (K.observed sink.new)) result }
 {

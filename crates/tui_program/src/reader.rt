@@ -8,7 +8,7 @@ ghost use Rattle.tui_program.specs.Arguments.{IsOnly, most_arguments};
 use crate::cleanup::Cleanup;
 use crate::command::ProgramCommand;
 use crate::job::{Job, run_json};
-use crate::outcome::Outcome;
+use crate::stop::Outcome;
 use std::alloc::Global;
 use tui_io::{Sink, Source};
 
@@ -26,8 +26,6 @@ pub trait JsonCommand: Job + Sized {
 }
 
 impl<C: JsonCommand> ProgramCommand for C {
-    type Refusal = C::Refusal;
-
     ghost rules = { reading_rules C.named C.job_rules };
 
     ghost few = { C.JsonCommand.few };
@@ -42,7 +40,7 @@ impl<C: JsonCommand> ProgramCommand for C {
         source: &mut S,
         sink: &mut K,
         cleanup: Cleanup,
-    ) -> Outcome<C::Refusal> {
+    ) -> Outcome<(), C::Refusal> {
         run_json(self, alloc, source, sink, cleanup)
     }
 }

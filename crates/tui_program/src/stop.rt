@@ -1,26 +1,37 @@
-//! Why a command did not write its output completely.
+//! Why a run stopped.
 
 ghost use Rattle.std.specs.Prelude.{◌≡◌};
-ghost use Rattle.tui_program.specs.Outcomes.{outcome_after};
 
-use crate::broken::Broken;
-use crate::outcome::Outcome;
-use crate::written::Written;
 use std::alloc::{AllocError, AllocFailed};
 use tui_cells::NoMemory;
 use tui_io::WriteFault;
 use tui_json::InputError;
 
-/// Why a command that had read its input did not write its output completely.
+/// Why a run did not do what it is for. `R` is what the program rejects its input with.
 #[derive(Clone, Copy, Debug, PartialEq, Eq)]
 pub enum Stop<R> {
-    /// The value is rejected. Nothing has been written yet.
-    Refused(R),
+    /// The arguments are not those of the program.
+    Usage,
+    /// The input has more than 1,048,576 bytes, or more parts than the program takes.
+    TooLong,
+    /// The input is not JSON in UTF-8.
+    NotJson,
+    /// The input is not UTF-8 text.
+    NotText,
+    /// The value of the input is rejected.
+    Rejected(R),
+    /// The input could not be opened, or a read failed.
+    ReadFault,
     /// A write failed. The sink has the first bytes of the output.
     WriteFault,
     /// Out of memory. Nothing was written, or a part of the output that the program's rules allow to remain.
     NoMemory,
+    /// The session has made the most reads that it may make, 4,294,967,296.
+    ManyReads,
 }
+
+/// The outcome of a run: what it gives if it did what it is for, or why it stopped.
+pub type Outcome<D, R> = Result<D, Stop<R>>;
 
 impl<R> From<NoMemory> for Stop<R> {
     ghost use Rattle.std.specs.Prelude.{◌≡◌};
@@ -38,11 +49,11 @@ impl<R> From<InputError<R>> for Stop<R> {
     ghost use Rattle.tui_json.specs.Refusals.{by_error};
     ghost use Rattle.tui_program.specs.declared.stop.Stop.TheVariants as stops;
 
-    ghost from_gives = { λ error stop. stop ≡ by_error stops.Refused stops.NoMemory error };
+    ghost from_gives = { λ error stop. stop ≡ by_error stops.Rejected stops.NoMemory error };
 
     fn from(error: InputError<R>) -> Stop<R> {
         match error {
-            InputError::Refused(refusal) => Stop::Refused(refusal),
+            InputError::Refused(refusal) => Stop::Rejected(refusal),
             InputError::NoMemory => Stop::NoMemory,
         }
     }
@@ -78,17 +89,5 @@ impl<R, T: Drop> From<AllocFailed<T>> for Stop<R> {
 
     fn from(_error: AllocFailed<T>) -> Stop<R> {
         Stop::NoMemory
-    }
-}
-
-/// Returns the outcome of a run, given the result of a command that reads nothing.
-pub fn outcome_after<R: Copy>(answer: Result<(), Stop<R>>) -> Outcome<R>
-    ensures { result ≡ outcome_after answer }
-{
-    match answer {
-        Ok(()) => Outcome::Written(Written::Output),
-        Err(Stop::Refused(refusal)) => Outcome::Written(Written::Refused(refusal)),
-        Err(Stop::WriteFault) => Outcome::Broken(Broken::WriteFault),
-        Err(Stop::NoMemory) => Outcome::Broken(Broken::NoMemory),
     }
 }

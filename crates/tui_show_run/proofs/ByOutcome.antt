@@ -3,8 +3,8 @@ use Rattle.std.proofs.Common.{◌≡◌, ℕ, List, Result, Ok, Err, true, false
 use Rattle.tui_io.specs.Causes.{WritesAll, WritesPrefix}
 use Rattle.tui_program.specs.Transcript.{Transcript, Unread}
 use Rattle.tui_program.specs.Outcomes as frame
-use Rattle.tui_program.specs.declared.written.Written.{Written}
-use Rattle.tui_program.specs.declared.written.Written.TheVariants as written
+use Rattle.tui_program.specs.Stops.{Outcome}
+use Rattle.tui_program.specs.declared.stop.Stop.TheVariants as stop
 use Rattle.tui_show_run.specs.ByOutcome.{EndsFor, IsExpectedBy, OutcomesAgree}
 use Rattle.tui_show_run.specs.Commands.{IsDemoCommand, IsSceneCommand, IsNoCommand, Names}
 use Rattle.tui_show_run.specs.Demo.{IsDemo}
@@ -17,39 +17,41 @@ use Rattle.tui_show_run.specs.declared.ended.Ended.{Ended}
 use Rattle.tui_show_run.specs.declared.ended.Ended.TheVariants as ended
 use Rattle.tui_show_run.proofs.Commands.{name_none}
 
--- the outcome of a run that has written this completely
-abbrev pub ended_of : Written BadField → Ended
-ended_of written.Output = ended.Ok
-ended_of written.Usage = ended.Usage
-ended_of written.TooLong = ended.TooLong
-ended_of written.NotJson = ended.NotJson
-ended_of (written.Refused x) = ended.BadField x.item x.field
+-- the outcome of a run of any program as one of this program
+abbrev pub ended_of : Outcome BadField → Ended
+ended_of (Ok u) = ended.Ok
+ended_of (Err stop.Usage) = ended.Usage
+ended_of (Err stop.TooLong) = ended.TooLong
+ended_of (Err stop.NotJson) = ended.NotJson
+ended_of (Err stop.NotText) = ended.NotJson
+ended_of (Err (stop.Rejected x)) = ended.BadField x.item x.field
+ended_of (Err stop.ReadFault) = ended.ReadFault
+ended_of (Err stop.WriteFault) = ended.WriteFault
+ended_of (Err stop.NoMemory) = ended.NoMemory
+ended_of (Err stop.ManyReads) = ended.ReadFault
 
-expected_scene : (words : List (String Global)) (t : Transcript) (text : List ℕ) (w : Written BadField) → IsSceneCommand words → frame.IsExpected scene_job t text w →
+expected_scene : (words : List (String Global)) (t : Transcript) (text : List ℕ) (w : Outcome BadField) → IsSceneCommand words → frame.IsExpected scene_job t text w →
     IsExpectedBy words t text (ended_of w)
-expected_scene words t text written.Output are d = inl (are, (d.0, d.1, d.3.0, d.2, d.3.1, d.3.2))
-expected_scene words t text (written.Refused x) are d = (are, (d.0, d.1, d.2, d.3.0), d.3.1)
-expected_scene words t text written.TooLong are d = (are, d.0, d.1)
-expected_scene words t text written.NotJson are d = (are, d.0, d.1)
-expected_scene words t text written.Usage are d = absurd d.3
+expected_scene words t text (Ok u) are d = inl (are, (d.0, d.1, d.3.0, d.2, d.3.1, d.3.2))
+expected_scene words t text (Err (stop.Rejected x)) are d = (are, (d.0, d.1, d.2, d.3.0), d.3.1)
+expected_scene words t text (Err stop.TooLong) are d = (are, d.0, d.1)
+expected_scene words t text (Err stop.NotJson) are d = (are, d.0, d.1)
+expected_scene words t text (Err other) are d = absurd d.3
 
 scene : (words : List (String Global)) (t : Transcript) (e : Ended) → IsSceneCommand words → frame.EndsReading scene_job t (outcome_of e) → EndsFor words t e
-scene words t ended.Ok are h = (h.0, expected_scene words t h.0 written.Output are h.1, h.2)
-scene words t (ended.BadField i f) are h = (h.0, expected_scene words t h.0 (written.Refused (record { item = i; field = f })) are h.1, h.2)
-scene words t ended.TooLong are h = (h.0, expected_scene words t h.0 written.TooLong are h.1, h.2)
-scene words t ended.NotJson are h = (h.0, expected_scene words t h.0 written.NotJson are h.1, h.2)
+scene words t ended.Ok are h = (h.0, expected_scene words t h.0 (Ok tt) are h.1, h.2)
+scene words t (ended.BadField i f) are h = (h.0, expected_scene words t h.0 (Err (stop.Rejected (record { item = i; field = f }))) are h.1, h.2)
+scene words t ended.TooLong are h = (h.0, expected_scene words t h.0 (Err stop.TooLong) are h.1, h.2)
+scene words t ended.NotJson are h = (h.0, expected_scene words t h.0 (Err stop.NotJson) are h.1, h.2)
 scene words t ended.Usage are h = absurd h.1.3
 scene words t ended.ReadFault are h = (are, h.0, h.1, h.2)
 scene words t ended.WriteFault are h = (h.0, ended_of h.1, expected_scene words t h.0 h.1 are h.2, h.3)
 scene words t ended.NoMemory are h = elim h.2 [ inl none ↦ inl (are, h.0, none, h.1) | inr some ↦ absurd some.1.3.2 ]
 
-expected_demo : (words : List (String Global)) (t : Transcript) (n : ℕ) (text : List ℕ) (w : Written BadField) → IsDemoCommand n words → Unread t →
+expected_demo : (words : List (String Global)) (t : Transcript) (n : ℕ) (text : List ℕ) (w : Outcome BadField) → IsDemoCommand n words → Unread t →
     frame.IsOutputOf (IsDemo n) text w → IsExpectedBy words t text (ended_of w)
-expected_demo words t n text written.Output are unread d = inr (n, are, unread, d)
-expected_demo words t n text (written.Refused x) are unread d = absurd d
-expected_demo words t n text written.TooLong are unread d = absurd d
-expected_demo words t n text written.NotJson are unread d = absurd d
-expected_demo words t n text written.Usage are unread d = absurd d
+expected_demo words t n text (Ok u) are unread d = inr (n, are, unread, d)
+expected_demo words t n text (Err other) are unread d = absurd d
 
 demo : (words : List (String Global)) (t : Transcript) (n : ℕ) (e : Ended) → IsDemoCommand n words → frame.EndsWithoutReading (IsDemo n) t (outcome_of e) →
     EndsFor words t e
@@ -58,7 +60,7 @@ demo words t n (ended.BadField i f) are h = absurd h.1.1
 demo words t n ended.TooLong are h = absurd h.1.1
 demo words t n ended.NotJson are h = absurd h.1.1
 demo words t n ended.Usage are h = absurd h.1.1
-demo words t n ended.ReadFault are h = absurd h.1
+demo words t n ended.ReadFault are h = absurd h.1.1
 demo words t n ended.WriteFault are h = (h.1.0, ended_of h.1.1, expected_demo words t n h.1.0 h.1.1 are h.0 h.1.2, h.1.3)
 demo words t n ended.NoMemory are h = elim h.1 [ inl none ↦ inr (n, are, h.0, none) | inr some ↦ absurd some.1 ]
 
@@ -87,13 +89,13 @@ forth words t e h = elim h [
 io_error : (words : List (String Global)) (t : Transcript) (text : List ℕ) (e : Ended) → IsExpectedBy words t text e → WritesPrefix t.sink t.sink_then text →
     ShowEnds words t ended.WriteFault
 io_error words t text ended.Ok w puts = elim w [
-  | inl s ↦ inl (command.Scene, s.0, (text, written.Output, (s.1.0, s.1.1, s.1.3, (s.1.2, s.1.4, s.1.5)), puts))
-  | inr d ↦ inl (command.Demo d.0, d.1, (d.2, (text, written.Output, d.3, puts)))
+  | inl s ↦ inl (command.Scene, s.0, (text, Ok tt, (s.1.0, s.1.1, s.1.3, (s.1.2, s.1.4, s.1.5)), puts))
+  | inr d ↦ inl (command.Demo d.0, d.1, (d.2, (text, Ok tt, d.3, puts)))
 ]
 io_error words t text (ended.BadField i f) w puts =
-    inl (command.Scene, w.0, (text, written.Refused (record { item = i; field = f }), (w.1.0, w.1.1, w.1.2, (w.1.3, w.2)), puts))
-io_error words t text ended.TooLong w puts = inl (command.Scene, w.0, (text, written.TooLong, (w.1, w.2), puts))
-io_error words t text ended.NotJson w puts = inl (command.Scene, w.0, (text, written.NotJson, (w.1, w.2), puts))
+    inl (command.Scene, w.0, (text, Err (stop.Rejected (record { item = i; field = f })), (w.1.0, w.1.1, w.1.2, (w.1.3, w.2)), puts))
+io_error words t text ended.TooLong w puts = inl (command.Scene, w.0, (text, Err stop.TooLong, (w.1, w.2), puts))
+io_error words t text ended.NotJson w puts = inl (command.Scene, w.0, (text, Err stop.NotJson, (w.1, w.2), puts))
 io_error words t text ended.Usage w puts = inr (name_none words w.0, (w.1, subst (λ (s : List ℕ). WritesPrefix t.sink t.sink_then s) w.2 puts))
 io_error words t text ended.ReadFault w puts = absurd w
 io_error words t text ended.WriteFault w puts = absurd w

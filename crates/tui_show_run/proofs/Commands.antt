@@ -1,9 +1,7 @@
 -- The command that the arguments name.
-use Rattle.std.proofs.Common.{◌≡◌, ℕ, List, [], ◌∷◌, String, Global, sym, ap, ◌∙◌, arith}
+use Rattle.std.proofs.Common.{◌≡◌, ℕ, List, [], ◌∷◌, Err, String, Global, sym, ap, ◌∙◌, arith}
 use Rattle.tui_program.specs.Outcomes.{NameNoCommand}
-use Rattle.tui_program.specs.declared.broken.Broken.TheVariants as broken
-use Rattle.tui_program.specs.declared.outcome.Outcome.TheVariants as outcome
-use Rattle.tui_program.specs.declared.written.Written.TheVariants as written
+use Rattle.tui_program.specs.declared.stop.Stop.TheVariants as stop
 use Rattle.tui_show_run.specs.Commands.{IsDemoCommand, IsSceneCommand, IsNoCommand, Names}
 use Rattle.tui_show_run.specs.Ended.{outcome_of}
 use Rattle.tui_show_run.specs.Outcomes.{show_rules}
@@ -30,8 +28,8 @@ name_none ws wrong command.Scene are = wrong.0 are
 name_none ws wrong (command.Demo n) are = wrong.1 n are
 
 -- the outcome of any program determines that of this one
-pub usage_is : (e : Ended) → outcome_of e ≡ outcome.Written written.Usage → e ≡ ended.Usage
+pub usage_is : (e : Ended) → outcome_of e ≡ Err stop.Usage → e ≡ ended.Usage
 usage_is e is = grind arith
 
-pub fault_is : (e : Ended) → outcome_of e ≡ outcome.Broken broken.WriteFault → e ≡ ended.WriteFault
+pub fault_is : (e : Ended) → outcome_of e ≡ Err stop.WriteFault → e ≡ ended.WriteFault
 fault_is e is = grind arith

@@ -10,8 +10,8 @@ use std::alloc::Global;
 use tui_io::{Sink, Source, WriteFault};
 use tui_print::write_screen;
 use tui_program::{
-    Cleanup, Job, Numerals, Outcome, ProgramCommand, Stop, is_single_argument, number_after,
-    outcome_after, run_json, write_refused_in_scene,
+    Cleanup, Job, Numerals, Outcome, ProgramCommand, Rejects, is_single_argument, number_after,
+    run_json, write_refused_in_scene,
 };
 use tui_scene::draw_new;
 use tui_schema::{BadField, Reading, read_scene};
@@ -28,8 +28,6 @@ pub enum ShowCommand {
 impl ProgramCommand for ShowCommand {
     ghost use Rattle.tui_show_run.specs.Commands.{few_arguments};
     ghost use Rattle.tui_show_run.specs.Outcomes.{show_rules};
-
-    type Refusal = BadField;
 
     ghost rules = { show_rules };
 
@@ -56,18 +54,28 @@ impl ProgramCommand for ShowCommand {
         source: &mut S,
         sink: &mut K,
         cleanup: Cleanup,
-    ) -> Outcome<BadField> {
+    ) -> Outcome<(), BadField> {
         match self {
             ShowCommand::Scene => run_json(self, alloc, source, sink, cleanup),
-            ShowCommand::Demo(n) => outcome_after(show_demo(alloc, *n, sink)),
+            ShowCommand::Demo(n) => show_demo(alloc, *n, sink),
         }
+    }
+}
+
+impl Rejects for ShowCommand {
+    ghost use Rattle.tui_show_run.specs.Outcomes.{scene_job};
+
+    type Refusal = BadField;
+
+    ghost line = { scene_job.line };
+
+    fn reject<K: Sink>(refusal: BadField, sink: &mut K) -> Result<(), WriteFault> {
+        write_refused_in_scene("item", refusal.item, refusal.field.name(), sink)
     }
 }
 
 impl Job for ShowCommand {
     ghost use Rattle.tui_show_run.specs.Outcomes.{scene_job};
-
-    type Refusal = BadField;
 
     ghost job_rules = { λ _. scene_job };
 
@@ -77,15 +85,11 @@ impl Job for ShowCommand {
         value: &Value,
         sink: &mut K,
         cleanup: Cleanup,
-    ) -> Result<(), Stop<BadField>> {
+    ) -> Outcome<(), BadField> {
         let mut reading = read_scene(alloc, value)?;
         let answer = show_scene(alloc, &mut reading, sink, cleanup);
         cleanup.dispose_of(reading);
         answer
-    }
-
-    fn reject<K: Sink>(&self, refusal: BadField, sink: &mut K) -> Result<(), WriteFault> {
-        write_refused_in_scene("item", refusal.item, refusal.field.name(), sink)
     }
 }
 
@@ -94,7 +98,7 @@ fn show_scene<K: Sink>(
     reading: &mut Reading<'_>,
     sink: &mut K,
     cleanup: Cleanup,
-) -> Result<(), Stop<BadField>>
+) -> Outcome<(), BadField>
     ensures { AnswersWith (IsShown (reading_data reading.old)) nothing no_refusal (K.observed sink.old) (K.observed sink.new) result }
 {
     let buffer = draw_new(alloc, reading.width, reading.height, &mut reading.scene)?;

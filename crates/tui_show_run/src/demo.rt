@@ -18,13 +18,13 @@ use crate::demo::text::demo_text;
 use std::alloc::Global;
 use tui_cells::{Buffer, Mem};
 use tui_io::Sink;
-use tui_program::Stop;
+use tui_program::Outcome;
 use tui_rows::write_rows;
 use tui_scene::{Item, Scene, draw_new};
 use tui_schema::BadField;
 
 /// Draws the demonstration of `n` items and `n` words, and writes a line about it and the rows of its screen.
-pub(crate) fn show_demo<K: Sink>(alloc: Global, n: u32, sink: &mut K) -> Result<(), Stop<BadField>>
+pub(crate) fn show_demo<K: Sink>(alloc: Global, n: u32, sink: &mut K) -> Outcome<(), BadField>
     requires least { 1 ≤ n }
     requires most { n ≤ 100000 }
     ensures { AnswersWith (IsDemo n) nothing no_refusal (K.observed sink.old) (K.observed sink.new) result }

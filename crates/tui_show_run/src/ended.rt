@@ -3,7 +3,7 @@
 ghost use Rattle.std.specs.Prelude.{◌≡◌};
 
 use std::process::ExitCode;
-use tui_program::{Broken, Outcome, Written};
+use tui_program::{Outcome, Stop};
 use tui_schema::{BadField, Field};
 
 /// The outcome of a run. Only `Ok` has written the screen completely. The outcomes from `Usage` to `BadField` have
@@ -28,24 +28,22 @@ pub enum Ended {
     NoMemory,
 }
 
-impl From<Outcome<BadField>> for Ended {
+impl From<Outcome<(), BadField>> for Ended {
+    ghost use Rattle.tui_program.specs.Stops.{IsOfCommand};
     ghost use Rattle.tui_show_run.specs.Ended.{outcome_of};
 
-    ghost from_gives = { λ outcome ended. outcome_of ended ≡ outcome };
+    ghost from_gives = { λ outcome ended. IsOfCommand outcome → outcome_of ended ≡ outcome };
 
-    fn from(outcome: Outcome<BadField>) -> Ended {
+    fn from(outcome: Outcome<(), BadField>) -> Ended {
         match outcome {
-            Outcome::Written(Written::Output) => Ended::Ok,
-            Outcome::Written(Written::Usage) => Ended::Usage,
-            Outcome::Written(Written::TooLong) => Ended::TooLong,
-            Outcome::Written(Written::NotJson) => Ended::NotJson,
-            Outcome::Written(Written::Refused(BadField { item, field })) => Ended::BadField {
-                item,
-                field,
-            },
-            Outcome::Broken(Broken::ReadFault) => Ended::ReadFault,
-            Outcome::Broken(Broken::WriteFault) => Ended::WriteFault,
-            Outcome::Broken(Broken::NoMemory) => Ended::NoMemory,
+            Ok(()) => Ended::Ok,
+            Err(Stop::Usage) => Ended::Usage,
+            Err(Stop::TooLong) => Ended::TooLong,
+            Err(Stop::NotJson | Stop::NotText) => Ended::NotJson,
+            Err(Stop::Rejected(BadField { item, field })) => Ended::BadField { item, field },
+            Err(Stop::ReadFault | Stop::ManyReads) => Ended::ReadFault,
+            Err(Stop::WriteFault) => Ended::WriteFault,
+            Err(Stop::NoMemory) => Ended::NoMemory,
         }
     }
 }

@@ -1,4 +1,6 @@
 pub mod Answers
+pub mod Destination
+pub mod Left
 pub mod Setting
 pub mod Same
 pub mod Stream

@@ -1,8 +1,25 @@
-//! Errors of the system, on standard error.
+//! What programs write to standard error.
+
+ghost use Rattle.std.specs.Prelude.{◌≡◌};
+ghost use Rattle.std.specs.Process.{exit_status};
+ghost use Rattle.tui_program.specs.Stops.{outcome_status};
 
 use std::alloc::AllocGlobal;
 use std::io::{Eprint, Error};
+use std::process::ExitCode;
 use tui_cells::Mem;
+use tui_program::{Done, Outcome, Stop, exit_code};
+
+/// Ends a program: returns its exit status. After `Usage`, writes a line on standard error that says how the program is
+/// used. Nothing changes if that can't be written.
+pub fn finish<D: Done, R, E: Eprint>(rt: &E, outcome: &Outcome<D, R>, usage: &str) -> ExitCode
+    ensures { exit_status result ≡ outcome_status D.Done.status (λ _. 5) outcome.now }
+{
+    if let Err(Stop::Usage) = outcome {
+        let _written = eprintln!(rt; "usage: {usage}");
+    }
+    exit_code(outcome)
+}
 
 /// Writes a line on standard error: the program, the name of a file, and what the system says of it. Nothing changes if
 /// that can't be written. Fails with `NoMemory` if there is no memory for the line.

@@ -7,53 +7,46 @@
 use std::io;
 use std::process::ExitCode;
 use tui_app::IoTerminal;
-use tui_cells::{Mem, NoMemory};
 use tui_io::{StdSink, StdSource};
-use tui_system::{arguments, depth, file_input, screen};
+use tui_program::{Outcome, Stop};
+use tui_schema::BadField;
+use tui_system::{arguments, depth, file_input, finish, screen};
 use tui_terminal_model::Depth;
-use tui_view_run::{ViewEnded, exit_code, file_named, is_frames_command, run_program, show_frames};
+use tui_view_run::{display_outcome, file_named, is_frames_command, run_program, show_frames};
 
 const NAME: &str = "tui_view";
 
 fn main(rt: HostRuntime) -> ExitCode {
-    match view(&rt) {
-        Ok(code) => code,
-        Err(NoMemory) => ViewEnded::NoMemory.exit_code(),
-    }
+    finish(&rt, &view(&rt), "tui_view frames | tui_view rows [FILE]")
 }
 
-/// Runs with the arguments, the environment and the files of the system. Fails with `NoMemory`, before anything is read
-/// or written, if the system was out of memory.
-fn view(rt: &HostRuntime) -> Mem<ExitCode> {
+/// Runs with the arguments, the environment and the files of the system.
+fn view(rt: &HostRuntime) -> Outcome<(), BadField> {
     let alloc = rt.alloc();
     let depth = depth(rt)?;
     if is_frames_command(alloc, arguments(rt)?) {
         let Some(screen) = screen(rt, NAME)? else {
-            return Ok(ViewEnded::WriteFault.exit_code());
+            return Err(Stop::WriteFault);
         };
         let mut terminal = IoTerminal::new(StdSource::new(rt.reader()), screen);
-        Ok(exit_code(show_frames(alloc, depth, &mut terminal)))
+        display_outcome(show_frames(alloc, depth, &mut terminal))
     } else {
-        let ended = view_rows(rt, depth)?;
-        if ended == ViewEnded::Usage {
-            let _written = eprintln!(rt; "usage: tui_view frames | tui_view rows [FILE]");
-        }
-        Ok(ended.exit_code())
+        view_rows(rt, depth)
     }
 }
 
 /// Writes the rows of the scene that the arguments name, or reports wrong arguments.
-fn view_rows(rt: &HostRuntime, depth: Depth) -> Mem<ViewEnded> {
+fn view_rows(rt: &HostRuntime, depth: Depth) -> Outcome<(), BadField> {
     let alloc = rt.alloc();
     let mut sink = StdSink::new(io::writer(rt));
     match file_named(alloc, arguments(rt)?) {
         Some(file) if file.as_str() != "-" => {
             let mut source = file_input(rt, NAME, file.as_str())?;
-            Ok(run_program(alloc, depth, arguments(rt)?, &mut source, &mut sink))
+            run_program(alloc, depth, arguments(rt)?, &mut source, &mut sink)
         }
         _ => {
             let mut source = StdSource::new(rt.reader());
-            Ok(run_program(alloc, depth, arguments(rt)?, &mut source, &mut sink))
+            run_program(alloc, depth, arguments(rt)?, &mut source, &mut sink)
         }
     }
 }

@@ -1,5 +1,4 @@
 pub mod Shown
 pub mod Rules
-pub mod Ended
+pub mod DisplayOutcome
 pub mod Frames
-pub mod Same

@@ -5,13 +5,12 @@ use Rattle.std.specs.declared.io.Error.{Error}
 use Rattle.std.specs.declared.vec.IntoIter.{IntoIter}
 use Rattle.std.specs.Vec.Iter.{into_iter_items}
 use Rattle.tui_program.specs.Outcomes.{nothing}
-use Rattle.tui_program.specs.FieldLine.{refused_in_scene}
 use Rattle.tui_program.specs.Rules.{JobRules, Rules, reading_rules}
 use Rattle.tui_program.specs.Arguments.{AreTexts, StartWith}
-use Rattle.tui_schema.specs.Field.{field_name}
 use Rattle.tui_schema.specs.Scene.{SceneData, scene_of}
 use Rattle.tui_schema.specs.declared.bad_field.BadField.{BadField}
 use Rattle.tui_terminal_model.specs.declared.depth.Depth.{Depth}
+use Rattle.tui_view_run.specs.Frames.{refusal_line}
 use Rattle.tui_view_run.specs.Shown.{AreRowsShown}
 use Rattle.tui_view_run.specs.declared.command.ViewCommand.{ViewCommand}
 
@@ -38,7 +37,7 @@ abbrev pub rows_job : Depth → JobRules BadField
 rows_job depth = record {
   Input = SceneData;
   input_of = scene_of;
-  line = λ refused. refused_in_scene (codes "item") refused.item (field_name refused.field);
+  line = refusal_line;
   expected = AreRowsShown depth;
   part = λ s. nothing;
 }

@@ -9,7 +9,9 @@ ghost use Rattle.tui_view_run.specs.Shown.{AreRowsShown};
 use serde_json::Value;
 use std::alloc::Global;
 use tui_io::{Sink, WriteFault};
-use tui_program::{Cleanup, Job, Stop, is_single_argument, start_with, write_refused_in_scene};
+use tui_program::{
+    Cleanup, Job, Outcome, Rejects, is_single_argument, start_with, write_refused_in_scene,
+};
 use tui_scene::draw_new;
 use tui_schema::{BadField, Reading, read_scene};
 use tui_terminal::write_styled_rows;
@@ -33,10 +35,20 @@ pub(crate) struct RowsCommand {
     pub(crate) depth: Depth,
 }
 
-impl Job for RowsCommand {
-    ghost use Rattle.tui_view_run.specs.Rules.{rows_job};
+impl Rejects for RowsCommand {
+    ghost use Rattle.tui_view_run.specs.Frames.{refusal_line};
 
     type Refusal = BadField;
+
+    ghost line = { refusal_line };
+
+    fn reject<K: Sink>(refusal: BadField, sink: &mut K) -> Result<(), WriteFault> {
+        write_refused_in_scene("item", refusal.item, refusal.field.name(), sink)
+    }
+}
+
+impl Job for RowsCommand {
+    ghost use Rattle.tui_view_run.specs.Rules.{rows_job};
 
     ghost job_rules = { λ rows. rows_job rows.depth };
 
@@ -46,15 +58,11 @@ impl Job for RowsCommand {
         value: &Value,
         sink: &mut K,
         cleanup: Cleanup,
-    ) -> Result<(), Stop<BadField>> {
+    ) -> Outcome<(), BadField> {
         let mut reading = read_scene(alloc, value)?;
         let answer = show_rows(alloc, self.depth, &mut reading, sink, cleanup);
         cleanup.dispose_of(reading);
         answer
-    }
-
-    fn reject<K: Sink>(&self, refusal: BadField, sink: &mut K) -> Result<(), WriteFault> {
-        write_refused_in_scene("item", refusal.item, refusal.field.name(), sink)
     }
 }
 
@@ -64,7 +72,7 @@ fn show_rows<K: Sink>(
     reading: &mut Reading<'_>,
     sink: &mut K,
     cleanup: Cleanup,
-) -> Result<(), Stop<BadField>>
+) -> Outcome<(), BadField>
     ensures { AnswersWith (AreRowsShown depth (reading_data reading.old)) nothing no_refusal (K.observed sink.old) (K.observed sink.new) result }
 {
     let buffer = draw_new(alloc, reading.width, reading.height, &mut reading.scene)?;

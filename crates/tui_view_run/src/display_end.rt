@@ -1,22 +1,21 @@
-//! The exit status of `frames`.
+//! The outcome of `frames`.
 
 ghost use Rattle.std.specs.Prelude.{◌≡◌};
-ghost use Rattle.std.specs.Process.{exit_status};
-ghost use Rattle.tui_view_run.specs.Ended.{display_status};
+ghost use Rattle.tui_view_run.specs.DisplayOutcome.{display_outcome};
 
-use std::process::ExitCode;
 use tui_display::DisplayEnd;
+use tui_program::{Outcome, Stop};
 
-/// Returns the exit status of `frames`, as an `ExitCode` for `main`. Reaching the limit of reads has the status of a
-/// failed read.
-pub fn exit_code(end: DisplayEnd) -> ExitCode
-    ensures { exit_status result ≡ display_status end }
+/// Returns the outcome of `frames`, given why the display ended.
+pub fn display_outcome<R>(end: DisplayEnd) -> Outcome<(), R>
+    ensures { result ≡ display_outcome end }
 {
-    ExitCode::from(match end {
-        DisplayEnd::Ended => 0,
-        DisplayEnd::TooLong => 3,
-        DisplayEnd::ReadFault | DisplayEnd::ManyReads => 6,
-        DisplayEnd::WriteFault => 7,
-        DisplayEnd::NoMemory => 8,
-    })
+    match end {
+        DisplayEnd::Ended => Ok(()),
+        DisplayEnd::TooLong => Err(Stop::TooLong),
+        DisplayEnd::ReadFault => Err(Stop::ReadFault),
+        DisplayEnd::ManyReads => Err(Stop::ManyReads),
+        DisplayEnd::WriteFault => Err(Stop::WriteFault),
+        DisplayEnd::NoMemory => Err(Stop::NoMemory),
+    }
 }

@@ -4,7 +4,6 @@
 
 mod command;
 mod display_end;
-mod ended;
 mod file;
 mod frames;
 mod laws;
@@ -12,8 +11,7 @@ mod plain;
 mod program;
 
 pub use command::ViewCommand;
-pub use display_end::exit_code;
-pub use ended::ViewEnded;
+pub use display_end::display_outcome;
 pub use file::{file_named, is_frames_command};
 pub use frames::{Frames, show_frames};
 pub use laws::message_law;

@@ -1,10 +1,8 @@
 //! Values of the program that `==` compares exactly, and whose clones are equal to them.
 
 ghost use Rattle.std.proofs.Common.{rules};
-ghost use Rattle.tui_view_run.specs.Same.{same_ended};
 
 use crate::command::ViewCommand;
-use crate::ended::ViewEnded;
 use crate::frames::Frames;
 use tui_cells::Plain;
 
@@ -16,12 +14,6 @@ impl Plain for ViewCommand {
 
 impl Plain for Frames {
     ghost same = { Prim.search rules };
-
-    ghost cloned = { Prim.search rules };
-}
-
-impl Plain for ViewEnded {
-    ghost same = { same_ended };
 
     ghost cloned = { Prim.search rules };
 }

@@ -4,17 +4,15 @@ ghost use Rattle.std.specs.Prelude.{◌≡◌, List, String, map, string_bytes, 
 ghost use Rattle.std.specs.declared.alloc.Global.{Global};
 ghost use Rattle.tui_program.specs.Transcript.{transcript_of};
 ghost use Rattle.tui_program.specs.Runs.{IsRun, IsRunFrom};
-ghost use Rattle.tui_view_run.specs.Ended.{outcome_of};
 ghost use Rattle.tui_view_run.specs.Rules.{view_rules};
 
 use crate::command::{RowsCommand, is_rows_command};
-use crate::ended::ViewEnded;
 use std::alloc::Global;
 use std::env::Args;
 use std::io;
 use std::io::ErrorKind;
-use tui_io::{Sink, Source, write_all};
-use tui_program::{Broken, Cleanup, Outcome, Written, first_arguments, run_json};
+use tui_io::{Sink, Source};
+use tui_program::{Cleanup, Outcome, Stop, first_arguments, run_json, tell};
 use tui_schema::BadField;
 use tui_terminal_model::Depth;
 
@@ -30,18 +28,18 @@ use tui_terminal_model::Depth;
 ///   scene's widgets on a blank one. Each row has the sequences that set the pen, and after it a newline, with the pen
 ///   reset.
 ///
-/// Every other outcome has its cause; see `ViewEnded`.
+/// Every other outcome has its cause; see `Stop`.
 pub fn view<S: Source, K: Sink>(
     alloc: Global,
     depth: Depth,
     arguments: &[String],
     source: &mut S,
     sink: &mut K,
-) -> ViewEnded
+) -> Outcome<(), BadField>
     ensures { IsRun (view_rules depth) arguments.now
-        (transcript_of (S.observed source.old) (S.observed source.new) (K.observed sink.old) (K.observed sink.new)) (outcome_of result) }
+        (transcript_of (S.observed source.old) (S.observed source.new) (K.observed sink.old) (K.observed sink.new)) result }
 {
-    run_command(alloc, depth, arguments, source, sink, Cleanup::Dropped).into()
+    run_command(alloc, depth, arguments, source, sink, Cleanup::Dropped)
 }
 
 /// Runs as `view` does, with the system's arguments. If the system reports an invalid argument, runs with a single
@@ -55,20 +53,7 @@ pub fn run_program<S: Source, K: Sink>(
     args: io::Result<Args>,
     source: &mut S,
     sink: &mut K,
-) -> ViewEnded
-    ensures { IsRunFrom (view_rules depth) args
-        (transcript_of (S.observed source.old) (S.observed source.new) (K.observed sink.old) (K.observed sink.new)) (outcome_of result) }
-{
-    run_args(alloc, depth, args, source, sink).into()
-}
-
-fn run_args<S: Source, K: Sink>(
-    alloc: Global,
-    depth: Depth,
-    args: io::Result<Args>,
-    source: &mut S,
-    sink: &mut K,
-) -> Outcome<BadField>
+) -> Outcome<(), BadField>
     ensures { IsRunFrom (view_rules depth) args
         (transcript_of (S.observed source.old) (S.observed source.new) (K.observed sink.old) (K.observed sink.new)) result }
 {
@@ -84,7 +69,7 @@ fn run_args<S: Source, K: Sink>(
                 Cleanup::Left,
             )
         }
-        Err(error) if error.kind() == ErrorKind::OutOfMemory => Outcome::Broken(Broken::NoMemory),
+        Err(error) if error.kind() == ErrorKind::OutOfMemory => Err(Stop::NoMemory),
         Err(_) => run_rejected_argument(alloc, depth, source, sink),
     }
 }
@@ -95,7 +80,7 @@ fn run_rejected_argument<S: Source, K: Sink>(
     depth: Depth,
     source: &mut S,
     sink: &mut K,
-) -> Outcome<BadField>
+) -> Outcome<(), BadField>
     ensures { (arguments : List (String Global)) × (map string_bytes arguments ≡ [] ∷ []) × IsRun (view_rules depth) arguments
         (transcript_of (S.observed source.old) (S.observed source.new) (K.observed sink.old) (K.observed sink.new)) result }
 {
@@ -111,13 +96,13 @@ fn run_command<S: Source, K: Sink>(
     source: &mut S,
     sink: &mut K,
     cleanup: Cleanup,
-) -> Outcome<BadField>
+) -> Outcome<(), BadField>
     ensures { IsRun (view_rules depth) arguments.now
         (transcript_of (S.observed source.old) (S.observed source.new) (K.observed sink.old) (K.observed sink.new)) result }
 {
     if is_rows_command(arguments) {
         run_json(&RowsCommand { depth }, alloc, source, sink, cleanup)
     } else {
-        Written::Usage.if_written(write_all(sink, b"refused: usage\n"))
+        Err(tell::<RowsCommand, K>(Stop::Usage, sink))
     }
 }

@@ -10,12 +10,12 @@ use tui_watch_lib::Machine;
 
 /// A folder of the file system; /proc if it has no name.
 #[derive(Drop)]
-pub(crate) struct Folder {
-    pub(crate) rt: HostRuntime,
+pub(crate) struct Folder<'r> {
+    pub(crate) rt: &'r HostRuntime,
     pub(crate) name: Option<String>,
 }
 
-impl Folder {
+impl<'r> Folder<'r> {
     fn name(&self) -> &str {
         match &self.name {
             Some(name) => name.as_str(),
@@ -26,14 +26,14 @@ impl Folder {
     // Returns whether a path is that of a regular file. Others, such as FIFOs, are not opened, since opening one might
     // block.
     fn is_file(&self, path: &str) -> Mem<bool> {
-        match or_out_of_memory(fs::metadata(&self.rt, path))? {
+        match or_out_of_memory(fs::metadata(self.rt, path))? {
             Ok(metadata) => Ok(metadata.is_file()),
             Err(_) => Ok(false),
         }
     }
 }
 
-impl Machine for Folder {
+impl<'r> Machine for Folder<'r> {
     /// Treats a file of more than 1,048,576 bytes as one that can't be read.
     fn text(&self, alloc: Global, path: &str) -> Mem<String> {
         let folder = self.name();
@@ -41,7 +41,7 @@ impl Machine for Folder {
         if !self.is_file(path.as_str())? {
             return Ok(String::new(alloc));
         }
-        let mut source = FileSource::new(open_file(&self.rt, path.as_str())?);
+        let mut source = FileSource::new(open_file(self.rt, path.as_str())?);
         match read_all(alloc, &mut source) {
             Ok(bytes) => Ok(String::from_utf8_lossy(alloc, &bytes)?),
             Err(ReadEnd::NoMemory) => Err(NoMemory),
@@ -51,7 +51,7 @@ impl Machine for Folder {
 
     fn numbers(&self, alloc: Global) -> Mem<Vec<u32>> {
         let mut numbers = Vec::new(alloc);
-        let Ok(entries) = or_out_of_memory(fs::read_dir(&self.rt, self.name()))? else {
+        let Ok(entries) = or_out_of_memory(fs::read_dir(self.rt, self.name()))? else {
             return Ok(numbers);
         };
         for entry in entries {

@@ -6,4 +6,4 @@ use Rattle.tui_browse_run.specs.Pieces.{piece_data}
 use Rattle.tui_browse_run.proofs.pieces.pieces_of.Given as goal
 
 abbrev pub invariant-pieces : goal.invariant-pieces
-invariant-pieces l = shadow (Utf8 l.rest) × HasCut l.fn.text l._i (map piece_data l.pieces.items) l.line l.rest
+invariant-pieces g l = shadow (Utf8 l.rest) × HasCut l.fn.text l._i (map piece_data l.pieces.items) l.line l.rest

@@ -1,9 +1,14 @@
-use Rattle.std.proofs.Common.{drop, ◌∙◌}
-use Rattle.std.specs.Vec.Iter.{into_iter_items}
-use Rattle.tui_browse_run.proofs.Naming.{ends_by_all}
+use Rattle.std.proofs.Common.{Err, refl}
+use Rattle.tui_browse_run.proofs.Naming.{few}
 use Rattle.tui_browse_run.proofs.program.run_program.Goals as goal
+use Rattle.tui_browse_run.specs.Input.{browse_reader}
+use Rattle.tui_program.proofs.Reaching.{comes_by_given, comes_without}
 
 pub returns-in-Ok : goal.returns-in-Ok
 returns-in-Ok g c =
-    let first = c.as_slice.ensures.value ∙ c.first_arguments-arguments.ensures in
-    rw c.in-Ok.is (ends_by_all c.args.setting (drop 1 (into_iter_items c.in-Ok.all)) c.as_slice.result.now _ c.browse.result first c.browse.ensures)
+    let ran = c.browse.ensures in
+    (ran.0, comes_by_given browse_reader c.args.args c.in-Ok.arguments _ _ few c.in-Ok.ensures (rw c.as_slice.ensures.value at ran.1), ran.2)
+
+pub returns-in-Err : goal.returns-in-Err
+returns-in-Err g c =
+    (Err c.in-Err.stop, comes_without browse_reader c.args.args _ c.in-Err.stop c.in-Err.ensures (record { left = refl; quiet = refl }), c.tell.ensures)

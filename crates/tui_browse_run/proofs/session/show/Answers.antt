@@ -5,7 +5,7 @@ use Rattle.tui_pager_lib.specs.Entry.{entry_data}
 
 pub returns-in-Ok : goal.returns-in-Ok
 returns-in-Ok g c =
-    shown_by c.args.output (map entry_data c.args.entries.items) c.args.size.width c.args.size.height c.in-Ok.app _ _ c.run.new.app c.run.result c.in-Ok.ensures c.run.ensures
+    shown_by c.args.setting (map entry_data c.args.entries.items) c.in-Ok.app _ _ c.run.new.app c.run.result c.in-Ok.ensures c.run.ensures
 
 pub returns-in-Err : goal.returns-in-Err
-returns-in-Err g c = not_shown c.args.output (map entry_data c.args.entries.items) c.args.size.width c.args.size.height _
+returns-in-Err g c = not_shown c.args.setting (map entry_data c.args.entries.items) _

@@ -1,7 +1,6 @@
 use Rattle.std.proofs.Common.{refl}
 use Rattle.tui_program.proofs.Completeness.{named_run}
 use Rattle.tui_view_run.specs.Rules.{view_rules}
-use Rattle.tui_view_run.specs.declared.command.ViewCommand.{ViewCommand}
 use Rattle.tui_view_run.proofs.program.run_command.Goals as goal
 
 pub returns-then-is_rows_command : goal.returns-then-is_rows_command

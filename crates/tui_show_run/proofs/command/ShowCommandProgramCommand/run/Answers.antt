@@ -5,4 +5,4 @@ use Rattle.tui_show_run.proofs.command.ShowCommandProgramCommand.run.Goals as go
 
 pub returns-in-Demo : goal.returns-in-Demo
 returns-in-Demo g c =
-    rw (c.in-Demo.is, c.outcome_after.ensures) (ends_without_reading (IsDemo c.in-Demo.n) _ c.show_demo.result (record { left = refl; quiet = refl }) c.show_demo.ensures)
+    rw c.in-Demo.is (ends_without_reading (IsDemo c.in-Demo.n) _ c.show_demo.result (record { left = refl; quiet = refl }) c.show_demo.ensures)

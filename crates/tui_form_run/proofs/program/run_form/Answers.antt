@@ -1,0 +1,16 @@
+use Rattle.std.proofs.Common.{Err, Ok, ap}
+use Rattle.tui_form_run.proofs.Ending.{ends_stopped}
+use Rattle.tui_form_run.proofs.program.run_form.Goals as goal
+
+pub returns-in-Ok : goal.returns-in-Ok
+returns-in-Ok g c =
+    let asked = c.in-Ok.ensures.asked _ _ in
+    (Ok asked.0, asked.1, asked.2)
+
+pub returns-in-Err : goal.returns-in-Err
+returns-in-Err g c = (
+  Err c.in-Err.stop,
+  c.in-Err.ensures.asked _ _,
+  ends_stopped _ _ _ _ _ c.in-Err.stop c.tell.result (ap g.T.Sink.observed c.in-Err.ensures.terminal) (ap g.A.Sink.observed c.in-Err.ensures.answers)
+      c.tell.ensures,
+)
