@@ -1,5 +1,5 @@
 -- What is observable of a stream or of a file in its place.
-use Rattle.std.specs.Prelude.{IsNone}
+use Rattle.std.specs.Prelude.{⊤, ◌≡◌, IsNone}
 use Rattle.tui_io.specs.Causes.{Observed}
 use Rattle.tui_program.specs.declared.file_source.FileSource.{FileSource}
 use Rattle.tui_system.specs.declared.stream.Stream.{Stream}
@@ -13,3 +13,13 @@ observed_of stream file (File f) = file f
 abbrev pub FailsAlways : {S F : Type 0} → Stream S (FileSource F) → Type 0
 FailsAlways (Standard s) = ⊥
 FailsAlways (File f) = IsNone f.file
+
+-- a file in its place, of which no read has failed yet
+abbrev pub IsFile : {S F : Type 0} → Stream S (FileSource F) → Type 0
+IsFile (Standard s) = ⊥
+IsFile (File f) = f.io_errors ≡ 0
+
+-- standard input, or a file in its place that could not be opened
+abbrev pub IsStandardOrFails : {S F : Type 0} → Stream S (FileSource F) → Type 0
+IsStandardOrFails (Standard s) = ⊤
+IsStandardOrFails (File f) = IsNone f.file

@@ -95,6 +95,7 @@ impl<'r, R: Files> FileDestination<'r, R> {
     /// with the name of the program.
     pub fn new(system: &'r R, program: &'r str, name: String) -> FileDestination<'r, R>
         ensures system { result.system.now ≡ system.now }
+        ensures program { result.program.now ≡ program.now }
         ensures named { result.name ≡ name }
         ensures shut { IsNone result.file × (result.is_truncated ≡ false) }
         ensures fresh { result.io_errors ≡ 0 }
@@ -118,6 +119,8 @@ impl<'r, R: Files + AllocGlobal + Eprint> Destination for FileDestination<'r, R>
         ensures opens { Opens (record { bytes = None; io_errors = self.old.io_errors }) (record { bytes = None; io_errors = self.new.io_errors })
             (is_some self.new.file) result }
         ensures there { IfOk result (λ ready. OnOk ready (IsSome self.new.file)) }
+        ensures system { self.new.system.now ≡ self.old.system.now }
+        ensures program { self.new.program.now ≡ self.old.program.now }
         ensures named { self.new.name ≡ self.old.name }
         ensures truncation_stays { self.new.is_truncated ≡ self.old.is_truncated }
         ensures err { OnErr result (self.new ≡ self.old) }
@@ -152,6 +155,8 @@ impl<'r, R: Files + AllocGlobal + Eprint> Sink for FileDestination<'r, R> {
         ensures taken { WriteAppends (remaining_of R.File.contents self.old.file) (remaining_of R.File.contents self.new.file) result bytes.now }
         ensures cut { MatchResult result (λ _. self.new.is_truncated ≡ true) (λ _. self.new.is_truncated ≡ self.old.is_truncated) }
         ensures open { is_some self.new.file ≡ is_some self.old.file }
+        ensures system { self.new.system.now ≡ self.old.system.now }
+        ensures program { self.new.program.now ≡ self.old.program.now }
         ensures named { self.new.name ≡ self.old.name }
     {
         match write_some(&mut self.file, self.is_truncated, bytes) {

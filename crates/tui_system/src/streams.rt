@@ -3,7 +3,8 @@
 //! `./live` gives an interactive program its keys and its screen as standard input and standard output, if both are
 //! the terminal. Otherwise these two are the user's, and two variables name files for the keys and the screen.
 
-ghost use Rattle.tui_system.specs.Stream.{FailsAlways};
+ghost use Rattle.std.specs.Prelude.{◌≡◌, ◌≢◌, codes, IfOk};
+ghost use Rattle.tui_system.specs.Stream.{FailsAlways, IsFile, IsStandardOrFails};
 
 use crate::answers::or_out_of_memory;
 use crate::args_and_files::open_file;
@@ -35,7 +36,7 @@ pub type OutputStream<'r, R> = Stream<StdSink<Printer<'r, R>>, StdSink<<R as Fil
 /// A terminal of two streams.
 pub type StreamTerminal<'r, R> = IoTerminal<InputStream<R>, OutputStream<'r, R>>;
 
-// No clause says what the variables name, or what the files give, since no clause of std does.
+// No clause says what the variables contain, or what the files give, since no clause of std does.
 
 /// Returns the source of the keys. If its file can't be opened, every read fails, and a line on standard error says why.
 /// Fails with `NoMemory` if the system was out of memory.
@@ -95,7 +96,10 @@ pub fn input<R: Env + AllocGlobal + Files + Input + Eprint>(
     rt: &R,
     program: &str,
     name: &str,
-) -> Mem<InputStream<R>> {
+) -> Mem<InputStream<R>>
+    ensures dash { IfOk result (λ stream. name.now ≡ codes "-" → IsStandardOrFails stream) }
+    ensures file { IfOk result (λ stream. name.now ≢ codes "-" → IsFile stream) }
+{
     if name != "-" {
         return file_input(rt, program, name);
     }
@@ -119,7 +123,9 @@ pub fn file_input<R: AllocGlobal + Files + Input + Eprint>(
     rt: &R,
     program: &str,
     name: &str,
-) -> Mem<InputStream<R>> {
+) -> Mem<InputStream<R>>
+    ensures { IfOk result IsFile }
+{
     let opened = open_file(rt, name)?;
     if let Err(error) = &opened {
         report(rt, program, name, error)?;
