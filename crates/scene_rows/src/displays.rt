@@ -33,7 +33,8 @@ pub(crate) fn show_display<W: Write>(alloc: Global, display: &Value, out: &mut W
     Ok(())
 }
 
-fn give(terminal: &mut MemTerminal, read: &[u8]) -> Result<()> {
+/// Adds a read to a terminal.
+pub(crate) fn give(terminal: &mut MemTerminal, read: &[u8]) -> Result<()> {
     if read.len() > READ_CAPACITY {
         bail!("a read is too long");
     }

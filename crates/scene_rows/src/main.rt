@@ -10,11 +10,13 @@ mod each;
 mod forms;
 mod frames;
 mod members;
+mod places;
 mod program;
 mod report;
 mod row;
 mod run;
 mod sessions;
+mod systems;
 mod tally;
 
 use crate::cases::{Case, cases};
@@ -27,6 +29,7 @@ use crate::report::report;
 use crate::row::{Each, KEYS, Row};
 use crate::run::run;
 use crate::sessions::show_session;
+use crate::systems::run_on_system;
 use crate::tally::Tally;
 use anyhow::{Context, Result};
 use serde_json::Value;
@@ -101,6 +104,9 @@ fn run_row<W: Write>(alloc: Global, row: &Value, out: &mut W) -> Result<()> {
     }
     if let Some(asking) = member(row, "asking") {
         return show_form(alloc, asking, out);
+    }
+    if let Some(running) = member(row, "running") {
+        return run_on_system(alloc, running, out);
     }
     run_program(alloc, row, out)
 }

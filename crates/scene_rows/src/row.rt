@@ -15,7 +15,7 @@ use serde_json::Value;
 use std::alloc::Global;
 
 /// The keys of a row.
-pub(crate) const KEYS: [&str; 14] = [
+pub(crate) const KEYS: [&str; 15] = [
     "name",
     "program",
     "words",
@@ -30,6 +30,7 @@ pub(crate) const KEYS: [&str; 14] = [
     "session",
     "display",
     "asking",
+    "running",
 ];
 
 /// A program, and its arguments.

@@ -1,8 +1,9 @@
 -- What a file means: its entries, or why there are none.
-use Rattle.std.specs.Prelude.{◌≡◌, ℕ, List, map, None, Result, Ok, Err, IsUtf8}
+use Rattle.std.specs.Prelude.{◌≡◌, ℕ, List, map, None, Result, Ok, Err, IsUtf8, string_bytes}
 use Rattle.serde_json.specs.Data.{Data}
-use Rattle.tui_browse_run.specs.Arguments.{Names}
+use Rattle.tui_browse_run.specs.Arguments.{Name}
 use Rattle.tui_browse_run.specs.Pieces.{AreAllPieces, HasMorePieces, PieceData, entry_of}
+use Rattle.tui_browse_run.specs.declared.arguments.BrowseCommand.{BrowseCommand}
 use Rattle.tui_browse_run.specs.declared.format.Format.{Format}
 use Rattle.tui_browse_run.specs.declared.format.Format.TheVariants as formats
 use Rattle.tui_json.specs.Members.{elements_within}
@@ -12,9 +13,10 @@ use Rattle.tui_pager_run.specs.Input.{required}
 use Rattle.tui_pager_run.specs.Input as pager
 use Rattle.tui_pager_run.specs.declared.bad_input.BadInput.{BadInput}
 use Rattle.tui_pager_run.specs.declared.field.PagerField.TheVariants as fields
-use Rattle.tui_program.specs.Input.{MeansJson, Reader}
+use Rattle.tui_program.specs.Input.{MeansJson}
 use Rattle.tui_program.specs.declared.stop.Stop.{Stop}
 use Rattle.tui_program.specs.declared.stop.Stop.TheVariants as stop
+use Rattle.tui_system.specs.Commands.{Reader}
 
 -- the entries of an input, or its first field that fails its test
 unfoldable pub entries_of : Data → Result (List EntryData) BadInput
@@ -40,5 +42,5 @@ Means formats.Entries bytes x = MeansJson entries_of bytes x
 Means formats.Text bytes x = TextMeans bytes x
 
 -- what the program reads
-abbrev pub browse_reader : Reader Format (List EntryData) BadInput
-browse_reader = record { named = Names; means = Means }
+abbrev pub browse_reader : Reader BrowseCommand (List EntryData) BadInput
+browse_reader = record { named = Name; file = λ command. string_bytes command.file; means = λ command. Means command.format }

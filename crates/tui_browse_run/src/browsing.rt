@@ -2,12 +2,11 @@
 
 ghost use Rattle.std.specs.Prelude.{◌≡◌, OnErr};
 ghost use Rattle.tui_browse_run.specs.Input.{Means, browse_reader, entries_of, TextMeans};
-ghost use Rattle.tui_browse_run.specs.Shown.{AreEntriesShown};
-ghost use Rattle.tui_io.specs.Causes.{Observed};
-ghost use Rattle.tui_program.specs.Input.{ComesTo, MeansJson, Reaches};
-ghost use Rattle.tui_program.specs.Transcript.{transcript_of};
+ghost use Rattle.tui_browse_run.specs.Shown.{AreEntriesShown, AreShownOn};
+ghost use Rattle.tui_program.specs.Input.{MeansJson, Reaches};
+ghost use Rattle.tui_system.specs.Commands.{ComesTo};
 
-use crate::arguments::format_of;
+use crate::arguments::BrowseCommand;
 use crate::entries::read_entries;
 use crate::format::Format;
 use crate::pieces::pieces_of;
@@ -15,29 +14,22 @@ use crate::session::show;
 use crate::text_entry::{borrowed_entries, text_entries};
 use std::alloc::Global;
 use tui_app::{AppEnd, Terminal};
-use tui_io::Source;
 use tui_pager_run::BadInput;
-use tui_program::{Outcome, Stop, json_of, read_input};
-use tui_system::Setting;
+use tui_program::{Outcome, Stop, json_of};
+use tui_system::{Console, Setting, System, read_for_command, setting};
 
-/// Shows what the file has that the arguments name. If the run is stopped before, the terminal is left alone.
-pub(crate) fn show_file<S: Source, T: Terminal>(
-    alloc: Global,
-    setting: Setting,
-    arguments: &[String],
-    source: &mut S,
+/// Shows what the file has that the arguments name. If the run is stopped before, nothing is written to the terminal.
+pub(crate) fn show_file<S: System, T: Console>(
+    system: &S,
     terminal: &mut T,
 ) -> Outcome<AppEnd, BadInput>
-    ensures shown { (sink sink_then : Observed) → Reaches
-        (ComesTo browse_reader arguments.now (transcript_of (S.observed source.old) (S.observed source.new) sink sink_then))
-        (AreEntriesShown setting (T.observed terminal.old) (T.observed terminal.new)) result }
-    ensures still { OnErr result (terminal.new ≡ terminal.old) }
+    ensures shown { Reaches (ComesTo (S.gives system.now) browse_reader) (AreShownOn (S.gives system.now) (T.observed terminal.old) (T.observed terminal.new)) result }
+    ensures still { OnErr result (T.observed terminal.new ≡ T.observed terminal.old) }
 {
-    let Some(format) = format_of(arguments) else {
-        return Err(Stop::Usage);
-    };
-    let bytes = read_input(alloc, source)?;
-    show_bytes(alloc, setting, format, bytes, terminal)
+    terminal.open()?;
+    let setting = setting(system)?;
+    let (command, bytes) = read_for_command::<BrowseCommand, BadInput, S>(system)?;
+    show_bytes(system.alloc(), setting, command.format, bytes, terminal)
 }
 
 fn show_bytes<T: Terminal>(

@@ -15,10 +15,10 @@ mod program;
 mod session;
 mod text_entry;
 
-pub use arguments::file_named;
+pub use arguments::BrowseCommand;
 pub use format::Format;
 pub use laws::browsing_law;
 pub use piece::TextPiece;
 pub use pieces::pieces_of;
-pub use program::{browse, run_program};
+pub use program::browse;
 pub use session::show;

@@ -1,38 +1,28 @@
-//! The program `tui_files`: a browser of a folder, on the terminal that `./live` provides.
+//! The program `tui_files`: a browser of folders, on the terminal that `./live` provides. It writes the chosen path to a
+//! file or to standard output.
 #![tactic(auto)]
 
-mod command;
-mod program;
 mod system;
 
-use crate::command::{FilesCommand, command_of};
-use crate::program::browse;
+use crate::system::SystemFolders;
+use std::io::IsTerminal;
 use std::process::ExitCode;
-use tui_program::{Outcome, Stop, tell};
-use tui_system::{Left, StreamTerminal, arguments, finish, setting, terminal};
+use tui_files_run::browse_files;
+use tui_system::{Runtime, TerminalInput, finish};
 
-/// The name of the program, in what it writes to standard error.
+/// The name of the program, with which its lines on standard error begin.
 pub(crate) const NAME: &str = "tui_files";
 
 fn main(rt: HostRuntime) -> ExitCode {
-    finish(
-        &rt,
-        &run_files(&rt),
-        "tui_files [--folder] [FOLDER [CHOSEN]]",
-    )
-}
-
-/// Runs the program with what the system gives.
-fn run_files(rt: &HostRuntime) -> Outcome<Left, ()> {
-    let setting = setting(rt)?;
-    let Some(mut terminal) = terminal(rt, NAME)? else {
-        return Err(Stop::WriteFault);
-    };
-    match command_of(rt.alloc(), arguments(rt)?) {
-        Ok(command) => browse(rt, setting, &command, &mut terminal),
-        Err(stop) => Err(tell::<FilesCommand, StreamTerminal<'_, HostRuntime>>(
-            stop,
-            &mut terminal,
-        )),
-    }
+    let system = Runtime::new(&rt, NAME, TerminalInput::Keys, rt.stdout().is_terminal());
+    let folders = SystemFolders { rt: &rt };
+    let mut chosen = system.destination(rt.stderr());
+    let outcome = browse_files(
+        &system,
+        &folders,
+        folders,
+        &mut system.terminal(),
+        &mut chosen,
+    );
+    finish(&rt, &outcome, "tui_files [--folder] [FOLDER [CHOSEN]]")
 }

@@ -2,16 +2,18 @@
 
 ghost use Rattle.std.specs.Bool.{⊤};
 
+use crate::NAME;
 use std::alloc::Global;
 use std::fs::{DirEntry, File};
 use std::io::{ErrorKind, Read};
 use std::{fs, io};
 use tui_cells::Mem;
 use tui_files_lib::{EntryKind, Folders, HEAD_BYTES, Listing, MOST_NAMES, Name};
-use tui_system::or_out_of_memory;
+use tui_files_run::FolderPaths;
+use tui_system::{or_out_of_memory, report};
 
 /// The folders of the file system that `rt` gives access to.
-#[derive(Drop)]
+#[derive(Clone, Copy)]
 pub(crate) struct SystemFolders<'r> {
     pub(crate) rt: &'r HostRuntime,
 }
@@ -53,7 +55,37 @@ impl<'r> Folders for SystemFolders<'r> {
     }
 }
 
+impl<'r> FolderPaths for SystemFolders<'r> {
+    // No statement about the paths of the file system.
+    ghost resolves = { λ _ _ _. ⊤ };
+
+    ghost is_at_folder = { λ _ _ _. ⊤ };
+
+    fn resolve(&self, path: &str) -> Mem<Option<String>> {
+        match or_out_of_memory(self.readable(path))? {
+            Ok(found) => Ok(Some(found)),
+            Err(error) => {
+                report(self.rt, NAME, path, &error)?;
+                Ok(None)
+            }
+        }
+    }
+
+    fn is_folder(&self, path: &str) -> Mem<bool> {
+        match or_out_of_memory(fs::metadata(self.rt, path))? {
+            Ok(metadata) => Ok(metadata.is_dir()),
+            Err(_) => Ok(false),
+        }
+    }
+}
+
 impl<'r> SystemFolders<'r> {
+    /// Returns the absolute path without links of a folder that can be read.
+    fn readable(&self, path: &str) -> io::Result<String> {
+        let _names = fs::read_dir(self.rt, path)?;
+        Ok(fs::canonicalize(self.rt, path)?.into_string())
+    }
+
     /// Returns a name, with what it leads to. A link to a folder counts as a folder.
     fn name_of(&self, alloc: Global, entry: &DirEntry<HostRuntime>) -> Mem<Name> {
         let kind = match or_out_of_memory(fs::metadata(self.rt, entry.path()))? {

@@ -1,9 +1,10 @@
 -- What is left alone.
 use Rattle.std.proofs.Common.{◌≡◌, refl, sym, subst}
-use Rattle.std.specs.Prelude.{Result}
+use Rattle.std.specs.Prelude.{Option, None, Some, Result, option_map, unwrap_or}
 use Rattle.tui_app.specs.declared.outcome.AppEnd.{AppEnd}
 use Rattle.tui_form_lib.specs.Form.{FormData}
-use Rattle.tui_form_run.specs.Ends.{EndsAnswering}
+use Rattle.tui_form_run.specs.Asked.{Asked}
+use Rattle.tui_form_run.specs.Ends.{EndsAnswering, EndsWithForm, or_errors}
 use Rattle.tui_form_run.specs.Refusals.{refusal_line}
 use Rattle.tui_form_run.specs.declared.bad_form.BadForm.{BadForm}
 use Rattle.tui_form_run.specs.declared.form_left.FormLeft.{FormLeft}
@@ -12,6 +13,10 @@ use Rattle.tui_io.specs.Causes.{Observed}
 use Rattle.tui_program.specs.Stops.{Tells, line_of}
 use Rattle.tui_program.specs.Transcript.{Unwritten}
 use Rattle.tui_program.specs.declared.stop.Stop.{Stop}
+use Rattle.tui_system.specs.Places.{PlaceData, place_data}
+use Rattle.tui_system.specs.System.{Given}
+use Rattle.tui_system.specs.declared.place.Place.{Place}
+use Rattle.tui_system.specs.declared.place.Place.TheVariants as places
 
 -- nothing was written if the state is the same
 pub untouched : (t : Observed) → Unwritten t t
@@ -19,6 +24,11 @@ untouched t = record { held = Keeps-self t.bytes; quiet = refl }
 
 pub untouched_same : (old new : Observed) → new ≡ old → Unwritten old new
 untouched_same old new is = subst (λ (t : Observed). Unwritten old t) (sym is) (untouched old)
+
+-- the place of answers, if the arguments may name none
+pub place_or_errors : (place : Option Place) → place_data (unwrap_or place places.Errors) ≡ or_errors (option_map place_data place)
+place_or_errors None = refl
+place_or_errors (Some place) = refl
 
 -- what is written to a destination that was opened
 pub after_opening : (last : FormData) (end : AppEnd) (old ready new : Observed) (e : Result FormLeft (Stop BadForm)) → ready ≡ old →
@@ -30,3 +40,10 @@ pub ends_stopped : (old terminal new answers answers_then : Observed) (stopped e
     Tells (line_of refusal_line stopped) stopped terminal new e → Tells (line_of refusal_line stopped) stopped old new e × Unwritten answers answers_then
 ends_stopped old terminal new answers answers_then stopped e same still h =
     (subst (λ (o : Observed). Tells (line_of refusal_line stopped) stopped o new e) same h, untouched_same answers answers_then still)
+
+-- a form that is asked with on a terminal that was opened
+pub ends_with : (given : Given) (old terminal new answers answers_then : Observed) (opened : PlaceData → Type 0) (input asked : Asked) (e : Result FormLeft (Stop BadForm)) →
+    terminal ≡ old → input ≡ asked → EndsWithForm given terminal new answers answers_then opened asked e → EndsWithForm given old new answers answers_then opened input e
+ends_with given old terminal new answers answers_then opened input asked e same is h =
+    subst (λ (o : Observed). EndsWithForm given o new answers answers_then opened input e) same
+    (subst (λ (a : Asked). EndsWithForm given terminal new answers answers_then opened a e) (sym is) h)

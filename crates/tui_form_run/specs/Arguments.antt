@@ -1,16 +1,11 @@
 -- The arguments of the program.
-use Rattle.std.specs.Prelude.{◌≡◌, ◌||◌, ◌==◌, ℕ, Bool, List, [], ◌∷◌, drop, Option, None, Some, Result, Ok, Err, String}
+use Rattle.std.specs.Prelude.{◌≡◌, ◌≤◌, List, [], ◌∷◌, length, Option, None, Some, String}
+use Rattle.std.proofs.Common.{ap, arith}
 use Rattle.std.specs.declared.alloc.Global.{Global}
-use Rattle.std.specs.declared.io.Error.{Error}
-use Rattle.std.specs.declared.vec.IntoIter.{IntoIter}
-use Rattle.std.specs.Vec.Iter.{into_iter_items}
 use Rattle.tui_form_run.specs.declared.arguments.FormFiles.{FormFiles}
+use Rattle.tui_program.specs.Arguments.{most_arguments}
 
 -- FORM, or FORM and ANSWERS
-abbrev pub are_named : ℕ → Bool
-are_named count = (count == 1) || (count == 2)
-
--- an argument, and a second one after it, if there is one
 abbrev pub arguments_of : String Global → Option (String Global) → List (String Global)
 arguments_of form None = form ∷ []
 arguments_of form (Some answers) = form ∷ answers ∷ []
@@ -19,7 +14,10 @@ arguments_of form (Some answers) = form ∷ answers ∷ []
 abbrev pub Name : FormFiles → List (String Global) → Type 0
 Name files arguments = arguments ≡ arguments_of files.form files.answers
 
--- the same for the arguments that the system gives
-abbrev pub NameFiles : Result (IntoIter (String Global) Global) Error → FormFiles → Type 0
-NameFiles (Ok all) files = Name files (drop 1 (into_iter_items all))
-NameFiles (Err e) files = ⊥
+few_of : (form : String Global) (answers : Option (String Global)) → length (arguments_of form answers) ≤ most_arguments
+few_of form None = omega arith
+few_of form (Some answers) = omega arith
+
+-- there are at most two
+pub few_arguments : (files : FormFiles) (arguments : List (String Global)) → Name files arguments → length arguments ≤ most_arguments
+few_arguments files arguments named = omega (arith, ap length named, few_of files.form files.answers)

@@ -4,6 +4,7 @@ pub mod Input
 pub mod Filled
 pub mod Answers
 pub mod Arguments
+pub mod Asked
 pub mod Ends
 pub mod FormLeft
 pub mod Laws

@@ -1,73 +1,64 @@
-//! From the arguments and a file to a session, and to the answers.
+//! From the arguments and a form to a session, and to the answers.
 
 ghost use Rattle.std.specs.Prelude.{◌≡◌, OnErr};
 ghost use Rattle.tui_form_lib.specs.Form.{form_data};
+ghost use Rattle.tui_form_run.specs.Asked.{asked_data, form_reader};
+ghost use Rattle.tui_form_run.specs.Ends.{EndsAccepted, EndsAnswering, EndsWithForm};
+ghost use Rattle.tui_program.specs.Input.{Reaches};
+ghost use Rattle.tui_system.specs.Commands.{ComesTo};
 ghost use Rattle.tui_system.specs.Destination.{IsOpened};
-ghost use Rattle.tui_form_run.specs.Ends.{EndsAccepted, EndsAnswering, EndsWithForm, form_reader};
-ghost use Rattle.tui_io.specs.Causes.{Observed};
-ghost use Rattle.tui_program.specs.Input.{ComesTo, Reaches};
-ghost use Rattle.tui_program.specs.Transcript.{transcript_of};
 
 use crate::answers::write_answers_line;
-use crate::arguments::are_named;
+use crate::asked_form::{AskedForm, read_form};
 use crate::bad_form::BadForm;
 use crate::form_left::{FormLeft, left_as};
-use crate::reading::form_of;
 use crate::session::show_form;
 use std::alloc::Global;
 use tui_app::{AppEnd, Terminal};
-use tui_cells::NoMemory;
 use tui_form_lib::Form;
-use tui_io::{Failed, Source};
-use tui_program::{Outcome, Stop, json_of, read_input};
-use tui_system::{Destination, Setting};
+use tui_io::Failed;
+use tui_program::{Outcome, Stop};
+use tui_system::{Console, Destination, Place, System, place_for, setting};
 
-/// Asks the user with the form that the source has. If the run is stopped before, the terminal and the destination of
-/// the answers are left alone.
-pub(crate) fn ask_by_file<S: Source, T: Terminal, A: Destination>(
-    alloc: Global,
-    setting: Setting,
-    arguments: &[String],
-    source: &mut S,
+/// Asks the user with the form that the arguments name. If the run is stopped before, nothing is written to the terminal
+/// or as answers.
+pub(crate) fn ask_by_file<S: System, T: Console, A: Destination>(
+    system: &S,
     terminal: &mut T,
     answers: &mut A,
 ) -> Outcome<Outcome<FormLeft, BadForm>, BadForm>
-    ensures asked { (sink sink_then : Observed) → Reaches
-        (ComesTo form_reader arguments.now (transcript_of (S.observed source.old) (S.observed source.new) sink sink_then))
-        (EndsWithForm setting (T.observed terminal.old) (T.observed terminal.new) (A.Sink.observed answers.old) (A.Sink.observed answers.new)
-        (IsOpened A.Sink.observed A.Destination.is_open (A.Sink.observed answers.old))) result }
-    ensures terminal { OnErr result (terminal.new ≡ terminal.old) }
+    ensures asked { Reaches (ComesTo (S.gives system.now) form_reader)
+        (λ asked. EndsWithForm (S.gives system.now) (T.observed terminal.old) (T.observed terminal.new) (A.Sink.observed answers.old) (A.Sink.observed answers.new)
+        (λ place. IsOpened A.Sink.observed A.Destination.is_open_at place (A.Sink.observed answers.old)) asked) result }
+    ensures terminal { OnErr result (T.observed terminal.new ≡ T.observed terminal.old) }
     ensures answers { OnErr result (answers.new ≡ answers.old) }
 {
-    if !are_named(arguments) {
-        return Err(Stop::Usage);
-    }
-    let bytes = read_input(alloc, source)?;
-    let value = json_of(alloc, bytes)?;
-    let form = form_of(alloc, &value)?;
-    Ok(ask(alloc, setting, form, terminal, answers))
+    terminal.open()?;
+    let asked = read_form(system)?;
+    Ok(ask(system, asked, terminal, answers))
 }
 
 /// Opens the destination of the answers, shows the form, and writes the answers. If the destination can't be opened, the
 /// terminal is not entered.
-fn ask<T: Terminal, A: Destination>(
-    alloc: Global,
-    setting: Setting,
-    form: Form,
+fn ask<S: System, T: Terminal, A: Destination>(
+    system: &S,
+    asked: AskedForm,
     terminal: &mut T,
     answers: &mut A,
 ) -> Outcome<FormLeft, BadForm>
-    ensures { EndsWithForm setting (T.observed terminal.old) (T.observed terminal.new) (A.Sink.observed answers.old) (A.Sink.observed answers.new)
-        (IsOpened A.Sink.observed A.Destination.is_open (A.Sink.observed answers.old)) (form_data form) result }
+    ensures { EndsWithForm (S.gives system.now) (T.observed terminal.old) (T.observed terminal.new) (A.Sink.observed answers.old) (A.Sink.observed answers.new)
+        (λ place. IsOpened A.Sink.observed A.Destination.is_open_at place (A.Sink.observed answers.old)) (asked_data asked) result }
 {
+    let AskedForm { files, form } = asked;
     let mut form = form;
-    match answers.open() {
-        Ok(Ok(())) => {
-            let end = show_form(alloc, setting, &mut form, terminal);
-            answer(alloc, &form, end, answers)
+    let setting = setting(system)?;
+    let place = place_for(system, &files.answers)?.unwrap_or(Place::Errors);
+    match answers.open(place)? {
+        Ok(()) => {
+            let end = show_form(system.alloc(), setting, &mut form, terminal);
+            answer(system.alloc(), &form, end, answers)
         }
-        Ok(Err(Failed)) => Err(Stop::WriteFault),
-        Err(NoMemory) => Err(Stop::NoMemory),
+        Err(Failed) => Err(Stop::WriteFault),
     }
 }
 

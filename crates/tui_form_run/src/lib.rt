@@ -4,6 +4,7 @@
 
 mod answers;
 mod arguments;
+mod asked_form;
 mod asking;
 mod bad_form;
 mod field_kind;
@@ -19,12 +20,12 @@ mod session;
 mod texts;
 
 pub use answers::write_answers_line;
-pub use arguments::{FormFiles, files_named};
+pub use arguments::FormFiles;
 pub use bad_form::BadForm;
 pub use field_kind::FieldKind;
 pub use form_left::FormLeft;
 pub use key::FormKey;
 pub use laws::{answers_law, filled_law};
-pub use program::{run_form, run_program};
+pub use program::run_form;
 pub use reading::form_of;
 pub use session::show_form;

@@ -1,5 +1,5 @@
--- What a run comes to: its input, or a stop.
-use Rattle.std.specs.Prelude.{◌≡◌, ◌≢◌, ◌⊎◌, ℕ, List, drop, take, Some, None, Result, Ok, Err, IsUtf8, String, Vec}
+-- What a run reads: its input, or a stop.
+use Rattle.std.specs.Prelude.{◌≡◌, ◌≢◌, ℕ, List, drop, take, Some, None, Result, Ok, Err, IsUtf8, String, Vec}
 use Rattle.std.specs.IoError.{error_kind}
 use Rattle.std.specs.Vec.Iter.{into_iter_items}
 use Rattle.std.specs.declared.io.Error.{Error}
@@ -12,7 +12,7 @@ use Rattle.serde_json.specs.View.{view}
 use Rattle.serde_json.specs.declared.value.Value.{Value}
 use Rattle.std.specs.declared.alloc.Global.{Global}
 use Rattle.tui_io.specs.Causes.{HasFailed}
-use Rattle.tui_program.specs.Transcript.{ReadPast, ReadWhole, ReadWithin, Transcript, Unread}
+use Rattle.tui_program.specs.Transcript.{ReadPast, ReadWhole, ReadWithin, Transcript}
 use Rattle.tui_program.specs.declared.stop.Stop.{Stop}
 use Rattle.tui_program.specs.declared.stop.Stop.TheVariants as stop
 
@@ -45,25 +45,6 @@ MeansJson of bytes (Err (stop.Rejected x)) = (d : Data) × IsUtf8 bytes × (read
 MeansJson of bytes (Err stop.NotJson) = IsUtf8 bytes → read bytes ≡ None
 MeansJson of bytes (Err stop.NoMemory) = Unit {0}
 MeansJson of bytes (Err other) = ⊥
-
--- what a program reads: the arguments that name each command, and what the bytes of its source mean for it
-pub record Reader (C I R : Type 0) : Type 1 where
-  pub named : C → List (String Global) → Type 0
-  pub means : C → List ℕ → Result I (Stop R) → Type 0
-
--- What a run with these arguments comes to: they name no command, and nothing is read; or all bytes of the source are
--- read, and mean this; or the source was not read to its end.
-pub data ComesTo {C I R : Type 0} (r : Reader C I R) (arguments : List (String Global)) (t : Transcript) : Result I (Stop R) → Type 0 where
-  unnamed : ((command : C) → r.named command arguments → ⊥) → Unread t → ComesTo r arguments t (Err stop.Usage)
-  whole : (command : C) (bytes : List ℕ) (x : Result I (Stop R)) → r.named command arguments → ReadWhole t bytes → r.means command bytes x → ComesTo r arguments t x
-  unread : (command : C) (stopped : Stop R) → r.named command arguments → Reads t (Err stopped) → ComesTo r arguments t (Err stopped)
-
--- the same with the arguments that the system gives: if it rejects one, they name no command; it may have no memory for
--- them
-abbrev pub ComesFrom : {C I R : Type 0} → Reader C I R → Result (IntoIter (String Global) Global) Error → Transcript → Result I (Stop R) → Type 0
-ComesFrom r (Ok all) t x = ComesTo r (drop 1 (into_iter_items all)) t x
-ComesFrom r (Err error) t x =
-    Unread t × (((error_kind error ≢ OutOfMemory) × (x ≡ Err stop.Usage)) ⊎ ((error_kind error ≡ OutOfMemory) × (x ≡ Err stop.NoMemory)))
 
 -- A run that has not written yet why it was stopped: it did what it is for with its input, or it came to this stop.
 abbrev pub Reaches : {I E R : Type 0} → (Result I (Stop R) → Type 0) → (I → E → Type 0) → Result E (Stop R) → Type 0

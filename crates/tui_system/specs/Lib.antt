@@ -1,6 +1,10 @@
+pub mod System
 pub mod Answers
+pub mod Places
 pub mod Destination
+pub mod Late
 pub mod Left
 pub mod Setting
+pub mod Commands
 pub mod Same
 pub mod Stream

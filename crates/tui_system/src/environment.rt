@@ -1,39 +1,31 @@
-//! Environment variables.
+//! The settings of the terminal, from environment variables.
 
-ghost use Rattle.std.specs.Prelude.{IfOk};
-ghost use Rattle.tui_system.specs.Setting.{IsSetting};
+ghost use Rattle.std.specs.Prelude.{IfOk, codes};
+ghost use Rattle.tui_system.specs.Setting.{AreSettings, IsDepthOf, IsSetting};
 
-use crate::answers::text_of;
 use crate::settings::Setting;
-use std::alloc::AllocGlobal;
-use std::env;
-use std::env::Env;
+use crate::system::System;
 use tui_cells::Mem;
 use tui_terminal::depth_of;
 use tui_terminal_model::Depth;
 
-/// Returns the value of a variable, or an empty string if it is not set or not UTF-8. Fails with `NoMemory` if the
-/// system was out of memory.
-// No clause says what a variable holds, since no clause of std does.
-pub fn variable<R: Env + AllocGlobal>(rt: &R, name: &str) -> Mem<String> {
-    text_of(rt.alloc(), env::var(rt, name))
-}
-
 /// Returns the colour depth of the terminal, from `NO_COLOR`, `COLORTERM` and `TERM`, as `depth_of` does.
-pub fn depth<R: Env + AllocGlobal>(rt: &R) -> Mem<Depth> {
-    Ok(depth_of(
-        variable(rt, "NO_COLOR")?.as_str(),
-        variable(rt, "COLORTERM")?.as_str(),
-        variable(rt, "TERM")?.as_str(),
-    ))
+pub fn depth<S: System>(system: &S) -> Mem<Depth>
+    ensures { IfOk result (IsDepthOf (S.gives system.now)) }
+{
+    let no_color = system.variable("NO_COLOR")?;
+    let colorterm = system.variable("COLORTERM")?;
+    let term = system.variable("TERM")?;
+    Ok(depth_of(no_color.as_str(), colorterm.as_str(), term.as_str()))
 }
 
 /// Returns the terminal settings, from these variables and `COLUMNS` and `LINES`, as `Setting::from_variables` does.
-pub fn setting<R: Env + AllocGlobal>(rt: &R) -> Mem<Setting>
-    ensures { IfOk result IsSetting }
+pub fn setting<S: System>(system: &S) -> Mem<Setting>
+    ensures given { IfOk result (AreSettings (S.gives system.now)) }
+    ensures sides { IfOk result IsSetting }
 {
-    let depth = depth(rt)?;
-    let columns = variable(rt, "COLUMNS")?;
-    let lines = variable(rt, "LINES")?;
+    let depth = depth(system)?;
+    let columns = system.variable("COLUMNS")?;
+    let lines = system.variable("LINES")?;
     Ok(Setting::from_variables(depth, columns.as_str(), lines.as_str()))
 }

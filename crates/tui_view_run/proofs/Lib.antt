@@ -1,3 +1,2 @@
-pub mod Named
 pub mod Messages
-pub mod Arguments
+pub mod Ending

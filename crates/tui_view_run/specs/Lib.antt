@@ -1,4 +1,6 @@
 pub mod Shown
+pub mod Arguments
+pub mod Frames
 pub mod Rules
 pub mod DisplayOutcome
-pub mod Frames
+pub mod Ends

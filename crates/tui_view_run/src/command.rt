@@ -1,82 +1,61 @@
-//! The command `rows`: its arguments, and what it writes.
+//! The commands of the program: their arguments and their inputs.
 
-ghost use Rattle.std.specs.Prelude.{◌↔◌, IsTrue};
-ghost use Rattle.tui_program.specs.Outcomes.{AnswersWith, no_refusal, nothing};
-ghost use Rattle.tui_schema.specs.Scene.{reading_data};
-ghost use Rattle.tui_view_run.specs.Rules.{IsRowsCommand};
-ghost use Rattle.tui_view_run.specs.Shown.{AreRowsShown};
+ghost use Rattle.std.specs.Prelude.{◌≡◌, codes};
+ghost use Rattle.tui_program.specs.Arguments.{StartWith};
+ghost use Rattle.tui_view_run.specs.Arguments.{Name, input_name};
 
-use serde_json::Value;
+use arrayvec::ArrayVec;
 use std::alloc::Global;
-use tui_io::{Sink, WriteFault};
-use tui_program::{
-    Cleanup, Job, Outcome, Rejects, is_single_argument, start_with, write_refused_in_scene,
-};
-use tui_scene::draw_new;
-use tui_schema::{BadField, Reading, read_scene};
-use tui_terminal::write_styled_rows;
-use tui_terminal_model::Depth;
+use tui_program::{is_single_argument, start_with};
+use tui_system::SystemCommand;
 
-/// The command of the program: `rows`, alone or with a FILE. It reads a scene, and writes the rows of its screen in
-/// colour.
-#[derive(Clone, Copy, Debug, PartialEq, Eq)]
-pub struct ViewCommand;
-
-/// Returns whether the arguments are those of the command.
-pub(crate) fn is_rows_command(arguments: &[String]) -> bool
-    ensures { IsTrue result ↔ IsRowsCommand arguments.now }
-{
-    is_single_argument(arguments, "rows") || start_with(arguments, 2, "rows")
+/// A command that the arguments name.
+#[derive(Drop)]
+pub enum ViewCommand {
+    /// `frames`: reads scenes from standard input, one a line, and shows each on the terminal.
+    Frames,
+    /// `rows`, alone or with FILE: reads a scene, and writes the rows of its screen in colour.
+    Rows(Option<String>),
 }
 
-/// What the command does with a scene, for a terminal of this colour depth.
-#[derive(Clone, Copy)]
-pub(crate) struct RowsCommand {
-    pub(crate) depth: Depth,
-}
-
-impl Rejects for RowsCommand {
-    ghost use Rattle.tui_view_run.specs.Frames.{refusal_line};
-
-    type Refusal = BadField;
-
-    ghost line = { refusal_line };
-
-    fn reject<K: Sink>(refusal: BadField, sink: &mut K) -> Result<(), WriteFault> {
-        write_refused_in_scene("item", refusal.item, refusal.field.name(), sink)
+impl ViewCommand {
+    /// Returns the name of the input: FILE, or `-`, standard input, if there is no FILE.
+    pub fn input_name(&self) -> &str
+        ensures { result.now ≡ input_name self.now }
+    {
+        match self {
+            ViewCommand::Rows(Some(file)) => file.as_str(),
+            ViewCommand::Rows(None) | ViewCommand::Frames => "-",
+        }
     }
 }
 
-impl Job for RowsCommand {
-    ghost use Rattle.tui_view_run.specs.Rules.{rows_job};
+impl SystemCommand for ViewCommand {
+    ghost use Rattle.tui_view_run.specs.Arguments.{Name, few_arguments};
 
-    ghost job_rules = { λ rows. rows_job rows.depth };
+    ghost named = { Name };
 
-    fn answer<K: Sink>(
-        &self,
-        alloc: Global,
-        value: &Value,
-        sink: &mut K,
-        cleanup: Cleanup,
-    ) -> Outcome<(), BadField> {
-        let mut reading = read_scene(alloc, value)?;
-        let answer = show_rows(alloc, self.depth, &mut reading, sink, cleanup);
-        cleanup.dispose_of(reading);
-        answer
+    ghost few = { few_arguments };
+
+    #[tactic(auto, using(crate::specs::Arguments::two_with_file))]
+    fn from_arguments(arguments: ArrayVec<String, 4, Global>) -> Option<ViewCommand> {
+        if is_single_argument(arguments.as_slice(), "frames") {
+            Some(ViewCommand::Frames)
+        } else if is_single_argument(arguments.as_slice(), "rows") {
+            Some(ViewCommand::Rows(None))
+        } else if start_with(arguments.as_slice(), 2, "rows") {
+            Some(rows_of_file(arguments))
+        } else {
+            None
+        }
     }
 }
 
-fn show_rows<K: Sink>(
-    alloc: Global,
-    depth: Depth,
-    reading: &mut Reading<'_>,
-    sink: &mut K,
-    cleanup: Cleanup,
-) -> Outcome<(), BadField>
-    ensures { AnswersWith (AreRowsShown depth (reading_data reading.old)) nothing no_refusal (K.observed sink.old) (K.observed sink.new) result }
+/// Returns `rows` with the last argument as FILE.
+fn rows_of_file(arguments: ArrayVec<String, 4, Global>) -> ViewCommand
+    requires { StartWith (codes "rows") 2 arguments.items }
+    ensures { Name result arguments.items }
 {
-    let buffer = draw_new(alloc, reading.width, reading.height, &mut reading.scene)?;
-    write_styled_rows(&buffer, depth, sink)?;
-    cleanup.dispose_of(buffer);
-    Ok(())
+    let mut arguments = arguments;
+    ViewCommand::Rows(arguments.pop())
 }

@@ -2,15 +2,8 @@
 
 ghost use Rattle.std.proofs.Common.{rules};
 
-use crate::command::ViewCommand;
 use crate::frames::Frames;
 use tui_cells::Plain;
-
-impl Plain for ViewCommand {
-    ghost same = { Prim.search rules };
-
-    ghost cloned = { Prim.search rules };
-}
 
 impl Plain for Frames {
     ghost same = { Prim.search rules };

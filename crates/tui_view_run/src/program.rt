@@ -1,108 +1,74 @@
 //! A whole run, from the arguments and the input to the output.
 
-ghost use Rattle.std.specs.Prelude.{◌≡◌, List, String, map, string_bytes, [], ◌∷◌};
-ghost use Rattle.std.specs.declared.alloc.Global.{Global};
-ghost use Rattle.tui_program.specs.Transcript.{transcript_of};
-ghost use Rattle.tui_program.specs.Runs.{IsRun, IsRunFrom};
-ghost use Rattle.tui_view_run.specs.Rules.{view_rules};
+ghost use Rattle.tui_view_run.specs.Ends.{Ends, EndsWith};
 
-use crate::command::{RowsCommand, is_rows_command};
-use std::alloc::Global;
-use std::env::Args;
-use std::io;
-use std::io::ErrorKind;
-use tui_io::{Sink, Source};
-use tui_program::{Cleanup, Outcome, Stop, first_arguments, run_json, tell};
+use crate::command::ViewCommand;
+use crate::display_end::display_outcome;
+use crate::frames::show_frames;
+use crate::rows::RowsCommand;
+use tui_io::Sink;
+use tui_program::{Cleanup, Outcome, run_json, tell};
 use tui_schema::BadField;
-use tui_terminal_model::Depth;
+use tui_system::{Console, System, command_of, depth};
 
-/// Reads a scene in JSON (docs/SCENE.md) from the source and draws it. Writes the rows of its screen to the sink, from
-/// the top, in this colour depth. The arguments are `rows`, alone or with a FILE; the source is what they name.
+/// Runs the command that the system's arguments name, in the colour depth that its variables give.
 ///
-/// The outcome is `Ok` only if all of this holds:
+/// `rows`, alone or with FILE, reads a scene in JSON (docs/SCENE.md) from FILE or from standard input, and draws it. It
+/// writes the rows of the screen to `output`, from the top. The terminal is not opened. The outcome is `Ok` only if all
+/// of this holds:
 ///
-/// - the source was read to its end, within 1,048,576 bytes;
+/// - the input was read to its end, within 1,048,576 bytes;
 /// - these bytes are JSON that the schema accepts;
 /// - no read and no write failed;
-/// - the sink has what it had before, followed by the rows of the screen: the buffer that results from drawing the
+/// - `output` has what it had before, followed by the rows of the screen: the buffer that results from drawing the
 ///   scene's widgets on a blank one. Each row has the sequences that set the pen, and after it a newline, with the pen
 ///   reset.
 ///
-/// Every other outcome has its cause; see `Stop`.
-pub fn view<S: Source, K: Sink>(
-    alloc: Global,
-    depth: Depth,
-    arguments: &[String],
-    source: &mut S,
-    sink: &mut K,
-) -> Outcome<(), BadField>
-    ensures { IsRun (view_rules depth) arguments.now
-        (transcript_of (S.observed source.old) (S.observed source.new) (K.observed sink.old) (K.observed sink.new)) result }
-{
-    run_command(alloc, depth, arguments, source, sink, Cleanup::Dropped)
-}
-
-/// Runs as `view` does, with the system's arguments. If the system reports an invalid argument, runs with a single
-/// empty argument, so that the outcome is `Usage`. If it reports that it is out of memory, nothing is read and nothing
-/// is written.
+/// `frames` opens the terminal. It reads scenes from the terminal's input, one a line, and shows each as `show_frames`
+/// does. Nothing is written to `output`. The outcome is `Ok` only if every line was shown and the terminal was left.
+///
+/// Other arguments are rejected in one line on `output`, and the outcome is `Usage`. `Stop` lists the causes of the
+/// other outcomes.
 ///
 /// Call this only as the last action of a process: the memory of the run is leaked.
-pub fn run_program<S: Source, K: Sink>(
-    alloc: Global,
-    depth: Depth,
-    args: io::Result<Args>,
-    source: &mut S,
-    sink: &mut K,
+pub fn run_view<S: System, T: Console, K: Sink>(
+    system: &S,
+    terminal: &mut T,
+    output: &mut K,
 ) -> Outcome<(), BadField>
-    ensures { IsRunFrom (view_rules depth) args
-        (transcript_of (S.observed source.old) (S.observed source.new) (K.observed sink.old) (K.observed sink.new)) result }
+    ensures { Ends (S.gives system.now) (T.observed terminal.old) (T.observed terminal.new) (K.observed output.old) (K.observed output.new) result }
 {
-    match args {
-        Ok(all) => {
-            let arguments = first_arguments(alloc, all);
-            run_command(
-                alloc,
-                depth,
-                arguments.as_slice(),
-                source,
-                sink,
-                Cleanup::Left,
-            )
-        }
-        Err(error) if error.kind() == ErrorKind::OutOfMemory => Err(Stop::NoMemory),
-        Err(_) => run_rejected_argument(alloc, depth, source, sink),
+    match command_of::<ViewCommand, BadField, S>(system) {
+        Ok(command) => run_command(system, &command, terminal, output),
+        Err(stop) => Err(tell::<RowsCommand, K>(stop, output)),
     }
 }
 
-/// Runs with one empty argument, which doesn't allocate.
-fn run_rejected_argument<S: Source, K: Sink>(
-    alloc: Global,
-    depth: Depth,
-    source: &mut S,
-    sink: &mut K,
+/// Runs a command. If memory runs out before its input is opened, nothing is written.
+fn run_command<S: System, T: Console, K: Sink>(
+    system: &S,
+    command: &ViewCommand,
+    terminal: &mut T,
+    output: &mut K,
 ) -> Outcome<(), BadField>
-    ensures { (arguments : List (String Global)) × (map string_bytes arguments ≡ [] ∷ []) × IsRun (view_rules depth) arguments
-        (transcript_of (S.observed source.old) (S.observed source.new) (K.observed sink.old) (K.observed sink.new)) result }
+    ensures { EndsWith (S.gives system.now) (T.observed terminal.old) (T.observed terminal.new) (K.observed output.old) (K.observed output.new) command.now result }
 {
-    let arguments = [String::new(alloc)];
-    run_command(alloc, depth, &arguments, source, sink, Cleanup::Left)
-}
-
-/// Runs the command, if the arguments are its own. Otherwise reads nothing, and writes the usage line.
-fn run_command<S: Source, K: Sink>(
-    alloc: Global,
-    depth: Depth,
-    arguments: &[String],
-    source: &mut S,
-    sink: &mut K,
-    cleanup: Cleanup,
-) -> Outcome<(), BadField>
-    ensures { IsRun (view_rules depth) arguments.now
-        (transcript_of (S.observed source.old) (S.observed source.new) (K.observed sink.old) (K.observed sink.new)) result }
-{
-    if is_rows_command(arguments) {
-        run_json(&RowsCommand { depth }, alloc, source, sink, cleanup)
-    } else {
-        Err(tell::<RowsCommand, K>(Stop::Usage, sink))
+    let alloc = system.alloc();
+    let depth = depth(system)?;
+    match command {
+        ViewCommand::Frames => {
+            terminal.open()?;
+            display_outcome(show_frames(alloc, depth, terminal))
+        }
+        ViewCommand::Rows(_) => {
+            let mut source = system.open(command.input_name())?;
+            run_json(
+                &RowsCommand { depth },
+                alloc,
+                &mut source,
+                output,
+                Cleanup::Left,
+            )
+        }
     }
 }

@@ -1,18 +1,42 @@
-//! A folder of the file system as a machine.
+//! Folders of the file system as machines.
+
+ghost use Rattle.std.specs.Bool.{⊤};
 
 use std::alloc::Global;
 use std::fs;
+use std::fs::File;
 use tui_cells::{Mem, NoMemory};
 use tui_io::{ReadEnd, read_all};
 use tui_program::FileSource;
-use tui_system::{open_file, or_out_of_memory};
+use tui_system::or_out_of_memory;
 use tui_watch_lib::Machine;
+use tui_watch_run::Machines;
+
+/// The folders of the file system that `rt` gives access to.
+#[derive(Drop)]
+pub(crate) struct SystemFolders<'r> {
+    pub(crate) rt: &'r HostRuntime,
+}
+
+impl<'r> Machines for SystemFolders<'r> {
+    type Machine = Folder<'r>;
+
+    // No statement about what a folder of the file system holds.
+    ghost is_at = { λ _ _ _. ⊤ };
+
+    fn at(&self, folder: Option<String>) -> Folder<'r> {
+        Folder {
+            rt: self.rt,
+            name: folder,
+        }
+    }
+}
 
 /// A folder of the file system; /proc if it has no name.
 #[derive(Drop)]
 pub(crate) struct Folder<'r> {
-    pub(crate) rt: &'r HostRuntime,
-    pub(crate) name: Option<String>,
+    rt: &'r HostRuntime,
+    name: Option<String>,
 }
 
 impl<'r> Folder<'r> {
@@ -41,7 +65,8 @@ impl<'r> Machine for Folder<'r> {
         if !self.is_file(path.as_str())? {
             return Ok(String::new(alloc));
         }
-        let mut source = FileSource::new(open_file(self.rt, path.as_str())?);
+        let opened = or_out_of_memory(File::open(self.rt, path.as_str()))?;
+        let mut source = FileSource::new(opened);
         match read_all(alloc, &mut source) {
             Ok(bytes) => Ok(String::from_utf8_lossy(alloc, &bytes)?),
             Err(ReadEnd::NoMemory) => Err(NoMemory),

@@ -1,7 +1,6 @@
 //! The app.
 
-ghost use Rattle.std.specs.Prelude.{◌≡◌, false, ⊤};
-ghost use Rattle.tui_watch_lib.specs.Watch.{flow_of, paused_after, reads};
+ghost use Rattle.std.specs.Prelude.{◌≡◌, IfOk, false};
 
 use crate::drawing::{draw_headline, draw_meters, rows_of};
 use crate::history::History;
@@ -36,7 +35,10 @@ pub struct Watch<M> {
 
 impl<M: Machine + Drop> Watch<M> {
     /// Returns a dashboard of a machine, with a first reading. Fails with `NoMemory` if memory for that is missing.
-    pub fn new(alloc: Global, machine: M) -> Mem<Watch<M>> {
+    pub fn new(alloc: Global, machine: M) -> Mem<Watch<M>>
+        ensures machine { IfOk result (λ watch. watch.machine ≡ machine) }
+        ensures paused { IfOk result (λ watch. watch.paused ≡ false) }
+    {
         let mut watch = Watch {
             machine,
             paused: false,
@@ -64,13 +66,9 @@ impl<M: Machine + Drop> Watch<M> {
 }
 
 impl<M: Machine + Drop> App for Watch<M> {
-    // What is proved of it: how the session goes on, and whether it is paused. The machine stays the same, and the
-    // measurements change only by an event that reads the machine.
-    ghost behaviour = { record {
-      steps = λ old event new flow. (flow ≡ flow_of event) × (new.paused ≡ paused_after old.paused event) × (new.machine ≡ old.machine)
-          × (reads old.paused event ≡ false → (new.reading ≡ old.reading) × (new.trends ≡ old.trends));
-      draws = λ old screen place new. ⊤;
-    } };
+    ghost use Rattle.tui_watch_lib.specs.Watching.{watching};
+
+    ghost behaviour = { watching M };
 
     /// A tick reads the machine, `p` pauses and resumes that, Ctrl-L sends the whole screen again, and `q` quits.
     fn step(&mut self, alloc: Global, event: Event) -> Mem<Flow> {

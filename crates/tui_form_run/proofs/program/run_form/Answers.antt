@@ -4,13 +4,12 @@ use Rattle.tui_form_run.proofs.program.run_form.Goals as goal
 
 pub returns-in-Ok : goal.returns-in-Ok
 returns-in-Ok g c =
-    let asked = c.in-Ok.ensures.asked _ _ in
+    let asked = c.in-Ok.ensures.asked in
     (Ok asked.0, asked.1, asked.2)
 
 pub returns-in-Err : goal.returns-in-Err
 returns-in-Err g c = (
   Err c.in-Err.stop,
-  c.in-Err.ensures.asked _ _,
-  ends_stopped _ _ _ _ _ c.in-Err.stop c.tell.result (ap g.T.Sink.observed c.in-Err.ensures.terminal) (ap g.A.Sink.observed c.in-Err.ensures.answers)
-      c.tell.ensures,
+  c.in-Err.ensures.asked,
+  ends_stopped _ _ _ _ _ c.in-Err.stop c.tell.result c.in-Err.ensures.terminal (ap g.A.Sink.observed c.in-Err.ensures.answers) c.tell.ensures,
 )

@@ -1,8 +1,31 @@
 use Rattle.std.proofs.Common.{refl}
-use Rattle.tui_program.proofs.Completeness.{named_run}
-use Rattle.tui_view_run.specs.Rules.{view_rules}
+use Rattle.std.proofs.lemmas.Result.{err_from_is_err_and}
+use Rattle.tui_view_run.proofs.Ending.{rows_run, unchanged}
 use Rattle.tui_view_run.proofs.program.run_command.Goals as goal
+use Rattle.tui_view_run.specs.Ends.{frames, out_of_memory, rows}
 
-pub returns-then-is_rows_command : goal.returns-then-is_rows_command
-returns-then-is_rows_command g c =
-    named_run (view_rules c.args.depth) _ _ c.run_json.result (record {}) (c.is_rows_command.ensures.0 c.if-is_rows_command.true, λ other are. refl) c.run_json.ensures
+pub returns-in_err-depth : goal.returns-in_err-depth
+returns-in_err-depth g c =
+    let p = err_from_is_err_and c.from_residual.result c.from_residual.ensures.1 in
+    rw (p.1, p.2) (unchanged _ _ _ _)
+
+pub returns-in_err-open-in-Frames : goal.returns-in_err-open-in-Frames
+returns-in_err-open-in-Frames g c =
+    let p = err_from_is_err_and c.from_residual-in_err-open-in-Frames.result c.from_residual-in_err-open-in-Frames.ensures.1 in
+    rw (p.1, p.2) (out_of_memory c.args.command.now c.open.ensures refl)
+
+pub returns-in_err-source-in-Rows : goal.returns-in_err-source-in-Rows
+returns-in_err-source-in-Rows g c =
+    let p = err_from_is_err_and c.from_residual-in_err-source-in-Rows.result c.from_residual-in_err-source-in-Rows.ensures.1 in
+    rw (p.1, p.2) (unchanged _ _ _ _)
+
+pub returns-in_ok-open-in-Frames : goal.returns-in_ok-open-in-Frames
+returns-in_ok-open-in-Frames g c =
+    let run = rw c.open.ensures at c.show_frames.ensures in
+    rw (c.in-Frames.is, c.display_outcome.ensures) (frames c.in_ok-depth.depth c.show_frames.result c.in_ok-depth.ensures run refl)
+
+pub returns-in_ok-source-in-Rows : goal.returns-in_ok-source-in-Rows
+returns-in_ok-source-in-Rows g c =
+    let opened = rw (c.input_name.ensures, c.in-Rows.is) at c.in_ok-source-in-Rows.ensures in
+    let run = rows_run c.in_ok-depth.depth _ c.run_json.result c.run_json.ensures in
+    rw c.in-Rows.is (rows c.in-Rows.field-0 c.in_ok-depth.depth _ _ c.run_json.result c.in_ok-depth.ensures opened run refl)

@@ -1,0 +1,4 @@
+pub mod Arguments
+pub mod Browsing
+pub mod Chosen
+pub mod Ends
