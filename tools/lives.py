@@ -115,10 +115,12 @@ def browses(tmux):
     tmux.shows("the second piece", "│>1001 line 1001", "││line 1019")
     tmux.keys("C-c")
     tmux.ended("Ctrl-C of tui_browse", 130)
-    rejects(tmux, "tui_browse", [("text", 4, ["refused: not JSON"]), ("--text latin", 4, ["refused: not UTF-8"]), ("", 2, ["refused: usage", "usage: tui_browse [--text] FILE"]), ("nothing", 6, ["tui_browse: nothing: No such file or directory"])])
+    rejects(tmux, "tui_browse", [("text", 4, ["tui_browse: text: invalid JSON at line 1 column 1", "refused: not JSON"]), ("--text latin", 4, ["refused: not UTF-8"]), ("", 2, ["refused: usage", "usage: tui_browse [--text] FILE"]), ("nothing", 6, ["tui_browse: nothing: No such file or directory"])])
     (tmux.folder / "wrong.json").write_text('{"entries": [{"title": "one", "body": ""}, {"title": 2, "body": ""}]}', encoding="utf-8")
     (tmux.folder / "long.json").write_text('{"entries": []}'.ljust(LIMIT + 1), encoding="utf-8")
-    rejects(tmux, "tui_browse", [("wrong.json", 5, ["refused: field title at 1"]), ("long.json", 3, ["refused: too long"])])
+    # The screen has 60 columns.
+    said = ["tui_browse: wrong.json: entries[1].title: expected a string", "of 0 to 1000 bytes, found the number 2"]
+    rejects(tmux, "tui_browse", [("wrong.json", 5, [*said, "refused: field title at 1"]), ("long.json", 3, ["refused: too long"])])
 
 
 def lines_of(count, length):
@@ -228,7 +230,7 @@ def asks(tmux):
     tmux.ended("Esc twice", 1)
     (tmux.folder / "full").mkdir(exist_ok=True)
     tmux.equal("answers that can't be written", tmux.run("./live tui_form form.json full"), "tui_form: full: Is a directory\n")
-    rejects(tmux, "tui_form", [("", 2, ["refused: usage", "usage: tui_form FORM [ANSWERS]"]), ("wrong.json", 5, ["refused: field title"]), ("nothing", 6, ["tui_form: nothing: No such file or directory"])])
+    rejects(tmux, "tui_form", [("", 2, ["refused: usage", "usage: tui_form FORM [ANSWERS]"]), ("wrong.json", 5, ["tui_form: wrong.json: title: expected a string, found the nu", "mber 1", "refused: field title"]), ("nothing", 6, ["tui_form: nothing: No such file or directory"])])
 
 
 def watches(tmux):

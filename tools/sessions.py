@@ -3,6 +3,7 @@
 - Each request for memory fails in turn (tools/refuse.c). The exit status is 8. If the program has entered the screen,
   it leaves it; else it has written nothing.
 - Each write fails in turn. The exit status is 7, and the output is a first part of the usual one.
+- The screen can't be opened. The exit status is 7, nothing is written to standard output, and no file is created.
 - The keys are random bytes. The program ends as usual, and its time grows in proportion to their number. A pager shows
   what `tui_pager` writes after the keys that tools/keys.py decodes from these bytes.
 - Keys come in two reads, cut anywhere except after an ESC. They have the same effect as in one read.
@@ -121,6 +122,20 @@ def without_writes(session, work):
         at, last = at + 1, written
 
 
+def without_screen(session, work):
+    """Names a file for the screen that can't be opened. The program says so, and creates no file for its answers."""
+    if session.answers:
+        session.answers.unlink(missing_ok=True)
+    screen = work / "missing" / "screen"
+    done = subprocess.run([session.program, *session.arguments], stdin=subprocess.DEVNULL, capture_output=True,
+                          env={**os.environ, **SIZE, "GOLDGOPHER_SCREEN": str(screen)})
+    reason = f"{session.program.name}: {screen}: No such file or directory\n"
+    if (done.returncode, done.stdout, done.stderr.decode()) != (7, b"", reason):
+        fail(session.name, "ends with", done.returncode, "and", done.stdout, done.stderr, "if its screen can't be opened")
+    if session.answers and session.answers.exists():
+        fail(session.name, "has created its answers although its screen can't be opened")
+
+
 def over_random_bytes(session):
     """Sends random bytes that do not end the program.
 
@@ -211,6 +226,7 @@ def try_all(session, work):
     """Tries all of this with a session, and reports it in one line."""
     requests, library, again = without_memory(session, work)
     writes = without_writes(session, work)
+    without_screen(session, work)
     cuts = in_two_reads(session)
     seconds = over_random_bytes(session)
     print(f"faults: {session.name}: {requests} requests failed in turn, of which {library} were of the C library and {again} were made again;",

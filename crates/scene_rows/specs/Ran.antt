@@ -34,4 +34,6 @@ known_bytes bytes io_errors = record { bytes = Some bytes; io_errors = io_errors
 -- a run with these arguments and these bytes, from an empty sink to this one, ends with a status
 abbrev pub Ran : Program → List (String Global) → List ℕ → SinkState → ℕ → Type 0
 Ran program words input sink status =
-    (left : List ℕ) × (reads : ℕ) × HasStatus program words (transcript_of (known_bytes input 0) (known_bytes left reads) (known_bytes [] 0) (known_bytes sink.held sink.io_errors)) status
+    (left : List ℕ) × (reads : ℕ)
+    × HasStatus program words
+    (transcript_of (known_bytes input 0) (known_bytes left reads) (known_bytes [] 0) (known_bytes sink.held sink.io_errors)) status

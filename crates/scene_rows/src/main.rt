@@ -7,8 +7,10 @@
 mod cases;
 mod displays;
 mod each;
+mod folders;
 mod forms;
 mod frames;
+mod machines;
 mod members;
 mod places;
 mod program;

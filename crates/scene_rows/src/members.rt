@@ -40,6 +40,11 @@ pub(crate) fn text<'v>(value: &'v Value, key: &str) -> Option<&'v str> {
     member(value, key)?.as_str()
 }
 
+/// A text in a member that is an object.
+pub(crate) fn text_in<'v>(value: &'v Value, key: &str, name: &str) -> Option<&'v str> {
+    text(member(value, key)?, name)
+}
+
 /// A value that is a number below 2^16.
 pub(crate) fn small(value: &Value) -> Option<u16> {
     match u16::try_from(value.as_u64()?) {
@@ -88,6 +93,28 @@ pub(crate) fn texts<'v>(alloc: Global, value: &'v Value, key: &str) -> Result<Ve
     for value in values {
         match value.as_str() {
             Some(text) => texts.push(text)?,
+            None => bail!("no text"),
+        }
+    }
+    Ok(texts)
+}
+
+/// A member that is an object of texts, as names with their texts; none if it is absent.
+pub(crate) fn texts_by_name<'v>(
+    alloc: Global,
+    value: &'v Value,
+    key: &str,
+) -> Result<Vec<(&'v str, &'v str)>> {
+    let mut texts = Vec::new(alloc);
+    let Some(member) = member(value, key) else {
+        return Ok(texts);
+    };
+    let Some(members) = member.as_object() else {
+        bail!("no object of texts");
+    };
+    for (name, text) in members {
+        match text.as_str() {
+            Some(text) => texts.push((name.as_str(), text))?,
             None => bail!("no text"),
         }
     }

@@ -1,72 +1,96 @@
 //! Rows of runs on a system in memory: what they write, and how they end.
 //!
-//! - `program`: `browse`, `form` or `view`; `arguments`: its arguments
+//! - `program`: `browse`, `files`, `form`, `view` or `watch`; `arguments`: its arguments
 //! - `variables` and `files`: objects of texts, by name. A file that is not among them can't be opened
 //! - `file_failing`: which reads of a file fail, from 1
+//! - `folders`: for `files`, an object with the names in each folder, by its absolute path. Those of folders end in a
+//!   slash. `paths`: the absolute paths of other names of folders, by these names
 //! - `reads`: what the terminal gives; `failing`: which of its reads and writes fail, counted together from 1
-//! - `is_shut`: whether the place for the answers can't be opened; `puts`: which writes to it fail; `room`: how many
-//!   bytes it has room for
+//! - `shown`: texts that the terminal may get in one piece; each is reported with whether it got it
+//! - `is_shut`: whether the place for what the program gives can't be opened; `puts`: which writes to it fail; `room`:
+//!   how many bytes it has room for
 //! - `is_piped`: whether standard output is the user's and no terminal
 
 use crate::displays::give;
+use crate::folders::RowFolders;
 use crate::frames::write_escaped;
-use crate::members::{check_keys, flag, list, member, numbers, text, texts};
+use crate::machines::RowMachines;
+use crate::members::{check_keys, flag, numbers, text, texts, texts_by_name};
 use crate::places::RowPlace;
 use anyhow::{Result, bail};
 use serde_json::Value;
 use std::alloc::Global;
-use std::env::Args;
-use std::io;
-use std::io::{ErrorKind, Write};
+use std::io::Write;
 use tui_app::MemTerminal;
 use tui_browse_run::browse;
-use tui_cells::{Mem, NoMemory};
+use tui_files_run::browse_files;
 use tui_form_run::run_form;
-use tui_io::{MemSink, MemSource};
+use tui_io::MemSink;
 use tui_program::{Done, Outcome};
-use tui_system::System;
+use tui_system::{Left, MemSystem, System};
 use tui_view_run::run_view;
+use tui_watch_run::watch;
 
 /// The most marks and bytes that the trace of a terminal may have.
 const ROOM: usize = 65_536;
 
 /// What the terminal gets first of a session, and what it gets last of one that leaves it.
-const ENTER: &[u8] = b"\x1b[?1049h";
+const ENTER: &str = "\x1b[?1049h";
 
-const LEAVE: &[u8] = b"\x1b[?2026l\x1b[?2004l\x1b[?1049l\x1b[0m\x1b[?7h\x1b[?25h";
+const LEAVE: &str = "\x1b[?2026l\x1b[?2004l\x1b[?1049l\x1b[0m\x1b[?7h\x1b[?25h";
 
-const KEYS: [&str; 11] = [
+const KEYS: [&str; 14] = [
     "program",
     "arguments",
     "variables",
     "files",
     "file_failing",
+    "folders",
+    "paths",
     "reads",
     "failing",
+    "shown",
     "is_shut",
     "puts",
     "room",
     "is_piped",
 ];
 
-/// Runs a program. Writes what the terminal, the place for the answers and standard output got, and the exit status.
+/// Runs a program. Writes what the terminal, the place for what it gives and standard output got, and the exit status.
 pub(crate) fn run_on_system<W: Write>(alloc: Global, running: &Value, out: &mut W) -> Result<()> {
     check_keys(running, &KEYS)?;
-    let system = RowSystem::of(alloc, running)?;
+    let system = system_of(alloc, running)?;
     let mut terminal = terminal_of(alloc, running)?;
     let mut place = RowPlace::of(alloc, running)?;
     let mut output = MemSink::new(alloc, ROOM, Vec::new(alloc))?;
     let status = match text(running, "program") {
         Some("browse") => status_of(&browse(&system, &mut terminal)),
+        Some("files") => status_of(&show_folders(&system, running, &mut terminal, &mut place)),
         Some("form") => status_of(&run_form(&system, &mut terminal, &mut place)),
         Some("view") => status_of(&run_view(&system, &mut terminal, &mut output)),
+        Some("watch") => status_of(&watch(&system, &RowMachines { row: running }, &mut terminal)),
         _ => bail!("no such program"),
     };
-    write_terminal(alloc, &terminal, out)?;
+    let written = text_on(alloc, &terminal)?;
+    write_terminal(written.as_str(), out)?;
+    write_shown(written.as_str(), &texts(alloc, running, "shown")?, out)?;
     place.write(out)?;
     write_output(output.bytes(), out)?;
     writeln!(out, "status {status}")?;
     Ok(())
+}
+
+fn show_folders(
+    system: &MemSystem,
+    row: &Value,
+    terminal: &mut MemTerminal,
+    chosen: &mut RowPlace,
+) -> Outcome<Left, ()> {
+    let folders = RowFolders {
+        alloc: system.alloc(),
+        row,
+    };
+    browse_files(system, &folders, folders, terminal, chosen)
 }
 
 fn status_of<D: Done, R>(outcome: &Outcome<D, R>) -> u8 {
@@ -76,72 +100,22 @@ fn status_of<D: Done, R>(outcome: &Outcome<D, R>) -> u8 {
     }
 }
 
-/// A system whose arguments, variables and files are members of a row.
-#[derive(Drop)]
-struct RowSystem<'v> {
-    alloc: Global,
-    row: &'v Value,
-    words: Vec<&'v str>,
-    failing: Vec<u64>,
-    is_piped: bool,
-}
-
-impl<'v> RowSystem<'v> {
-    fn of(alloc: Global, row: &'v Value) -> Result<RowSystem<'v>> {
-        Ok(RowSystem {
-            alloc,
-            row,
-            words: texts(alloc, row, "arguments")?,
-            failing: numbers(alloc, row, "file_failing")?,
-            is_piped: flag(row, "is_piped").unwrap_or(false),
-        })
+/// Returns the system of a row.
+fn system_of(alloc: Global, row: &Value) -> Result<MemSystem> {
+    let mut system = MemSystem::new(alloc);
+    system.add_argument("row")?;
+    for argument in texts(alloc, row, "arguments")? {
+        system.add_argument(argument)?;
     }
-
-    /// A text in a member that is an object.
-    fn text_in(&self, member_name: &str, name: &str) -> Option<&'v str> {
-        text(member(self.row, member_name)?, name)
+    for (name, text) in texts_by_name(alloc, row, "variables")? {
+        system.add_variable(name, text)?;
     }
-}
-
-impl<'v> System for RowSystem<'v> {
-    ghost use Rattle.tui_system.specs.System.{unknown};
-
-    type Input = MemSource;
-
-    ghost gives = { λ _. unknown };
-
-    fn alloc(&self) -> Global {
-        self.alloc
+    for (name, text) in texts_by_name(alloc, row, "files")? {
+        let bytes = Vec::from_slice(alloc, text.as_bytes())?;
+        system.add_file(name, bytes, numbers(alloc, row, "file_failing")?)?;
     }
-
-    fn arguments(&self) -> io::Result<Args> {
-        let mut all = Vec::new(self.alloc);
-        for word in ["row"].iter().chain(self.words.iter()) {
-            if all.push(String::from_str(self.alloc, word)?).is_err() {
-                return Err(io::Error::from(ErrorKind::OutOfMemory));
-            }
-        }
-        Ok(all.into_iter())
-    }
-
-    fn variable(&self, name: &str) -> Mem<String> {
-        let text = self.text_in("variables", name).unwrap_or("");
-        Ok(String::from_str(self.alloc, text)?)
-    }
-
-    fn open(&self, name: &str) -> Mem<MemSource> {
-        match self.text_in("files", name) {
-            Some(text) => Ok(MemSource::new(
-                Vec::from_slice(self.alloc, text.as_bytes())?,
-                Vec::from_slice(self.alloc, &self.failing)?,
-            )),
-            None => Ok(MemSource::new(Vec::new(self.alloc), Vec::from_slice(self.alloc, &[1])?)),
-        }
-    }
-
-    fn is_output_piped(&self) -> Mem<bool> {
-        Ok(self.is_piped)
-    }
+    system.set_output_piped(flag(row, "is_piped").unwrap_or(false));
+    Ok(system)
 }
 
 fn terminal_of(alloc: Global, row: &Value) -> Result<MemTerminal> {
@@ -162,25 +136,43 @@ fn write_output<W: Write>(bytes: &[u8], out: &mut W) -> Result<()> {
     Ok(())
 }
 
-/// Writes what a terminal got; of a session only whether it left the terminal.
-fn write_terminal<W: Write>(alloc: Global, terminal: &MemTerminal, out: &mut W) -> Result<()> {
+/// Returns what a terminal got.
+fn text_on(alloc: Global, terminal: &MemTerminal) -> Result<String> {
     let mut bytes = Vec::new(alloc);
     for item in terminal.trace() {
         if let Ok(byte) = u8::try_from(*item) {
             bytes.push(byte)?;
         }
     }
+    Ok(String::from_utf8(bytes)?)
+}
+
+/// Writes what a terminal got; of a session only whether it left the terminal.
+fn write_terminal<W: Write>(written: &str, out: &mut W) -> Result<()> {
     write!(out, "terminal")?;
-    if bytes.is_empty() {
+    if written.is_empty() {
         write!(out, " untouched")?;
-    } else if !bytes.starts_with(ENTER) {
+    } else if !written.starts_with(ENTER) {
         write!(out, " ")?;
-        write_escaped(out, &bytes)?;
-    } else if bytes.ends_with(LEAVE) {
+        write_escaped(out, written.as_bytes())?;
+    } else if written.ends_with(LEAVE) {
         write!(out, " session, left")?;
     } else {
         write!(out, " session, cut short")?;
     }
     writeln!(out, "")?;
+    Ok(())
+}
+
+/// Writes for each of these texts whether a terminal got it.
+fn write_shown<W: Write>(written: &str, texts: &[&str], out: &mut W) -> Result<()> {
+    for text in texts {
+        let word = if written.contains(*text) {
+            "shows"
+        } else {
+            "lacks"
+        };
+        writeln!(out, "{word} {text}")?;
+    }
     Ok(())
 }

@@ -80,5 +80,6 @@ pub record IsIteration {A : Type 0} (b : Behaviour A) (old : LoopState A) (bytes
 -- The app drew. Then for each of these reads it handled the events and drew.
 pub data EventLoop {A : Type 0} (b : Behaviour A) (begin : A) (area : Rect) : List (List ℕ) → LoopState A → Type 0 where
   drew : (first : LoopState A) → IsFirstState b begin area first → EventLoop b begin area [] first
-  iterated : (reads : List (List ℕ)) (bytes : List ℕ) (flow : Flow) (old new : LoopState A) → EventLoop b begin area reads old → IsIteration b old bytes flow new
+  iterated : (reads : List (List ℕ)) (bytes : List ℕ) (flow : Flow) (old new : LoopState A) →
+      EventLoop b begin area reads old → IsIteration b old bytes flow new
       → EventLoop b begin area (reads ++ bytes ∷ []) new

@@ -18,6 +18,7 @@ abbrev pub no_reaction : Reaction
 no_reaction = record { flow = Go; size = None }
 
 -- events are handled, and this is pending afterwards
-pub record HandlesBytes {A : Type 0} (b : Behaviour A) (old : A) (reaction : Reaction) (es : List Event) (keys : KeyDecoder) (new : A) (reading : AfterRead) : Type 0 where
+pub record HandlesBytes {A : Type 0} (b : Behaviour A) (old : A) (reaction : Reaction) (es : List Event)
+    (keys : KeyDecoder) (new : A) (reading : AfterRead) : Type 0 where
   pub handled : HandlesEvents b old reaction es new reading.reaction
   pub keys_are : reading.keys ≡ keys

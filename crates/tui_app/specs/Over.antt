@@ -13,7 +13,8 @@ use Rattle.tui_cells.specs.declared.rect.Rect.{Rect}
 -- the screens that the event loop draws: the first one, and one for each read
 pub data DrawsOver {A : Type 0} (b : Behaviour A) (begin : A) (area : Rect) : List (List ℕ) → LoopState A → List Screen → Type 0 where
   draws_first : (first : LoopState A) → IsFirstState b begin area first → DrawsOver b begin area [] first (first.screen ∷ [])
-  draws_next : (reads : List (List ℕ)) (bytes : List ℕ) (flow : Flow) (old new : LoopState A) (screens : List Screen) → DrawsOver b begin area reads old screens
+  draws_next : (reads : List (List ℕ)) (bytes : List ℕ) (flow : Flow) (old new : LoopState A)
+      (screens : List Screen) → DrawsOver b begin area reads old screens
       → IsIteration b old bytes flow new → DrawsOver b begin area (reads ++ bytes ∷ []) new (screens ++ new.screen ∷ [])
 
 -- this read quits; or it has no byte or too many, and ends the session

@@ -22,7 +22,8 @@ abbrev pub state_of : {A : Type 0} → A → KeyDecoder → LoopBuffers → Loop
 state_of app keys s = record { app = app; keys = keys; screen = s.shown; place = s.place }
 
 -- the next screen is drawn; if no size was reported, the one before is the spare one now
-pub record IsNextDrawn {A : Type 0} (b : Behaviour A) (size : Option Size) (app : A) (old : LoopBuffers) (moved : A) (new : LoopBuffers) : Type 0 where
+pub record IsNextDrawn {A : Type 0} (b : Behaviour A) (size : Option Size) (app : A) (old : LoopBuffers)
+    (moved : A) (new : LoopBuffers) : Type 0 where
   pub draws : b.draws app new.shown new.place moved
   pub area_is : new.shown.area ≡ area_after old.shown.area size
   pub areas : new.shown.area ≡ new.spare.area
@@ -35,7 +36,8 @@ pub record Sent {E : Type 0} (o : Output) (in_full : Bool) (s : LoopBuffers) (k 
   pub writes : Writes k now result text
 
 -- the next screen is drawn, and its bytes are written
-pub record HasShown {A E : Type 0} (b : Behaviour A) (o : Output) (reaction : Reaction) (app : A) (old : LoopBuffers) (moved : A) (new : LoopBuffers) (k now : Observed)
+pub record HasShown {A E : Type 0} (b : Behaviour A) (o : Output) (reaction : Reaction) (app : A)
+    (old : LoopBuffers) (moved : A) (new : LoopBuffers) (k now : Observed)
     (result : Result (Unit {0}) E) : Type 0 where
   pub drawn : IsNextDrawn b reaction.size app old moved new
   pub text : List ℕ
@@ -43,12 +45,14 @@ pub record HasShown {A E : Type 0} (b : Behaviour A) (o : Output) (reaction : Re
   pub writes : Writes k now result text
 
 -- or memory ran out while drawing
-abbrev pub IsNextShown : {A E F : Type 0} → Behaviour A → Output → Reaction → A → LoopBuffers → A → LoopBuffers → Observed → Observed → Result (Result (Unit {0}) E) F → Type 0
+abbrev pub IsNextShown : {A E F : Type 0} → Behaviour A → Output → Reaction → A → LoopBuffers → A → LoopBuffers →
+    Observed → Observed → Result (Result (Unit {0}) E) F → Type 0
 IsNextShown b o reaction app old moved new k now (Ok result) = HasShown b o reaction app old moved new k now result
 IsNextShown b o reaction app old moved new k now (Err _) = now ≡ k
 
 -- the next screen is drawn, and these are its bytes
-pub record IsDrawn {A : Type 0} (b : Behaviour A) (o : Output) (reaction : Reaction) (app : A) (old : LoopBuffers) (moved : A) (new : LoopBuffers) (text : List ℕ) : Type 0 where
+pub record IsDrawn {A : Type 0} (b : Behaviour A) (o : Output) (reaction : Reaction) (app : A) (old : LoopBuffers)
+    (moved : A) (new : LoopBuffers) (text : List ℕ) : Type 0 where
   pub not_quit : reaction.flow ≢ Quit
   pub drawn : IsNextDrawn b reaction.size app old moved new
   pub text_is : IsText o (is_in_full reaction.flow reaction.size) old.shown new.shown new.place text
@@ -56,7 +60,8 @@ pub record IsDrawn {A : Type 0} (b : Behaviour A) (o : Output) (reaction : React
 -- what follows the events of a read
 abbrev pub Follows : {A : Type 0} → Behaviour A → Output → Reaction → A → LoopBuffers → A → LoopBuffers → Observed → Observed → Option AppEnd → Type 0
 Follows b o reaction app old moved new k now None = (text : List ℕ) × IsDrawn b o reaction app old moved new text × Traced k now text
-Follows b o reaction app old moved new k now (Some ends.WriteFault) = (text : List ℕ) × IsDrawn b o reaction app old moved new text × WriteFailed k now text
+Follows b o reaction app old moved new k now (Some ends.WriteFault) = (text : List ℕ)
+    × IsDrawn b o reaction app old moved new text × WriteFailed k now text
 Follows b o reaction app old moved new k now (Some ends.NoMemory) = now ≡ k
 Follows b o reaction app old moved new k now (Some ends.Quit) = (reaction.flow ≡ Quit) × (moved ≡ app) × (now ≡ k)
 Follows b o reaction app old moved new k now (Some end) = ⊥
@@ -64,7 +69,8 @@ Follows b o reaction app old moved new k now (Some end) = ⊥
 -- a read, and the result of its bytes
 abbrev pub Iterated : {A : Type 0} → Behaviour A → Output → LoopState A → LoopState A → Observed → Observed → Option AppEnd → Type 0
 Iterated b o old new t now None = (bytes : List ℕ) × (text : List ℕ) × Iterates b o old bytes new text × Traced t now (read_entry bytes ++ text)
-Iterated b o old new t now (Some ends.WriteFault) = (bytes : List ℕ) × (text : List ℕ) × Iterates b o old bytes new text × WriteFailed t now (read_entry bytes ++ text)
+Iterated b o old new t now (Some ends.WriteFault) = (bytes : List ℕ) × (text : List ℕ)
+    × Iterates b o old bytes new text × WriteFailed t now (read_entry bytes ++ text)
 Iterated b o old new t now (Some ends.NoMemory) = (bytes : List ℕ) × IsRead bytes × Traced t now (read_entry bytes)
 Iterated b o old new t now (Some ends.Quit) =
     (bytes : List ℕ) × IsRead bytes × Takes b old.app Go (events_of_read old.keys bytes) new.app Quit × Traced t now (read_entry bytes)
@@ -81,10 +87,12 @@ pub record IsBegun {A : Type 0} (b : Behaviour A) (begin : A) (area : Rect) (app
 abbrev pub Opened : {E : Type 0} → Output → LoopBuffers → Observed → Observed → Result (Unit {0}) E → Type 0
 Opened o s k now (Ok _) = (text : List ℕ) × IsFull o (cursor_for s.place s.shown.area) s.shown text × Traced k now (enter_text ++ text)
 Opened o s k now (Err _) =
-    WriteFailed k now enter_text ⊎ ((text : List ℕ) × IsFull o (cursor_for s.place s.shown.area) s.shown text × WriteFailed k now (enter_text ++ text))
+    WriteFailed k now enter_text
+    ⊎ ((text : List ℕ) × IsFull o (cursor_for s.place s.shown.area) s.shown text × WriteFailed k now (enter_text ++ text))
 
 -- a session from its start up to a read
-pub record SessionReached {A : Type 0} (b : Behaviour A) (o : Output) (begin : A) (area : Rect) (state : LoopState A) (t now : Observed) (count : ℕ) : Type 0 where
+pub record SessionReached {A : Type 0} (b : Behaviour A) (o : Output) (begin : A) (area : Rect)
+    (state : LoopState A) (t now : Observed) (count : ℕ) : Type 0 where
   pub reads : List (List ℕ)
   pub trace : List ℕ
   pub sent : List ℕ

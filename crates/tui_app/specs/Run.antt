@@ -17,7 +17,8 @@ use Rattle.tui_terminal_model.specs.declared.output.Output.{Output}
 -- read quits; the input ended; a read failed; memory ran out while the last read was handled; or 4,294,967,296
 -- reads were made.
 abbrev pub Stops : {A : Type 0} → Behaviour A → LoopState A → ℕ → List ℕ → A → AppEnd → Type 0
-Stops b s count given last Quit = (bytes : List ℕ) × IsRead bytes × (given ≡ read_entry bytes) × Takes b s.app Go (events_of_read s.keys bytes) last Quits
+Stops b s count given last Quit = (bytes : List ℕ) × IsRead bytes × (given ≡ read_entry bytes)
+    × Takes b s.app Go (events_of_read s.keys bytes) last Quits
 Stops b s count given last Ended = (given ≡ read_entry []) × (last ≡ s.app)
 Stops b s count given last ReadFault = (given ≡ []) × (last ≡ s.app)
 Stops b s count given last NoMemory = (bytes : List ℕ) × IsRead bytes × (given ≡ read_entry bytes)
@@ -46,15 +47,18 @@ pub record HasStopped {A : Type 0} (b : Behaviour A) (o : Output) (begin : A) (a
 -- the trace that a run has to write, and the count of I/O errors at its end
 pub data Sending {A : Type 0} (b : Behaviour A) (o : Output) (begin : A) (area : Rect) (last : A) (before : ℕ) : List ℕ → ℕ → Type 0 where
   enters : (first : LoopState A) → IsFirstState b begin area first → last ≡ first.app → Sending b o begin area last before enter_text before
-  shows : (state : LoopState A) (reads : List (List ℕ)) (trace sent : List ℕ) → Session b o begin area state reads trace sent → length reads ≤ 4294967296
+  shows : (state : LoopState A) (reads : List (List ℕ)) (trace sent : List ℕ) →
+      Session b o begin area state reads trace sent → length reads ≤ 4294967296
       → last ≡ state.app → Sending b o begin area last before trace before
-  leaves : (end : AppEnd) (trace : List ℕ) (now : ℕ) → HasStopped b o begin area last end trace before now → Sending b o begin area last before trace now
+  leaves : (end : AppEnd) (trace : List ℕ) (now : ℕ) → HasStopped b o begin area last end trace before now →
+      Sending b o begin area last before trace now
 
 -- A run of an app on a terminal of this area, and the app at its end. A session stopped; or a write failed, and the
 -- trace is a proper prefix of it; or memory ran out before the first screen, and nothing was written.
 pub data IsAppRun {A : Type 0} (b : Behaviour A) (o : Output) (begin : A) (area : Rect) (old new : Observed) (last : A) : AppEnd → Type 0 where
   whole : (end : AppEnd) (trace : List ℕ) → HasStopped b o begin area last end trace old.io_errors new.io_errors → Appends old.bytes new.bytes trace
       → IsAppRun b o begin area old new last end
-  cut : (trace : List ℕ) (io_errors : ℕ) → Sending b o begin area last old.io_errors trace io_errors → TakesPrefix old.bytes new.bytes trace → Rose io_errors new.io_errors
+  cut : (trace : List ℕ) (io_errors : ℕ) → Sending b o begin area last old.io_errors trace io_errors →
+      TakesPrefix old.bytes new.bytes trace → Rose io_errors new.io_errors
       → IsAppRun b o begin area old new last WriteFault
   nothing : new ≡ old → IsAppRun b o begin area old new last NoMemory

@@ -32,14 +32,16 @@ IsText o true old new place text = IsFull o (cursor_for place new.area) new text
 IsText o false old new place text = IsChange o (cursor_for place new.area) old new text
 
 -- one read, and what is written for it
-pub record Iterates {A : Type 0} (b : Behaviour A) (o : Output) (old : LoopState A) (bytes : List ℕ) (new : LoopState A) (text : List ℕ) : Type 0 where
+pub record Iterates {A : Type 0} (b : Behaviour A) (o : Output) (old : LoopState A) (bytes : List ℕ)
+    (new : LoopState A) (text : List ℕ) : Type 0 where
   pub flow : Flow
   pub iteration : IsIteration b old bytes flow new
   pub text_is : IsText o (is_in_full flow (size_of_read old.keys bytes)) old.screen new.screen new.place text
 
 -- A session that waits for input: the state of the loop, the bytes of each read, the trace, and the written part of it.
 pub data Session {A : Type 0} (b : Behaviour A) (o : Output) (begin : A) (area : Rect) : LoopState A → List (List ℕ) → List ℕ → List ℕ → Type 0 where
-  begins : (first : LoopState A) (text : List ℕ) → IsFirstState b begin area first → IsFull o (cursor_for first.place first.screen.area) first.screen text
+  begins : (first : LoopState A) (text : List ℕ) → IsFirstState b begin area first →
+      IsFull o (cursor_for first.place first.screen.area) first.screen text
       → Session b o begin area first [] (enter_text ++ text) (enter_text ++ text)
   goes_on : (state new : LoopState A) (reads : List (List ℕ)) (trace sent bytes text : List ℕ) → Session b o begin area state reads trace sent
       → Iterates b o state bytes new text → Session b o begin area new (reads ++ bytes ∷ []) (trace ++ (read_entry bytes ++ text)) (sent ++ text)

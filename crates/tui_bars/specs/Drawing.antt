@@ -23,7 +23,8 @@ use Rattle.tui_bars.specs.Sparkline.{SparklineData, sparkline_layers}
 use Rattle.tui_bars.specs.Stays.{framed_stays, gauge_stays, line_gauge_stays, sparkline_stays}
 
 -- a widget with a style and an optional block, drawn by its strokes
-abbrev pub framed_drawing : Option BlockData → Style → (content : Rect → List Layer) → Type 0 → ((area : Rect) → StayIn (covers area) (content area)) → Drawing
+abbrev pub framed_drawing : Option BlockData → Style → (content : Rect → List Layer) → Type 0 →
+    ((area : Rect) → StayIn (covers area) (content area)) → Drawing
 framed_drawing block style content allocation_free stays = record {
   layers = framed_layers block style content;
   footprint = footprint_if block;

@@ -78,7 +78,8 @@ char_start_from place text = next_char_start text place (length text - place)
 -- The text from byte k on, k columns after the start of the bar. Bytes and columns are counted alike: k is the first
 -- byte at or after the filled columns at which a character starts.
 abbrev pub rest_layers : ChartPlan → ℕ → ℕ → List ℕ → Style → List Layer
-rest_layers plan middle k text style = set_layers plan.area (record { x = past plan.start k; y = middle }) (styled_text (drop k text) style) (plan.length - k)
+rest_layers plan middle k text style = set_layers plan.area (record { x = past plan.start k; y = middle })
+    (styled_text (drop k text) style) (plan.length - k)
 
 -- the part of the text past the filled cells, if there is one
 unfoldable pub beyond_layers : ChartPlan → ℕ → ℕ → List ℕ → Style → List Layer
@@ -99,7 +100,8 @@ unfoldable pub horizontal_bar_layers : BarChartData → ChartPlan → ℕ → Ba
 horizontal_bar_layers c plan at bar =
     strip_layers c plan at (filled_of plan bar) (patched c.bar_style bar.style)
     ++ left_layers plan (middle_of c at) bar
-    ++ row_value_layers plan (middle_of c at) (filled_of plan bar) (value_text bar) (patched c.value_style bar.value_style) (patched c.bar_style bar.style)
+    ++ row_value_layers plan (middle_of c at) (filled_of plan bar) (value_text bar)
+    (patched c.value_style bar.value_style) (patched c.bar_style bar.style)
 
 -- the row below n bars, in which the group's label is drawn if there is a gap; if it is outside the area it has no
 -- cells

@@ -64,7 +64,8 @@ levels_stay s clip area style left zero = StayIn-none
 levels_stay s clip area style left (suc n) = StayIn-append (fill_stays clip _ _ style) (levels_stay s clip area style (left - 8) n)
 
 -- a vertical bar changes only cells of the clip
-pub vertical_bar_stays : (s : BarSymbols) (clip area : Rect) (style : Style) (filled : ℕ) → StayIn (covers clip) (vertical_bar_layers s clip area style filled)
+pub vertical_bar_stays : (s : BarSymbols) (clip area : Rect) (style : Style) (filled : ℕ) →
+    StayIn (covers clip) (vertical_bar_layers s clip area style filled)
 vertical_bar_stays s clip area style filled = levels_stay s clip area style filled area.height
 
 value_stays : (s : SparklineData) (area column : Rect) (greatest : ℕ) (style : Option Style) (value : Option ℕ) →
@@ -72,7 +73,8 @@ value_stays : (s : SparklineData) (area column : Rect) (greatest : ℕ) (style :
 value_stays s area column greatest style None = fill_stays area column _ _
 value_stays s area column greatest style (Some value) = vertical_bar_stays s.symbols area column _ _
 
-bars_stay : (s : SparklineData) (area : Rect) (greatest i : ℕ) (bars : List SparklineBarData) → StayIn (covers area) (bars_layers s area greatest i bars)
+bars_stay : (s : SparklineData) (area : Rect) (greatest i : ℕ) (bars : List SparklineBarData) →
+    StayIn (covers area) (bars_layers s area greatest i bars)
 unfolding bars_layers
 bars_stay s area greatest i [] = StayIn-none
 bars_stay s area greatest i (b ∷ bs) = StayIn-append (value_stays s area _ greatest b.style b.value) (bars_stay s area greatest (i + 1) bs)

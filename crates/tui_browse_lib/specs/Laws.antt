@@ -16,7 +16,8 @@ use Rattle.tui_terminal_model.specs.declared.output.Output.{Output}
 -- The terminal shows the screen that was drawn last. If that screen has room for a pager it is the pager's: the list
 -- draws the selected entry if its title has at most as many lines as the list has rows. If it has none, the screen
 -- shows `too small`.
-pub record IsOnScreen (o : Output) (begin : PagerApp) (area : Rect) (state : LoopState PagerApp) (reads : List (List ℕ)) (sent : List ℕ) : Type 0 where
+pub record IsOnScreen (o : Output) (begin : PagerApp) (area : Rect) (state : LoopState PagerApp)
+    (reads : List (List ℕ)) (sent : List ℕ) : Type 0 where
   pub present : IsPresent paging o begin area state reads sent
   pub sound : IsSoundPager state.app.pager
   pub visible : ShowsSelected state.app.pager
@@ -25,6 +26,7 @@ pub record IsOnScreen (o : Output) (begin : PagerApp) (area : Rect) (state : Loo
 
 -- holds whenever a session of a pager waits for input
 abbrev pub PagerIsShown : Output → Type 0
-PagerIsShown o = (entries : List EntryData) (width height : ℕ) (begin : PagerApp) (state : LoopState PagerApp) (reads : List (List ℕ)) (trace sent : List ℕ) →
+PagerIsShown o = (entries : List EntryData) (width height : ℕ) (begin : PagerApp) (state : LoopState PagerApp)
+    (reads : List (List ℕ)) (trace sent : List ℕ) →
     begin.pager ≡ initial_pager_for entries width height → Session paging o begin (area_of 0 0 width height) state reads trace sent →
     IsOnScreen o begin (area_of 0 0 width height) state reads sent

@@ -24,7 +24,8 @@ Name command arguments = NamesFile command.format command.file arguments
 few_of : (texts : List (List ℕ)) (arguments : List (String Global)) → AreTexts texts arguments → length texts ≤ 3 → length arguments ≤ most_arguments
 few_of texts arguments are few = omega (arith, sym (length-map arguments string_bytes) ∙ ap length are)
 
-few_for : (format : Format) (file : String Global) (arguments : List (String Global)) → NamesFile format file arguments → length arguments ≤ most_arguments
+few_for : (format : Format) (file : String Global) (arguments : List (String Global)) →
+    NamesFile format file arguments → length arguments ≤ most_arguments
 few_for Entries file arguments named = few_of (string_bytes file ∷ []) arguments named (omega arith)
 few_for Text file arguments named = few_of (codes "--text" ∷ string_bytes file ∷ []) arguments named (omega arith)
 

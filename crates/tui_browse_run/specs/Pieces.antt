@@ -83,7 +83,8 @@ piece_data piece = record { line = piece.line; body = piece.body.now }
 -- the first pieces of a text, the number of the line that continues or begins after them, and the rest of the text
 pub data ArePieces (text : List ℕ) : List PieceData → ℕ → List ℕ → Type 0 where
   no_pieces : ArePieces text [] 1 text
-  one_more : (pieces : List PieceData) (line : ℕ) (body rest : List ℕ) → ArePieces text pieces line (body ++ rest) → IsPieceEnd (body ++ rest) (length body)
+  one_more : (pieces : List PieceData) (line : ℕ) (body rest : List ℕ) → ArePieces text pieces line (body ++ rest) →
+      IsPieceEnd (body ++ rest) (length body)
       → ArePieces text (pieces ++ record { line = line; body = body } ∷ []) (line + line_feeds body) rest
 
 -- all pieces of a text, at most a thousand; joined they are the text

@@ -26,7 +26,8 @@ pub record IsBegun (d : DisplayState) : Type 0 where
 -- `enter_text` and the first screen are written
 abbrev pub IsOpened : {E : Type 0} → Output → Screen → Observed → Observed → Result (Unit {0}) E → Type 0
 IsOpened o first k now (Ok _) = (text : List ℕ) × IsFull o Hidden first text × Traced k now (enter_text ++ text)
-IsOpened o first k now (Err _) = WriteFailed k now enter_text ⊎ ((text : List ℕ) × IsFull o Hidden first text × WriteFailed k now (enter_text ++ text))
+IsOpened o first k now (Err _) = WriteFailed k now enter_text
+    ⊎ ((text : List ℕ) × IsFull o Hidden first text × WriteFailed k now (enter_text ++ text))
 
 -- ---- one line
 
@@ -39,7 +40,8 @@ IsWritten k now text (Some end) = ⊥
 -- the result of a line
 abbrev pub IsLineShown : (List ℕ → Screen → Screen → Type 0) → Output → Screen → List ℕ → Screen → Observed → Observed → Option DisplayEnd → Type 0
 IsLineShown calls o old line new k now None = length line ≤ limit → (text : List ℕ) × ShowsLine calls o line old new text × Traced k now text
-IsLineShown calls o old line new k now (Some ends.WriteFault) = length line ≤ limit → (text : List ℕ) × ShowsLine calls o line old new text × WriteFailed k now text
+IsLineShown calls o old line new k now (Some ends.WriteFault) = length line ≤ limit →
+    (text : List ℕ) × ShowsLine calls o line old new text × WriteFailed k now text
 IsLineShown calls o old line new k now (Some ends.NoMemory) = (now ≡ k) × (0 < length line)
 IsLineShown calls o old line new k now (Some end) = ⊥
 
@@ -53,7 +55,8 @@ IsAdded old byte new (Some end) = ⊥
 -- ---- a session
 
 -- a session from its start up to some byte of what was read
-pub record SessionReached (calls : List ℕ → Screen → Screen → Type 0) (o : Output) (t now : Observed) (all : List (List ℕ)) (before after line : List ℕ)
+pub record SessionReached (calls : List ℕ → Screen → Screen → Type 0) (o : Output) (t now : Observed)
+    (all : List (List ℕ)) (before after line : List ℕ)
     (screen : Screen) : Type 0 where
   pub lines : List (List ℕ)
   pub trace : List ℕ
@@ -88,12 +91,14 @@ Ends calls o t now ends.WriteFault = HasBroken calls o t now
 Ends calls o t now end = HasEnded calls o t now end
 
 -- the result of a session after some bytes
-abbrev pub Goes : (List ℕ → Screen → Screen → Type 0) → Output → Observed → Observed → List (List ℕ) → List ℕ → List ℕ → List ℕ → Screen → Option DisplayEnd → Type 0
+abbrev pub Goes : (List ℕ → Screen → Screen → Type 0) → Output → Observed → Observed →
+    List (List ℕ) → List ℕ → List ℕ → List ℕ → Screen → Option DisplayEnd → Type 0
 Goes calls o t now all before after line screen None = SessionReached calls o t now all before after line screen
 Goes calls o t now all before after line screen (Some end) = Ends calls o t now end
 
 -- some bytes of a read are handled, whatever came before them
-abbrev pub Feeds : (List ℕ → Screen → Screen → Type 0) → Output → List ℕ → List ℕ → Screen → List ℕ → Screen → Observed → Observed → Option DisplayEnd → Type 0
+abbrev pub Feeds : (List ℕ → Screen → Screen → Type 0) → Output →
+    List ℕ → List ℕ → Screen → List ℕ → Screen → Observed → Observed → Option DisplayEnd → Type 0
 Feeds calls o bytes line old begun new k now result = (t : Observed) (all : List (List ℕ)) (before after : List ℕ) →
     SessionReached calls o t k all before (bytes ++ after) line old → Goes calls o t now all (before ++ bytes) after begun new result
 
@@ -108,12 +113,14 @@ GoesOn calls o t now all line screen None =
     (bytes : List ℕ) × SessionReached calls o t now (all ++ bytes ∷ []) (concat (all ++ bytes ∷ [])) [] line screen
 GoesOn calls o t now all line screen (Some end) = Ends calls o t now end
 
-abbrev pub IsIterated : (List ℕ → Screen → Screen → Type 0) → Output → List ℕ → Screen → List ℕ → Screen → Observed → Observed → Option DisplayEnd → Type 0
+abbrev pub IsIterated : (List ℕ → Screen → Screen → Type 0) → Output →
+    List ℕ → Screen → List ℕ → Screen → Observed → Observed → Option DisplayEnd → Type 0
 IsIterated calls o line old begun new k now result = (t : Observed) (all : List (List ℕ)) →
     SessionReached calls o t k all (concat all) [] line old → GoesOn calls o t now all begun new result
 
 -- a session that waits after `count` reads
-pub record HasRead (calls : List ℕ → Screen → Screen → Type 0) (o : Output) (t now : Observed) (count : ℕ) (line : List ℕ) (screen : Screen) : Type 0 where
+pub record HasRead (calls : List ℕ → Screen → Screen → Type 0) (o : Output) (t now : Observed) (count : ℕ)
+    (line : List ℕ) (screen : Screen) : Type 0 where
   pub all : List (List ℕ)
   pub counted : length all ≡ count
   pub reached : SessionReached calls o t now all (concat all) [] line screen

@@ -65,7 +65,8 @@ pub record HasStopped (calls : List ℕ → Screen → Screen → Type 0) (o : O
 -- the trace that a run has to write, and the count of I/O errors at its end
 pub data Sending (calls : List ℕ → Screen → Screen → Type 0) (o : Output) (before : ℕ) : List ℕ → ℕ → Type 0 where
   enters : Sending calls o before enter_text before
-  shows : (all lines : List (List ℕ)) (screen : Screen) (trace sent : List ℕ) → Session calls o all lines screen trace sent → Sending calls o before trace before
+  shows : (all lines : List (List ℕ)) (screen : Screen) (trace sent : List ℕ) →
+      Session calls o all lines screen trace sent → Sending calls o before trace before
   leaves : (end : DisplayEnd) (trace : List ℕ) (now : ℕ) → HasStopped calls o end trace before now → Sending calls o before trace now
 
 -- A run of a display on a terminal. A session stopped; or a write failed, and the trace is a proper prefix of it; or
@@ -73,6 +74,7 @@ pub data Sending (calls : List ℕ → Screen → Screen → Type 0) (o : Output
 pub data IsDisplayRun (calls : List ℕ → Screen → Screen → Type 0) (o : Output) (old new : Observed) : DisplayEnd → Type 0 where
   whole : (end : DisplayEnd) (trace : List ℕ) → HasStopped calls o end trace old.io_errors new.io_errors → Appends old.bytes new.bytes trace
       → IsDisplayRun calls o old new end
-  cut : (trace : List ℕ) (io_errors : ℕ) → Sending calls o old.io_errors trace io_errors → TakesPrefix old.bytes new.bytes trace → Rose io_errors new.io_errors
+  cut : (trace : List ℕ) (io_errors : ℕ) → Sending calls o old.io_errors trace io_errors →
+      TakesPrefix old.bytes new.bytes trace → Rose io_errors new.io_errors
       → IsDisplayRun calls o old new WriteFault
   nothing : new ≡ old → IsDisplayRun calls o old new NoMemory

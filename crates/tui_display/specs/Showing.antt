@@ -25,7 +25,8 @@ pub record IsScreenShown (o : Output) (screen : Screen) (commands : List Command
 -- The screen after these lines. The bytes written are `enter_text`, and then commands: `earlier` ones, and those from
 -- the last screen on that was sent in full. A terminal that had room for that screen when these began shows what the
 -- last line called for, whatever it showed before.
-pub record AreLinesPresent (calls : List ℕ → Screen → Screen → Type 0) (o : Output) (lines : List (List ℕ)) (screen : Screen) (sent : List ℕ) : Type 0 where
+pub record AreLinesPresent (calls : List ℕ → Screen → Screen → Type 0) (o : Output) (lines : List (List ℕ))
+    (screen : Screen) (sent : List ℕ) : Type 0 where
   pub follows : Follows calls lines screen
   pub earlier : List Command
   pub commands : List Command

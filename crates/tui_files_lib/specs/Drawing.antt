@@ -90,7 +90,9 @@ pub record ShowsCursor (filter_text : TypedText) (screen : Screen) (place : Opti
 
 -- while the filter is typed; otherwise there is no cursor, and the filter is unchanged
 pub record DrawsFilter (old : Browser) (screen : Screen) (place : Option Position) (new : Browser) : Type 0 where
-  pub typed : old.is_typing ≡ true → ShowsCursor new.filter_text screen place × (new.filter_text ≡ input_after bare_input (filter_area screen.area) old.filter_text)
+  pub typed : old.is_typing ≡ true →
+      ShowsCursor new.filter_text screen place
+      × (new.filter_text ≡ input_after bare_input (filter_area screen.area) old.filter_text)
   pub other : old.is_typing ≡ false → (place ≡ None) × (new.filter_text ≡ old.filter_text)
 
 -- The names and the filter are drawn if there is room. Of the browser only these change: the list's state; the length

@@ -51,11 +51,13 @@ pub record NamesAreSeen (b : Browser) (screen : Screen) : Type 0 where
 
 -- The terminal shows the screen that was drawn last. If that screen has room, it shows the names, and the cursor of the
 -- filter while it is typed. Otherwise it shows `too small`.
-pub record IsOnScreen {F : Type 0} (lists : F → Lists) (o : Output) (begin : FilesApp F) (area : Rect) (state : LoopState (FilesApp F)) (reads : List (List ℕ))
+pub record IsOnScreen {F : Type 0} (lists : F → Lists) (o : Output) (begin : FilesApp F) (area : Rect)
+    (state : LoopState (FilesApp F)) (reads : List (List ℕ))
     (sent : List ℕ) : Type 0 where
   pub present : IsPresent (files F lists) o begin area state reads sent
   pub names : has_room state.screen.area ≡ true → NamesAreSeen state.app.browser state.screen
-  pub cursor : has_room state.screen.area ≡ true → state.app.browser.is_typing ≡ true → ShowsCursor state.app.browser.filter_text state.screen state.place
+  pub cursor : has_room state.screen.area ≡ true → state.app.browser.is_typing ≡ true →
+      ShowsCursor state.app.browser.filter_text state.screen state.place
   pub other : has_room state.screen.area ≡ false → DrawsTooSmall state.screen
 
 -- holds whenever a session of a browser waits for input

@@ -76,7 +76,8 @@ is_wanted hidden filter_text text = (hidden || not (is_hidden text)) && contains
 
 -- the indices of these names in a listing
 abbrev pub is_wanted_at : Bool → List ℕ → List Name → ℕ → Bool
-is_wanted_at hidden filter_text names place = unwrap_or (option_map (λ name. is_wanted hidden filter_text (string_bytes name.text)) (slice_get names place)) false
+is_wanted_at hidden filter_text names place =
+    unwrap_or (option_map (λ name. is_wanted hidden filter_text (string_bytes name.text)) (slice_get names place)) false
 
 abbrev pub wanted_places : Bool → List ℕ → List Name → List ℕ
 wanted_places hidden filter_text names = filter (is_wanted_at hidden filter_text names) (range_with_len 0 (length names))

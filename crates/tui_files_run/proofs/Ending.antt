@@ -1,5 +1,5 @@
 -- How runs end: what is left alone, and what is written at last.
-use Rattle.std.proofs.Common.{◌≡◌, ℕ, Bool, List, [], Option, None, Some, Result, Err, refl, sym, subst, inl}
+use Rattle.std.proofs.Common.{◌≡◌, ℕ, Bool, List, Option, None, Some, Result, Err, refl, sym, subst}
 use Rattle.tui_app.specs.declared.outcome.AppEnd.{AppEnd}
 use Rattle.tui_app.specs.declared.outcome.AppEnd.TheVariants as ends
 use Rattle.tui_files_lib.specs.Browsing.{Lists}
@@ -8,9 +8,8 @@ use Rattle.tui_files_run.specs.Browsing.{BeginsIn, BeginsOrStops, Paths, first_f
 use Rattle.tui_files_run.specs.Chosen.{EndsChoosing, EndsWriting}
 use Rattle.tui_files_run.specs.Ends.{EndsBrowsing, EndsWith, Readies, begun, cannot_begin, cannot_open, out_of_memory, without_memory}
 use Rattle.tui_files_run.specs.declared.arguments.FilesCommand.{FilesCommand}
-use Rattle.tui_io.proofs.Outside.{Appends-none, Keeps-self}
-use Rattle.tui_io.specs.Causes.{Observed, WritesAll}
-use Rattle.tui_program.specs.Stops.{Tells}
+use Rattle.tui_io.proofs.Outside.{Keeps-self}
+use Rattle.tui_io.specs.Causes.{Observed}
 use Rattle.tui_program.specs.Transcript.{Unwritten}
 use Rattle.tui_program.specs.declared.stop.Stop.{Stop}
 use Rattle.tui_program.specs.declared.stop.Stop.TheVariants as stop
@@ -26,29 +25,22 @@ untouched t = record { held = Keeps-self t.bytes; quiet = refl }
 pub untouched_same : (old new : Observed) → new ≡ old → Unwritten old new
 untouched_same old new is = subst (λ (t : Observed). Unwritten old t) (sym is) (untouched old)
 
--- memory ran out before anything changed
-pub ends_without_memory : (old new : Observed) → new ≡ old → Tells {R = Unit {0}} [] stop.NoMemory old new stop.NoMemory
-ends_without_memory old new same =
-    let nothing : WritesAll old old [] = record { sent = Appends-none old.bytes; cause = refl } in
-    inl (refl, subst (λ (t : Observed). WritesAll old t []) (sym same) nothing)
-
 -- a browser of the folder
-pub ends_begun : (F : Type 0) (lists : F → Lists) (given : Given) (paths : Paths) (old terminal new chosen chosen_then : Observed) (opened : PlaceData → Type 0)
-    (command named : FilesCommand) (begin : FilesApp F) (e : Result Left (Stop (Unit {0}))) → terminal ≡ old →
+pub ends_begun : (F : Type 0) (lists : F → Lists) (given : Given) (paths : Paths) (old new chosen chosen_then : Observed) (opened : PlaceData → Type 0)
+    (command named : FilesCommand) (begin : FilesApp F) (e : Result Left (Stop (Unit {0}))) →
     (named ≡ command) × BeginsIn paths (first_folder command.folder) begin →
-    EndsBrowsing F lists given paths.is_folder terminal new chosen chosen_then opened named begin e →
+    EndsBrowsing F lists given paths.is_folder old new chosen chosen_then opened named begin e →
     EndsWith F lists given paths old new chosen chosen_then opened command e
-ends_begun F lists given paths old terminal new chosen chosen_then opened command named begin e same begins h =
-    let at_first = subst (λ (t : Observed). EndsBrowsing F lists given paths.is_folder t new chosen chosen_then opened named begin e) same h in
-    begun begin e begins.1 (subst (λ (n : FilesCommand). EndsBrowsing F lists given paths.is_folder old new chosen chosen_then opened n begin e) begins.0 at_first)
+ends_begun F lists given paths old new chosen chosen_then opened command named begin e begins h =
+    begun begin e begins.1 (subst (λ (n : FilesCommand). EndsBrowsing F lists given paths.is_folder old new chosen chosen_then opened n begin e) begins.0 h)
 
 -- a folder that can't be read
-pub ends_unbegun : (F : Type 0) (lists : F → Lists) (given : Given) (paths : Paths) (old new chosen : Observed) (opened : PlaceData → Type 0) (command : FilesCommand)
-    (stopped : Stop (Unit {0})) → new ≡ old → BeginsOrStops {F = F} paths command (Err stopped) →
-    EndsWith F lists given paths old new chosen chosen opened command (Err stopped)
-ends_unbegun F lists given paths old new chosen opened command stop.ReadFault same cannot = cannot_begin cannot (untouched_same old new same) (untouched chosen)
-ends_unbegun F lists given paths old new chosen opened command stop.NoMemory same h = without_memory (untouched_same old new same) (untouched chosen)
-ends_unbegun F lists given paths old new chosen opened command other same h = absurd h
+pub ends_unbegun : (F : Type 0) (lists : F → Lists) (given : Given) (paths : Paths) (old chosen : Observed) (opened : PlaceData → Type 0) (command : FilesCommand)
+    (stopped : Stop (Unit {0})) → BeginsOrStops {F = F} paths command (Err stopped) →
+    EndsWith F lists given paths old old chosen chosen opened command (Err stopped)
+ends_unbegun F lists given paths old chosen opened command stop.ReadFault cannot = cannot_begin cannot (untouched old) (untouched chosen)
+ends_unbegun F lists given paths old chosen opened command stop.NoMemory h = without_memory (untouched old) (untouched chosen)
+ends_unbegun F lists given paths old chosen opened command other h = absurd h
 
 -- a destination that can't be opened
 pub ends_unopened : (F : Type 0) (lists : F → Lists) (given : Given) (is_folder : List ℕ → Bool → Type 0) (old chosen chosen_then : Observed)

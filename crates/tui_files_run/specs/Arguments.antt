@@ -20,7 +20,8 @@ BeginOtherwise (word ∷ rest) = string_bytes word ≢ codes "--folder"
 -- `--folder`, if the path of a folder is wanted, and then FOLDER and CHOSEN
 abbrev pub AreNamed : Bool → Option (String Global) → Option (String Global) → List (String Global) → Type 0
 AreNamed true folder chosen arguments =
-    (word : String Global) × (rest : List (String Global)) × (arguments ≡ word ∷ rest) × (string_bytes word ≡ codes "--folder") × ArePaths folder chosen rest
+    (word : String Global) × (rest : List (String Global)) × (arguments ≡ word ∷ rest)
+    × (string_bytes word ≡ codes "--folder") × ArePaths folder chosen rest
 AreNamed false folder chosen arguments = BeginOtherwise arguments × ArePaths folder chosen arguments
 
 abbrev pub Name : FilesCommand → List (String Global) → Type 0
@@ -34,7 +35,8 @@ few_paths (Some folder) None arguments are = omega (arith, ap length are)
 few_paths (Some folder) (Some chosen) arguments are = omega (arith, ap length are)
 few_paths None (Some chosen) arguments are = absurd are
 
-few_named : (wants_folder : Bool) (folder chosen : Option (String Global)) (arguments : List (String Global)) → AreNamed wants_folder folder chosen arguments →
+few_named : (wants_folder : Bool) (folder chosen : Option (String Global)) (arguments : List (String Global)) →
+    AreNamed wants_folder folder chosen arguments →
     length arguments ≤ most_arguments
 few_named true folder chosen arguments named = omega (arith, ap length named.2, few_paths folder chosen named.1 named.4)
 few_named false folder chosen arguments named = omega (arith, few_paths folder chosen arguments named.1)

@@ -1,5 +1,5 @@
 -- How a run ends, and why.
-use Rattle.std.specs.Prelude.{◌≡◌, ◌⊎◌, ℕ, Bool, List, [], Option, Some, Result, Ok, Err}
+use Rattle.std.specs.Prelude.{◌≡◌, ℕ, Bool, List, Option, Some, Result, Ok, Err}
 use Rattle.tui_app.specs.Run.{IsAppRun}
 use Rattle.tui_app.specs.declared.outcome.AppEnd.{AppEnd}
 use Rattle.tui_cells.specs.Rect.{area_of}
@@ -16,16 +16,13 @@ use Rattle.tui_program.specs.Transcript.{Unwritten}
 use Rattle.tui_program.specs.declared.stop.Stop.{Stop}
 use Rattle.tui_program.specs.declared.stop.Stop.TheVariants as stop
 use Rattle.tui_system.specs.Commands.{IsCommand}
-use Rattle.tui_system.specs.Destination.{CannotOpen}
+use Rattle.tui_system.specs.Opening.{CannotOpen, EndsOpening}
 use Rattle.tui_system.specs.Places.{IsPlaceFor, PlaceData}
+use Rattle.tui_system.specs.RejectsNothing.{no_line}
 use Rattle.tui_system.specs.Setting.{AreSettings}
 use Rattle.tui_system.specs.System.{Given}
 use Rattle.tui_system.specs.declared.left.Left.{Left}
 use Rattle.tui_system.specs.declared.settings.Setting.{Setting}
-
--- no value is rejected
-abbrev pub no_line : Unit {0} → List ℕ
-no_line refusal = []
 
 -- a destination is unchanged, and open at a place, if there is one; or it could not be opened, or memory ran out
 abbrev pub Readies : Observed → Observed → (PlaceData → Type 0) → Option PlaceData → Result (Unit {0}) (Stop (Unit {0})) → Type 0
@@ -44,7 +41,8 @@ pub data EndsBrowsing (F : Type 0) (lists : F → Lists) (given : Given) (is_fol
       EndsBrowsing F lists given is_folder old new chosen chosen_then opened command begin (Err stop.WriteFault)
   out_of_memory : Unwritten old new → Unwritten chosen chosen_then →
       EndsBrowsing F lists given is_folder old new chosen chosen_then opened command begin (Err stop.NoMemory)
-  shown : (setting : Setting) (place : Option PlaceData) (last : FilesApp F) (end : AppEnd) (e : Result Left (Stop (Unit {0}))) → AreSettings given setting →
+  shown : (setting : Setting) (place : Option PlaceData) (last : FilesApp F) (end : AppEnd)
+      (e : Result Left (Stop (Unit {0}))) → AreSettings given setting →
       IsPlaceFor given command.chosen place → ((p : PlaceData) → place ≡ Some p → opened p) →
       IsAppRun (files F lists) setting.output begin (area_of 0 0 setting.size.width setting.size.height) old new last end →
       EndsChoosing (IsChosen is_folder command.wants_folder (chosen_path last.browser)) place end chosen chosen_then e →
@@ -52,7 +50,8 @@ pub data EndsBrowsing (F : Type 0) (lists : F → Lists) (given : Given) (is_fol
 
 -- How a run of a command ends. The folder can't be read, or memory runs out, and the terminal is not entered. Or there is
 -- a browser of the folder.
-pub data EndsWith (F : Type 0) (lists : F → Lists) (given : Given) (paths : Paths) (old new chosen chosen_then : Observed) (opened : PlaceData → Type 0)
+pub data EndsWith (F : Type 0) (lists : F → Lists) (given : Given) (paths : Paths)
+    (old new chosen chosen_then : Observed) (opened : PlaceData → Type 0)
     (command : FilesCommand) : Result Left (Stop (Unit {0})) → Type 0 where
   cannot_begin : CannotBegin paths (first_folder command.folder) → Unwritten old new → Unwritten chosen chosen_then →
       EndsWith F lists given paths old new chosen chosen_then opened command (Err stop.ReadFault)
@@ -68,7 +67,14 @@ abbrev pub EndsAfter : (F : Type 0) → (F → Lists) → Given → Paths → Ob
 EndsAfter F lists given paths old new chosen chosen_then opened (Ok command) e = EndsWith F lists given paths old new chosen chosen_then opened command e
 EndsAfter F lists given paths old new chosen chosen_then opened (Err stopped) e = EndsStopped no_line stopped old new e × Unwritten chosen chosen_then
 
--- how a run on a system ends; memory may run out before its arguments are known
-abbrev pub Ends : (F : Type 0) → (F → Lists) → Given → Paths → Observed → Observed → Observed → Observed → (PlaceData → Type 0) → Result Left (Stop (Unit {0})) → Type 0
-Ends F lists given paths old new chosen chosen_then opened e = (x : Result FilesCommand (Stop (Unit {0})))
-    × (IsCommand given Name x ⊎ (x ≡ Err stop.NoMemory)) × EndsAfter F lists given paths old new chosen chosen_then opened x e
+-- how a run ends whose terminal is open
+abbrev pub EndsOn : (F : Type 0) → (F → Lists) → Given → Paths → Observed → Observed → Observed → Observed →
+    (PlaceData → Type 0) → Result Left (Stop (Unit {0})) → Type 0
+EndsOn F lists given paths old new chosen chosen_then opened e = (x : Result FilesCommand (Stop (Unit {0})))
+    × IsCommand given Name x × EndsAfter F lists given paths old new chosen chosen_then opened x e
+
+-- how a run on a system ends; `ready` is that the terminal could be opened
+abbrev pub Ends : (F : Type 0) → (F → Lists) → Given → Paths → Type 0 → Observed → Observed → Observed → Observed →
+    (PlaceData → Type 0) → Result Left (Stop (Unit {0})) → Type 0
+Ends F lists given paths ready old new chosen chosen_then opened e =
+    EndsOpening ready old new (chosen_then ≡ chosen) (EndsOn F lists given paths old new chosen chosen_then opened) e

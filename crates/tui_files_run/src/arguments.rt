@@ -5,8 +5,6 @@ ghost use Rattle.tui_files_run.specs.Arguments.{ArePaths};
 
 use arrayvec::{ArrayVec, IntoIter};
 use std::alloc::Global;
-use tui_io::{Sink, WriteFault};
-use tui_program::Rejects;
 use tui_system::SystemCommand;
 
 /// What the arguments name: `--folder`, FOLDER and CHOSEN, in this order, of which each but FOLDER before CHOSEN may be
@@ -66,18 +64,5 @@ fn with_chosen(
             chosen,
         }),
         Some(_) => None,
-    }
-}
-
-/// The program rejects no value.
-impl Rejects for FilesCommand {
-    ghost use Rattle.tui_files_run.specs.Ends.{no_line};
-
-    type Refusal = ();
-
-    ghost line = { no_line };
-
-    fn reject<K: Sink>(_refusal: (), _sink: &mut K) -> Result<(), WriteFault> {
-        Ok(())
     }
 }

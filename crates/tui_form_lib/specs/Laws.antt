@@ -44,7 +44,8 @@ pub record FocusIsSeen (f : FormData) (screen : Screen) (place : Option Position
   pub cells : (x y : ℕ) → covers screen.area x y ≡ true → cell_at screen x y ≡ Some (layers_at (form_layers f screen.area) x y blank)
   pub focused : 0 < length f.fields → IsSeen (heights_of (form_list f).items) (inside f screen.area).height f.offset f.focus
   pub place_is : place ≡ cursor_over (focused_row f screen.area) f.fields f.focus
-  pub cursor : (text : TypedText) (is_masked : Bool) → focused_value f ≡ Some (typed_value text is_masked) → IsShownIn (focused_row f screen.area) place
+  pub cursor : (text : TypedText) (is_masked : Bool) → focused_value f ≡ Some (typed_value text is_masked) →
+      IsShownIn (focused_row f screen.area) place
 
 -- The terminal shows the screen that was drawn last, of the form that all events led to. If that screen has room the
 -- focused field is visible; otherwise it shows `too small`. If there are fields, one of them has the focus.

@@ -37,7 +37,8 @@ still_reported fields reported =
 
 -- a form whose focused field has taken an event
 abbrev pub taken : FormData → Event → FormData
-taken f event = let fields = changed_at (field_after event) f.focus f.fields in record f { fields = fields; reported = still_reported fields f.reported }
+taken f event = let fields = changed_at (field_after event) f.focus f.fields in
+    record f { fields = fields; reported = still_reported fields f.reported }
 
 -- ---- the other events
 

@@ -41,9 +41,8 @@ pub ends_stopped : (old terminal new answers answers_then : Observed) (stopped e
 ends_stopped old terminal new answers answers_then stopped e same still h =
     (subst (λ (o : Observed). Tells (line_of refusal_line stopped) stopped o new e) same h, untouched_same answers answers_then still)
 
--- a form that is asked with on a terminal that was opened
-pub ends_with : (given : Given) (old terminal new answers answers_then : Observed) (opened : PlaceData → Type 0) (input asked : Asked) (e : Result FormLeft (Stop BadForm)) →
-    terminal ≡ old → input ≡ asked → EndsWithForm given terminal new answers answers_then opened asked e → EndsWithForm given old new answers answers_then opened input e
-ends_with given old terminal new answers answers_then opened input asked e same is h =
-    subst (λ (o : Observed). EndsWithForm given o new answers answers_then opened input e) same
-    (subst (λ (a : Asked). EndsWithForm given terminal new answers answers_then opened a e) (sym is) h)
+-- a form that is asked with
+pub ends_with : (given : Given) (old new answers answers_then : Observed) (opened : PlaceData → Type 0) (input asked : Asked) (e : Result FormLeft (Stop BadForm)) →
+    input ≡ asked → EndsWithForm given old new answers answers_then opened asked e → EndsWithForm given old new answers answers_then opened input e
+ends_with given old new answers answers_then opened input asked e is h =
+    subst (λ (a : Asked). EndsWithForm given old new answers answers_then opened a e) (sym is) h

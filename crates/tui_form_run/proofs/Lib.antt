@@ -5,3 +5,4 @@ pub mod Taken
 pub mod Choosing
 pub mod Meant
 pub mod Ending
+pub mod Explained

@@ -20,7 +20,7 @@ use Rattle.tui_program.specs.Transcript.{Unwritten}
 use Rattle.tui_program.specs.declared.stop.Stop.{Stop}
 use Rattle.tui_program.specs.declared.stop.Stop.TheVariants as stop
 use Rattle.tui_system.specs.Commands.{ComesTo}
-use Rattle.tui_system.specs.Destination.{CannotOpen}
+use Rattle.tui_system.specs.Opening.{CannotOpen, EndsOpening}
 use Rattle.tui_system.specs.Places.{IsPlaceFor, PlaceData, errors}
 use Rattle.tui_system.specs.Setting.{AreSettings}
 use Rattle.tui_system.specs.System.{Given}
@@ -56,20 +56,31 @@ or_errors (Some place) = place
 -- `answers_then` of the destination of the answers; `opened` is that it could be opened at a place, with the content
 -- from before. The destination can't be opened, and the terminal is not entered; or it is open, the form is shown, the
 -- terminal is left, and then the answers are written; or memory ran out before the terminal was entered.
-pub data EndsWithForm (given : Given) (old new answers answers_then : Observed) (opened : PlaceData → Type 0) (asked : Asked) : Result FormLeft (Stop BadForm) → Type 0 where
-  cannot_open : Unwritten old new → CannotOpen answers answers_then → EndsWithForm given old new answers answers_then opened asked (Err stop.WriteFault)
-  out_of_memory : Unwritten old new → Unwritten answers answers_then → EndsWithForm given old new answers answers_then opened asked (Err stop.NoMemory)
-  shown : (setting : Setting) (place : Option PlaceData) (begin last : code.Form) (end : AppEnd) (e : Result FormLeft (Stop BadForm)) → AreSettings given setting →
+pub data EndsWithForm (given : Given) (old new answers answers_then : Observed) (opened : PlaceData → Type 0)
+    (asked : Asked) : Result FormLeft (Stop BadForm) → Type 0 where
+  cannot_open : Unwritten old new → CannotOpen answers answers_then →
+      EndsWithForm given old new answers answers_then opened asked (Err stop.WriteFault)
+  out_of_memory : Unwritten old new → Unwritten answers answers_then →
+      EndsWithForm given old new answers answers_then opened asked (Err stop.NoMemory)
+  shown : (setting : Setting) (place : Option PlaceData) (begin last : code.Form) (end : AppEnd)
+      (e : Result FormLeft (Stop BadForm)) → AreSettings given setting →
       IsPlaceFor given asked.files.answers place → opened (or_errors place) → form_data begin ≡ asked.form →
       IsAppRun form_behaviour setting.output begin (area_of 0 0 setting.size.width setting.size.height) old new last end →
       EndsAnswering (form_data last) end answers answers_then e → EndsWithForm given old new answers answers_then opened asked e
 
 -- how a run ends that came to this: with a form; or it was stopped, and nothing is written as answers
-abbrev pub EndsAfter : Given → Observed → Observed → Observed → Observed → (PlaceData → Type 0) → Result Asked (Stop BadForm) → Result FormLeft (Stop BadForm) → Type 0
+abbrev pub EndsAfter : Given → Observed → Observed → Observed → Observed → (PlaceData → Type 0) →
+    Result Asked (Stop BadForm) → Result FormLeft (Stop BadForm) → Type 0
 EndsAfter given old new answers answers_then opened (Ok asked) e = EndsWithForm given old new answers answers_then opened asked e
 EndsAfter given old new answers answers_then opened (Err stopped) e = EndsStopped refusal_line stopped old new e × Unwritten answers answers_then
 
--- how a run on a system ends
-abbrev pub Ends : Given → Observed → Observed → Observed → Observed → (PlaceData → Type 0) → Result FormLeft (Stop BadForm) → Type 0
-Ends given old new answers answers_then opened e =
+-- how a run ends whose terminal is open
+abbrev pub EndsOn : Given → Observed → Observed → Observed → Observed → (PlaceData → Type 0) → Result FormLeft (Stop BadForm) → Type 0
+EndsOn given old new answers answers_then opened e =
     (x : Result Asked (Stop BadForm)) × ComesTo given form_reader x × EndsAfter given old new answers answers_then opened x e
+
+-- how a run on a system ends; `ready` is that the terminal could be opened
+abbrev pub Ends : Given → Type 0 → Observed → Observed → Observed → Observed → (PlaceData → Type 0) →
+    Result FormLeft (Stop BadForm) → Type 0
+Ends given ready old new answers answers_then opened e =
+    EndsOpening ready old new (answers_then ≡ answers) (EndsOn given old new answers answers_then opened) e

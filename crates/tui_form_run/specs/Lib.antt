@@ -1,6 +1,7 @@
 pub mod Kinds
 pub mod Refusals
 pub mod Input
+pub mod Faults
 pub mod Filled
 pub mod Answers
 pub mod Arguments

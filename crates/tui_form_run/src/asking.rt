@@ -18,11 +18,11 @@ use tui_app::{AppEnd, Terminal};
 use tui_form_lib::Form;
 use tui_io::Failed;
 use tui_program::{Outcome, Stop};
-use tui_system::{Console, Destination, Place, System, place_for, setting};
+use tui_system::{Destination, Place, System, place_for, setting};
 
 /// Asks the user with the form that the arguments name. If the run is stopped before, nothing is written to the terminal
 /// or as answers.
-pub(crate) fn ask_by_file<S: System, T: Console, A: Destination>(
+pub(crate) fn ask_by_file<S: System, T: Terminal, A: Destination>(
     system: &S,
     terminal: &mut T,
     answers: &mut A,
@@ -33,7 +33,6 @@ pub(crate) fn ask_by_file<S: System, T: Console, A: Destination>(
     ensures terminal { OnErr result (T.observed terminal.new ≡ T.observed terminal.old) }
     ensures answers { OnErr result (answers.new ≡ answers.old) }
 {
-    terminal.open()?;
     let asked = read_form(system)?;
     Ok(ask(system, asked, terminal, answers))
 }

@@ -6,7 +6,7 @@ use tui_cells::ParseError;
 use tui_json::Named;
 
 /// The kind of a field.
-#[derive(Clone, Copy, Debug, PartialEq, Eq)]
+#[derive(Clone, Copy, Debug, Drop, PartialEq, Eq)]
 pub enum FieldKind {
     /// A text that is typed.
     Text,
@@ -42,4 +42,9 @@ impl Named<FormKey> for FieldKind {
     ghost names = { kinds };
 
     ghost reads = { reads_named kinds };
+
+    #[tactic(auto, unfolding(tui_json::specs::Named::listed_names))]
+    fn listed() -> &'static str {
+        "`text`, `choice` or `check`"
+    }
 }

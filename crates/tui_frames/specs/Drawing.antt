@@ -36,7 +36,8 @@ block_drawing b = record {
 }
 
 -- a widget that may have a block, without a style of its own, which shows its strokes
-abbrev pub in_block_drawing : Option BlockData → (content : Rect → List Layer) → Type 0 → ((area : Rect) → StayIn (covers area) (content area)) → Drawing
+abbrev pub in_block_drawing : Option BlockData → (content : Rect → List Layer) → Type 0 →
+    ((area : Rect) → StayIn (covers area) (content area)) → Drawing
 in_block_drawing block content allocation_free stays = record {
   layers = in_block_layers block content;
   footprint = footprint_if block;

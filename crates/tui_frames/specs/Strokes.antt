@@ -93,7 +93,8 @@ strip_of b c position = columns_from (row_of c (row_at c position)) (left_edge b
 
 -- a title in a part of the clip: the title style, and then the line
 abbrev pub title_layers : BlockData → Rect → Rect → Alignment → LineData → List Layer
-title_layers b c part alignment t = stroke (covers (intersection_of c part)) (set_style b.title_style) ++ row_layers (intersection_of c part) alignment t
+title_layers b c part alignment t = stroke (covers (intersection_of c part)) (set_style b.title_style)
+    ++ row_layers (intersection_of c part) alignment t
 
 -- titles from a column of a strip on, one column apart, each as wide as it is or as there is room
 unfoldable pub titles_from : BlockData → Rect → Rect → ℕ → List LineData → List Layer

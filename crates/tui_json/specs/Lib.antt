@@ -1,4 +1,6 @@
 pub mod Constraint
+pub mod Faults
+pub mod Explanation
 pub mod Kinds
 pub mod Members
 pub mod Named

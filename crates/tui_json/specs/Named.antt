@@ -1,5 +1,5 @@
 -- Enums by the names of their variants, and the law that parsing such a name gives the variant.
-use Rattle.std.specs.Prelude.{◌≡◌, ◌≢◌, ℕ, List, [], ◌∷◌, map, Bool, true, false, Option, Some, None, option_and_then, Result, Ok, Err, refl}
+use Rattle.std.specs.Prelude.{◌≡◌, ◌≢◌, ℕ, List, [], ◌∷◌, ◌++◌, codes, map, Bool, true, false, Option, Some, None, option_and_then, Result, Ok, Err, refl}
 use Rattle.std.specs.Result.{result_ok}
 use Rattle.std.specs.Str.{bytes_eq}
 use Rattle.std.proofs.Common.{sym}
@@ -23,6 +23,16 @@ pub record Names (A : Type 0) : Type 0 where
 -- the value of this name
 abbrev pub value_named : {A : Type 0} → Names A → List ℕ → Option A
 value_named names text = first_named names.name names.values text
+
+-- names in words: `a`, `b` or `c`
+abbrev pub quoted_name : List ℕ → List ℕ
+quoted_name name = codes "`" ++ (name ++ codes "`")
+
+unfoldable pub listed_names : List (List ℕ) → List ℕ
+listed_names [] = []
+listed_names (a ∷ []) = quoted_name a
+listed_names (a ∷ b ∷ []) = quoted_name a ++ (codes " or " ++ quoted_name b)
+listed_names (a ∷ b ∷ c ∷ rest) = quoted_name a ++ (codes ", " ++ listed_names (b ∷ c ∷ rest))
 
 -- the value whose name this string is
 abbrev pub named_of : {A : Type 0} → Names A → Data → Option A

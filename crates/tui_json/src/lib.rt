@@ -3,6 +3,9 @@
 
 mod array;
 mod constraint;
+mod explains;
+mod explanation;
+mod fault;
 mod fields;
 mod input_error;
 mod kind;
@@ -13,9 +16,16 @@ mod numbered;
 mod object;
 mod plain;
 mod text;
+mod wanted;
 
 pub use array::{Counted, each, elements};
 pub use constraint::constraint_of;
+pub use explains::{
+    Explains, elements_fault, fault_of, inside_at, items_fault, member_fault,
+    optional_member_fault, value_at,
+};
+pub use explanation::explain;
+pub use fault::{Fault, Step, inside};
 pub use fields::{Fields, any_member, error_at, given, optional, required};
 pub use input_error::InputError;
 pub use kind::{Kind, KindError};
@@ -25,3 +35,4 @@ pub use number::Within;
 pub use numbered::{Numbered, each_numbered};
 pub use object::{Object, Objects};
 pub use text::Short;
+pub use wanted::Wanted;

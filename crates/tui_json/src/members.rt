@@ -6,12 +6,16 @@ ghost use Rattle.serde_json.specs.View.{view};
 ghost use Rattle.tui_json.specs.Kinds.{Reads};
 ghost use Rattle.tui_json.specs.Members.{given_member, member, optional_member, or_null, unless_null};
 
+use crate::explains::Explains;
+use crate::fault::Fault;
 use crate::kind::{Kind, KindError};
+use crate::wanted::Wanted;
 use serde_json::Value;
 use std::alloc::Global;
+use tui_cells::Mem;
 
 /// Returns the member of this name, if it is there and not null.
-fn present<'v>(value: &'v Value, name: &str) -> Option<&'v Value>
+pub(crate) fn present<'v>(value: &'v Value, name: &str) -> Option<&'v Value>
     ensures { option_map (λ v. view v.now) result ≡ option_and_then unless_null (get name.now (view value.now)) }
 {
     value.get(name).filter(|member| !member.is_null())
@@ -76,5 +80,20 @@ impl<'v, F, T: Kind<'v, F>> Kind<'v, F> for Option<T> {
         } else {
             Ok(Some(T::read(alloc, value)?))
         }
+    }
+}
+
+/// Null is a value of this kind too, which the words leave out.
+impl<'v, F, T: Explains<'v, F>> Explains<'v, F> for Option<T> {
+    ghost wanted = { T.wanted };
+
+    ghost part_fault = { T.part_fault };
+
+    fn wanted() -> Wanted<'v> {
+        T::wanted()
+    }
+
+    fn part_fault(alloc: Global, value: &'v Value) -> Mem<Option<Fault<'v>>> {
+        T::part_fault(alloc, value)
     }
 }

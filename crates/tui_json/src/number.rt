@@ -4,9 +4,13 @@ ghost use Rattle.std.specs.Prelude.{◌≡◌};
 ghost use Rattle.serde_json.specs.View.{view};
 ghost use Rattle.tui_json.specs.Number.{u16_of, u32_of, within};
 
+use crate::explains::Explains;
+use crate::fault::Fault;
 use crate::kind::{Kind, KindError};
+use crate::wanted::Wanted;
 use serde_json::Value;
 use std::alloc::Global;
+use tui_cells::Mem;
 
 impl<'v, F> Kind<'v, F> for u64 {
     ghost use Rattle.std.specs.Prelude.{ℕ};
@@ -20,6 +24,23 @@ impl<'v, F> Kind<'v, F> for u64 {
 
     fn read(_alloc: Global, value: &'v Value) -> Result<u64, KindError> {
         value.as_u64().ok_or(KindError::WrongKind)
+    }
+}
+
+impl<'v, F> Explains<'v, F> for u64 {
+    ghost use Rattle.std.specs.Prelude.{codes};
+    ghost use Rattle.tui_json.specs.Faults.{no_parts, words};
+
+    ghost wanted = { words (codes "a whole number from 0, below 2^64") };
+
+    ghost part_fault = { no_parts };
+
+    fn wanted() -> Wanted<'v> {
+        Wanted::Words("a whole number from 0, below 2^64")
+    }
+
+    fn part_fault(_alloc: Global, _value: &'v Value) -> Mem<Option<Fault<'v>>> {
+        Ok(None)
     }
 }
 
@@ -59,6 +80,22 @@ impl<'v, F> Kind<'v, F> for u16 {
     }
 }
 
+impl<'v, F> Explains<'v, F> for u16 {
+    ghost use Rattle.tui_json.specs.Faults.{no_parts, number};
+
+    ghost wanted = { number 0 65535 };
+
+    ghost part_fault = { no_parts };
+
+    fn wanted() -> Wanted<'v> {
+        Wanted::Number(0, 65_535)
+    }
+
+    fn part_fault(_alloc: Global, _value: &'v Value) -> Mem<Option<Fault<'v>>> {
+        Ok(None)
+    }
+}
+
 /// A whole number from `LOW` to `HIGH`. Reading it does not allocate.
 #[derive(Drop)]
 pub struct Within<const LOW: u16, const HIGH: u16>(pub u16);
@@ -81,6 +118,22 @@ impl<'v, F, const LOW: u16, const HIGH: u16> Kind<'v, F> for Within<LOW, HIGH> {
     }
 }
 
+impl<'v, F, const LOW: u16, const HIGH: u16> Explains<'v, F> for Within<LOW, HIGH> {
+    ghost use Rattle.tui_json.specs.Faults.{no_parts, number};
+
+    ghost wanted = { number LOW HIGH };
+
+    ghost part_fault = { no_parts };
+
+    fn wanted() -> Wanted<'v> {
+        Wanted::Number(LOW as u64, HIGH as u64)
+    }
+
+    fn part_fault(_alloc: Global, _value: &'v Value) -> Mem<Option<Fault<'v>>> {
+        Ok(None)
+    }
+}
+
 impl<'v, F> Kind<'v, F> for i8 {
     ghost use Rattle.std.specs.Prelude.{ℤ};
     ghost use Rattle.tui_json.specs.Number.{i8_of};
@@ -97,6 +150,23 @@ impl<'v, F> Kind<'v, F> for i8 {
             Some(number) => i8::try_from(number).map_err(|_| KindError::WrongKind),
             None => Err(KindError::WrongKind),
         }
+    }
+}
+
+impl<'v, F> Explains<'v, F> for i8 {
+    ghost use Rattle.std.specs.Prelude.{codes};
+    ghost use Rattle.tui_json.specs.Faults.{no_parts, words};
+
+    ghost wanted = { words (codes "a whole number from -128 to 127") };
+
+    ghost part_fault = { no_parts };
+
+    fn wanted() -> Wanted<'v> {
+        Wanted::Words("a whole number from -128 to 127")
+    }
+
+    fn part_fault(_alloc: Global, _value: &'v Value) -> Mem<Option<Fault<'v>>> {
+        Ok(None)
     }
 }
 
@@ -119,6 +189,23 @@ impl<'v, F> Kind<'v, F> for i16 {
     }
 }
 
+impl<'v, F> Explains<'v, F> for i16 {
+    ghost use Rattle.std.specs.Prelude.{codes};
+    ghost use Rattle.tui_json.specs.Faults.{no_parts, words};
+
+    ghost wanted = { words (codes "a whole number from -32768 to 32767") };
+
+    ghost part_fault = { no_parts };
+
+    fn wanted() -> Wanted<'v> {
+        Wanted::Words("a whole number from -32768 to 32767")
+    }
+
+    fn part_fault(_alloc: Global, _value: &'v Value) -> Mem<Option<Fault<'v>>> {
+        Ok(None)
+    }
+}
+
 impl<'v, F> Kind<'v, F> for i32 {
     ghost use Rattle.std.specs.Prelude.{ℤ};
     ghost use Rattle.tui_json.specs.Number.{i32_of};
@@ -138,6 +225,23 @@ impl<'v, F> Kind<'v, F> for i32 {
     }
 }
 
+impl<'v, F> Explains<'v, F> for i32 {
+    ghost use Rattle.std.specs.Prelude.{codes};
+    ghost use Rattle.tui_json.specs.Faults.{no_parts, words};
+
+    ghost wanted = { words (codes "a signed 32-bit whole number") };
+
+    ghost part_fault = { no_parts };
+
+    fn wanted() -> Wanted<'v> {
+        Wanted::Words("a signed 32-bit whole number")
+    }
+
+    fn part_fault(_alloc: Global, _value: &'v Value) -> Mem<Option<Fault<'v>>> {
+        Ok(None)
+    }
+}
+
 impl<'v, F> Kind<'v, F> for bool {
     ghost use Rattle.std.specs.Prelude.{Bool};
     ghost use Rattle.serde_json.specs.Find.{as_bool};
@@ -150,5 +254,22 @@ impl<'v, F> Kind<'v, F> for bool {
 
     fn read(_alloc: Global, value: &'v Value) -> Result<bool, KindError> {
         value.as_bool().ok_or(KindError::WrongKind)
+    }
+}
+
+impl<'v, F> Explains<'v, F> for bool {
+    ghost use Rattle.std.specs.Prelude.{codes};
+    ghost use Rattle.tui_json.specs.Faults.{no_parts, words};
+
+    ghost wanted = { words (codes "true or false") };
+
+    ghost part_fault = { no_parts };
+
+    fn wanted() -> Wanted<'v> {
+        Wanted::Words("true or false")
+    }
+
+    fn part_fault(_alloc: Global, _value: &'v Value) -> Mem<Option<Fault<'v>>> {
+        Ok(None)
     }
 }

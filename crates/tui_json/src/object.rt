@@ -5,9 +5,13 @@ ghost use Rattle.serde_json.specs.View.{items_view};
 ghost use Rattle.tui_json.specs.Objects.{are_objects};
 
 use crate::array::Counted;
+use crate::explains::{Explains, elements_fault};
+use crate::fault::Fault;
 use crate::kind::{Kind, KindError};
+use crate::wanted::Wanted;
 use serde_json::Value;
 use std::alloc::Global;
+use tui_cells::Mem;
 
 /// A value that is an object. Reading it does not allocate.
 #[derive(Drop)]
@@ -33,6 +37,23 @@ impl<'v, F> Kind<'v, F> for Object<'v> {
     }
 }
 
+impl<'v, F> Explains<'v, F> for Object<'v> {
+    ghost use Rattle.std.specs.Prelude.{codes};
+    ghost use Rattle.tui_json.specs.Faults.{no_parts, words};
+
+    ghost wanted = { words (codes "an object") };
+
+    ghost part_fault = { no_parts };
+
+    fn wanted() -> Wanted<'v> {
+        Wanted::Words("an object")
+    }
+
+    fn part_fault(_alloc: Global, _value: &'v Value) -> Mem<Option<Fault<'v>>> {
+        Ok(None)
+    }
+}
+
 /// The values of an array of at least `LEAST` and at most `MOST` objects. Reading it does not allocate.
 #[derive(Drop)]
 pub struct Objects<'v, const LEAST: usize, const MOST: usize>(pub &'v [Value]);
@@ -55,6 +76,24 @@ impl<'v, F, const LEAST: usize, const MOST: usize> Kind<'v, F> for Objects<'v, L
         } else {
             Err(KindError::WrongKind)
         }
+    }
+}
+
+impl<'v, F, const LEAST: usize, const MOST: usize> Explains<'v, F> for Objects<'v, LEAST, MOST> {
+    ghost use Rattle.std.specs.Prelude.{codes};
+    ghost use Rattle.tui_json.specs.Faults.{elements_fault, fault_of, no_parts, values, words};
+    ghost use Rattle.tui_json.specs.Objects.{object_of};
+
+    ghost wanted = { values LEAST MOST (codes "objects") };
+
+    ghost part_fault = { elements_fault (fault_of object_of (words (codes "an object")) no_parts) };
+
+    fn wanted() -> Wanted<'v> {
+        Wanted::Values(LEAST, MOST, "objects")
+    }
+
+    fn part_fault(alloc: Global, value: &'v Value) -> Mem<Option<Fault<'v>>> {
+        elements_fault::<Object<'v>, F>(alloc, value)
     }
 }
 

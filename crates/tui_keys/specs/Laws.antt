@@ -60,7 +60,8 @@ NulIsATick = (keys : KeyDecoder) (a b : List ℕ) →
 -- two reads have the events of their bytes in one read, unless the end of the first yields an event
 abbrev pub ReadsAreOne : Type 0
 ReadsAreOne = (keys : KeyDecoder) (a b : List ℕ) → events_in (paused (keys_after keys a)) ≡ [] →
-    (events_of_short_read keys a ++ events_of_short_read (keys_after_short_read keys a) b ≡ events_of_short_read keys (a ++ b)) × (keys_after_short_read (keys_after_short_read keys a) b ≡ keys_after_short_read keys (a ++ b))
+    (events_of_short_read keys a ++ events_of_short_read (keys_after_short_read keys a) b ≡ events_of_short_read keys (a ++ b))
+    × (keys_after_short_read (keys_after_short_read keys a) b ≡ keys_after_short_read keys (a ++ b))
 
 -- the numbers and letters of each event are within their bounds
 abbrev pub EventsAreBounded : Type 0

@@ -89,5 +89,6 @@ pub record ListMoves (l : ListData) (inner : Rect) (old new : ListState) : Type 
   pub selected : is_empty inner ≡ false → 0 < length l.items → new.selected ≡ cut_selection (heights_of l.items) old.selected
   pub least : is_empty inner ≡ false → 0 < length l.items →
       IsFirst (heights_of l.items) inner.height old.offset new.selected l.padding new.offset
-  pub seen : is_empty inner ≡ false → 0 < length l.items → (place : ℕ) → new.selected ≡ Some place → slice_index (heights_of l.items) place ≤ inner.height →
+  pub seen : is_empty inner ≡ false → 0 < length l.items → (place : ℕ) → new.selected ≡ Some place →
+      slice_index (heights_of l.items) place ≤ inner.height →
       IsSeen (heights_of l.items) inner.height new.offset place

@@ -69,7 +69,8 @@ gutter_stays l is_selected gutter j (suc n) =
     (gutter_stays l is_selected gutter (j + 1) n)
 
 -- an item stays in its rows
-pub item_stays : (l : ListData) (g : ℕ) (rows : Rect) (is_selected : Bool) (item : ListItemData) → StayIn (covers rows) (item_layers l g rows is_selected item)
+pub item_stays : (l : ListData) (g : ℕ) (rows : Rect) (is_selected : Bool) (item : ListItemData) →
+    StayIn (covers rows) (item_layers l g rows is_selected item)
 unfolding item_layers
 item_stays l g rows is_selected item =
     StayIn-append (dress_stays rows (patched l.style item.style))

@@ -73,7 +73,8 @@ sign_stays : (c : Rect) (at : Position) (symbol : Option (List ℕ)) (style : St
 sign_stays c at None style = StayIn-none
 sign_stays c at (Some text) style = set_stays c at (styled_text text style) c.width
 
-run_stays : (o : ScrollbarOrientation) (c : Rect) (symbol : Option (List ℕ)) (style : Style) (i n : ℕ) → StayIn (covers c) (run_layers o c symbol style i n)
+run_stays : (o : ScrollbarOrientation) (c : Rect) (symbol : Option (List ℕ)) (style : Style) (i n : ℕ) →
+    StayIn (covers c) (run_layers o c symbol style i n)
 unfolding run_layers
 run_stays o c symbol style i zero = StayIn-none
 run_stays o c symbol style i (suc n) = StayIn-append (sign_stays c (along o c i) symbol style) (run_stays o c symbol style (i + 1) n)

@@ -17,6 +17,7 @@ pub dress_stays : (area : Rect) (style : Style) → StayIn (covers area) (stroke
 dress_stays area style = StayIn-stroke (covers area) (set_style style) (λ x y out. out)
 
 -- so does a style that only the selected item has
-pub highlight_stays : (area : Rect) (style : Style) (is_selected : Bool) → StayIn (covers area) (if is_selected then stroke (covers area) (set_style style) else [])
+pub highlight_stays : (area : Rect) (style : Style) (is_selected : Bool) →
+    StayIn (covers area) (if is_selected then stroke (covers area) (set_style style) else [])
 highlight_stays area style true = dress_stays area style
 highlight_stays area style false = StayIn-none

@@ -79,7 +79,8 @@ used_stays inner start end style is_selected =
     (highlight_stays (used_columns inner start end) style is_selected)
 
 -- a tab stays in the area
-pub tab_stays : (t : TabsData) (inner : Rect) (x : ℕ) (is_selected : Bool) (title : LineData) → StayIn (covers inner) (tab_layers t inner x is_selected title)
+pub tab_stays : (t : TabsData) (inner : Rect) (x : ℕ) (is_selected : Bool) (title : LineData) →
+    StayIn (covers inner) (tab_layers t inner x is_selected title)
 unfolding tab_layers
 tab_stays t inner x is_selected title =
     let start = title_start t inner x in

@@ -36,7 +36,8 @@ pub record ThumbFollows (track size viewport content : ℕ) : Type 0 where
   pub first : (parts_of track (viewport_in size viewport) content 0).start ≡ 0
   pub order : (position later : ℕ) → position ≤ later →
       (parts_of track (viewport_in size viewport) content position).start ≤ (parts_of track (viewport_in size viewport) content later).start
-  pub last : (position : ℕ) → content ≤ position + 1 → let p = parts_of track (viewport_in size viewport) content position in p.start + p.thumb ≡ track
+  pub last : (position : ℕ) → content ≤ position + 1 →
+      let p = parts_of track (viewport_in size viewport) content position in p.start + p.thumb ≡ track
 
 -- the laws of the thumb, for each track
 abbrev pub ThumbLaws : Type 0

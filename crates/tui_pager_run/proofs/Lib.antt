@@ -2,3 +2,4 @@ pub mod Bounds
 pub mod KeyLines
 pub mod Output
 pub mod Stepping
+pub mod Explained

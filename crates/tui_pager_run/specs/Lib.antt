@@ -1,6 +1,7 @@
 pub mod Refusals
 pub mod Keys
 pub mod Input
+pub mod Faults
 pub mod States
 pub mod Printed
 pub mod Laws

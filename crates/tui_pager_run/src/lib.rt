@@ -4,6 +4,7 @@
 mod bad_input;
 mod command;
 mod ended;
+mod faults;
 mod field;
 mod input;
 mod laws;
@@ -16,6 +17,7 @@ mod step;
 pub use bad_input::BadInput;
 pub use command::PagerCommand;
 pub use ended::PagerEnded;
+pub use faults::explain_input;
 pub use field::PagerField;
-pub use laws::output_law;
+pub use laws::{explained_law, output_law};
 pub use program::{run_pager, run_program};

@@ -10,7 +10,7 @@ use tui_json::{InputError, Kind, KindError, Named, Numbered, Within, by_name, er
 use tui_pager_lib::{Key, PagerSize};
 
 /// One of the keys of an input: a key, by its name, or another size of the screen.
-#[derive(Clone, Copy)]
+#[derive(Clone, Copy, Drop)]
 pub(crate) enum PagerStep {
     Press(Key),
     Resize(PagerSize),
@@ -22,6 +22,11 @@ impl Named<PagerField> for Key {
     ghost names = { keys };
 
     ghost reads = { reads_named keys };
+
+    #[tactic(auto, unfolding(tui_json::specs::Named::listed_names))]
+    fn listed() -> &'static str {
+        "`Up`, `Down`, `PageUp`, `PageDown`, `First`, `Last`, `LineUp`, `LineDown`, `BodyTop` or `BodyEnd`"
+    }
 }
 
 impl<'v> Kind<'v, PagerField> for PagerSize {

@@ -65,4 +65,5 @@ pub record Ready {I A : Type 0} (words : Ghosts I A) (i : I) : Type 0 where
 -- the same for an iterator over iterators, and for each one that it may give
 pub record AllReady {O I : Type 0} (outer : Ghosts O (I × Alignment)) (inner : Ghosts I StyledGrapheme) (o : O) : Type 0 where
   pub all : Ready outer o
-  pub each : (xs : List (I × Alignment)) (t u : O) (x : I × Alignment) → Yields outer.next_gives o xs t → outer.next_gives t (Some x) u → Ready inner x.0
+  pub each : (xs : List (I × Alignment)) (t u : O) (x : I × Alignment) → Yields outer.next_gives o xs t →
+      outer.next_gives t (Some x) u → Ready inner x.0

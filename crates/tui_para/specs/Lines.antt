@@ -58,7 +58,8 @@ LinesOf texts R w lines = LinesFrom texts (LinesOfEach R) w lines
 abbrev pub PartsThenLines : (Begun : List (List Glyph) → Type 0) → Alignment → (Whole : GlyphLine → List (List Glyph) → Type 0) → List GlyphLine →
     List GlyphLine → Type 0
 PartsThenLines Begun alignment Whole others lines =
-    (parts : List (List Glyph)) × Begun parts × ((rest : List GlyphLine) × LinesOfEach Whole others rest × (lines ≡ map (glyph_line alignment) parts ++ rest))
+    (parts : List (List Glyph)) × Begun parts
+    × ((rest : List GlyphLine) × LinesOfEach Whole others rest × (lines ≡ map (glyph_line alignment) parts ++ rest))
 
 -- the text lines that are still given: none if the iterator has ended, else those for which `Given` holds
 abbrev pub GivenUnlessDone : (done : Bool) → (Given : List GlyphLine → Type 0) → List GlyphLine → Type 0

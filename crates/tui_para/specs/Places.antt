@@ -24,7 +24,8 @@ abbrev pub goes_on_for : {A : Type 0} → (A → Bool) → (A → Bool) → (A �
 goes_on_for ends blank size in_word pieces n room [] = n
 goes_on_for ends blank size in_word pieces n room (x ∷ xs) =
     let ended = (if in_word && ends x then n else pieces) in
-    if nat_le (size x) room then goes_on_for ends blank size (not (blank x)) ended (suc n) (room - size x) xs else (if nat_lt 0 ended then ended else n)
+    if nat_le (size x) room then goes_on_for ends blank size (not (blank x)) ended (suc n) (room - size x) xs else
+    (if nat_lt 0 ended then ended else n)
 
 -- the end of the last piece that has ended before one of the graphemes
 abbrev pub pieces_len : {A : Type 0} → (A → Bool) → (A → Bool) → Bool → ℕ → ℕ → List A → ℕ

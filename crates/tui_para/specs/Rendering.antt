@@ -18,7 +18,8 @@ use Rattle.tui_para.specs.WrappedText.{WrappedText, TruncatedText, wrap_text, tr
 
 -- the lines of a paragraph at a width
 abbrev pub ParagraphLines : ParagraphData → ℕ → List GlyphLine → Type 0
-ParagraphLines p w lines = MatchOption p.wrap (TruncatedText w p.scroll_x p.alignment p.text lines) (λ wrap. WrappedText w wrap p.alignment p.text lines)
+ParagraphLines p w lines = MatchOption p.wrap (TruncatedText w p.scroll_x p.alignment p.text lines)
+    (λ wrap. WrappedText w wrap p.alignment p.text lines)
 
 -- a cell after the styles of a paragraph and of its block are set on it
 abbrev pub base_of : Option BlockData → Style → Look → Look

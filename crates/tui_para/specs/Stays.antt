@@ -36,7 +36,9 @@ one_stays clip x y g true true e =
 run_stays : (clip : Rect) (x y : ℕ) (gs : List Glyph) → StayIn (covers clip) (run_layers clip x y gs)
 unfolding run_layers
 run_stays clip x y [] = StayIn-none
-run_stays clip x y (g ∷ gs) = StayIn-append (one_stays clip x y g (nat_lt 0 (glyph_width g)) (covers clip x y) refl) (run_stays clip (x + glyph_width g) y gs)
+run_stays clip x y (g ∷ gs) = StayIn-append
+    (one_stays clip x y g (nat_lt 0 (glyph_width g)) (covers clip x y) refl)
+    (run_stays clip (x + glyph_width g) y gs)
 
 glyph_line_stays : (rect : Rect) (y : ℕ) (s : GlyphLine) → StayIn (covers rect) (glyph_line_layers rect y s)
 unfolding glyph_line_layers
@@ -55,7 +57,9 @@ content_stays p rect =
 
 under_stays : (o : Option BlockData) (style : Style) (clip : Rect) → StayIn (footprint_if o clip) (under_layers o style clip)
 under_stays None style clip = StayIn-none
-under_stays (Some b) style clip = StayIn-append (clip_stays (Some b) clip (StayIn-stroke (covers clip) (set_style style) (λ x y out. out))) (block_stays b clip)
+under_stays (Some b) style clip = StayIn-append
+    (clip_stays (Some b) clip (StayIn-stroke (covers clip) (set_style style) (λ x y out. out)))
+    (block_stays b clip)
 
 -- a paragraph changes only cells of its footprint
 pub paragraph_stays : (p : ParagraphData) (clip : Rect) → StayIn (footprint_if p.block clip) (paragraph_layers p clip)

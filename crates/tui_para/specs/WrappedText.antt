@@ -34,7 +34,8 @@ wrap_text w way alignment text = lines_of_each (λ t. wrap w way t.glyphs) (text
 
 -- the lines of a text that is not wrapped, each truncated at the width
 abbrev pub truncate_text : ℕ → ℕ → Alignment → TextData → List GlyphLine
-truncate_text w offset alignment text = lines_of_each (λ t. truncate glyph_width w (is_left t.alignment) offset t.glyphs ∷ []) (text_glyph_lines text alignment)
+truncate_text w offset alignment text =
+    lines_of_each (λ t. truncate glyph_width w (is_left t.alignment) offset t.glyphs ∷ []) (text_glyph_lines text alignment)
 
 -- each line of the text is the words given for it, with single whitespace graphemes of width 1 between them; no word is
 -- wider than w

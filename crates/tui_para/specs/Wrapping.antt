@@ -108,12 +108,14 @@ module _ {O I : Type 0} (outer : O → Option (I × Alignment) → O → Type 0)
   -- a wrapper found its next line, which is a part of the graphemes that it stores, or that there is none
   pub record FindsLine (old new : WordWrapper O I) (found : Option LineRange) : Type 0 where
     pub is_part : IfSome found (IsLineRange (glyphs_of new.current.line))
-    pub first : IsTaken (option_map (λ p. glyph_line new.alignment (part_of (glyphs_of new.current.line) p)) found) (wrapper_yields old) (wrapper_yields new)
+    pub first : IsTaken (option_map (λ p. glyph_line new.alignment (part_of (glyphs_of new.current.line) p)) found)
+        (wrapper_yields old) (wrapper_yields new)
 
   -- a truncator found its next line, which is what it stores and is this many columns wide, or that there is none
   pub record FindsTruncated (old new : LineTruncator O I) (found : Option ℕ) : Type 0 where
     pub columns : IfSome found (λ n. n ≡ sum_by glyph_width (map glyph_of new.shown.items))
-    pub first : IsTaken (option_map (λ _. glyph_line new.alignment (map glyph_of new.shown.items)) found) (truncator_yields old) (truncator_yields new)
+    pub first : IsTaken (option_map (λ _. glyph_line new.alignment (map glyph_of new.shown.items)) found)
+        (truncator_yields old) (truncator_yields new)
 
 -- the iterators of a composer may be called, and they end
 module _ {O I : Type 0} (outer : Ghosts O (I × Alignment)) (inner : Ghosts I StyledGrapheme) where

@@ -9,7 +9,9 @@ use Rattle.tui_print.specs.Print.{IsPrint}
 
 -- exactly one list has all the runs of a row
 abbrev pub RunsAreUnique : Type 0
-RunsAreUnique = (row : List Look) → (runs : List StyleRun) × AreStyleRuns row runs × ((others : List StyleRun) → AreStyleRuns row others → others ≡ runs)
+RunsAreUnique = (row : List Look) →
+    (runs : List StyleRun) × AreStyleRuns row runs
+    × ((others : List StyleRun) → AreStyleRuns row others → others ≡ runs)
 
 -- a column is in a run
 abbrev pub IsInRun : StyleRun → ℕ → Type 0

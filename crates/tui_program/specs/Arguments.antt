@@ -47,4 +47,5 @@ HaveNumber word allowed n arguments = (digits : List ℕ) × AreTexts (word ∷ 
 -- the arguments are `word` and two such numbers
 abbrev pub HaveNumbers : List ℕ → Numerals → ℕ → ℕ → List (String Global) → Type 0
 HaveNumbers word allowed n m arguments =
-    (first : List ℕ) × (second : List ℕ) × AreTexts (word ∷ first ∷ second ∷ []) arguments × IsNumeralOf allowed first n × IsNumeralOf allowed second m
+    (first : List ℕ) × (second : List ℕ) × AreTexts (word ∷ first ∷ second ∷ []) arguments
+    × IsNumeralOf allowed first n × IsNumeralOf allowed second m

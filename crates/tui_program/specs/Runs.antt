@@ -25,6 +25,7 @@ ArgsOutOfMemory (Ok all) = ⊥
 ArgsOutOfMemory (Err e) = error_kind e ≡ OutOfMemory
 
 -- a run with the system's arguments; or the system was out of memory, and nothing is read or written
-pub record IsRunFrom {C R : Type 0} (rules : Rules C R) (args : Result (IntoIter (String Global) Global) Error) (t : Transcript) (e : Outcome R) : Type 0 where
+pub record IsRunFrom {C R : Type 0} (rules : Rules C R) (args : Result (IntoIter (String Global) Global) Error)
+    (t : Transcript) (e : Outcome R) : Type 0 where
   pub run : ((arguments : List (String Global)) × AreArguments args arguments × IsRun rules arguments t e)
       ⊎ (ArgsOutOfMemory args × (e ≡ Err stop.NoMemory) × Unread t × Unwritten t.sink t.sink_then)

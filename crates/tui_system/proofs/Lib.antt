@@ -1,1 +1,2 @@
 pub mod Commanding
+pub mod Ending

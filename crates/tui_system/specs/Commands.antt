@@ -15,7 +15,8 @@ use Rattle.tui_system.specs.System.{Given}
 -- The command that the arguments after the program's name name. They may name none, or the system may reject one of
 -- them, or have no memory for them.
 pub data IsCommand {C R : Type 0} (given : Given) (named : C → List (String Global) → Type 0) : Result C (Stop R) → Type 0 where
-  is_named : (all : IntoIter (String Global) Global) (command : C) → given.arguments (Ok all) → named command (drop 1 (into_iter_items all)) → IsCommand given named (Ok command)
+  is_named : (all : IntoIter (String Global) Global) (command : C) → given.arguments (Ok all) →
+      named command (drop 1 (into_iter_items all)) → IsCommand given named (Ok command)
   unnamed : (all : IntoIter (String Global) Global) → given.arguments (Ok all) → ((command : C) → named command (drop 1 (into_iter_items all)) → ⊥) →
       IsCommand given named (Err stop.Usage)
   rejected : (error : Error) → given.arguments (Err error) → error_kind error ≢ OutOfMemory → IsCommand given named (Err stop.Usage)
@@ -23,7 +24,8 @@ pub data IsCommand {C R : Type 0} (given : Given) (named : C → List (String Gl
 
 -- The command that the arguments name, and all bytes of the file that it names. There may be no command, or the file may
 -- not be read to its end, or memory may run out.
-pub data IsReadFor {C R : Type 0} (given : Given) (named : C → List (String Global) → Type 0) (file : C → List ℕ) : Result (C × Vec ℕ Global) (Stop R) → Type 0 where
+pub data IsReadFor {C R : Type 0} (given : Given) (named : C → List (String Global) → Type 0)
+    (file : C → List ℕ) : Result (C × Vec ℕ Global) (Stop R) → Type 0 where
   whole : (command : C) (t : Transcript) (bytes : Vec ℕ Global) → IsCommand {R = R} given named (Ok command) → given.opened (file command) t.source →
       Reads {R = R} t (Ok bytes) → IsReadFor given named file (Ok (command, bytes))
   unread : (command : C) (t : Transcript) (stopped : Stop R) → IsCommand {R = R} given named (Ok command) → given.opened (file command) t.source →

@@ -1,10 +1,13 @@
 pub mod System
 pub mod Answers
 pub mod Places
+pub mod Opening
 pub mod Destination
 pub mod Late
+pub mod RejectsNothing
 pub mod Left
 pub mod Setting
 pub mod Commands
 pub mod Same
 pub mod Stream
+pub mod MemSystem

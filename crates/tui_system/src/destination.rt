@@ -1,7 +1,7 @@
 //! Destinations of what a program gives, such as the answers of a form.
 
 ghost use Rattle.std.specs.Prelude.{IsOk, IsOkAnd, Some, ◌≡◌};
-ghost use Rattle.tui_system.specs.Destination.{Opens};
+ghost use Rattle.tui_system.specs.Opening.{Opens};
 ghost use Rattle.tui_system.specs.Places.{PlaceData, place_data};
 
 use crate::place::Place;

@@ -1,11 +1,10 @@
 //! What a system has opened for what a program gives at its end.
 
-ghost use Rattle.std.specs.Prelude.{IfOk, IfSome, string_bytes, ◌≡◌};
-ghost use Rattle.tui_system.specs.Places.{PlaceData, place_data};
+ghost use Rattle.std.specs.Prelude.{string_bytes};
 
 use crate::file_destination::FileDestination;
 use crate::host::Host;
-use crate::late_sink::OpensPlace;
+use crate::late::OpensPlace;
 use crate::place::Place;
 use std::io;
 use std::io::{Printer, Write};
@@ -34,6 +33,13 @@ impl<W: Sink, E: Sink, F: Sink> Sink for Opened<W, E, F> {
     }
 }
 
+/// What `SystemPlaces` opens.
+pub type SystemOpened<'r, R, E> = Opened<
+    StdSink<Printer<'r, R>>,
+    StdSink<E>,
+    FileDestination<'r, R>,
+>;
+
 /// The places of a system. If a file can't be opened or written, a line on standard error says why, which begins with
 /// the name of the program.
 #[derive(Drop)]
@@ -45,13 +51,13 @@ pub struct SystemPlaces<'r, R, E> {
 }
 
 impl<'r, R: Host, E: Write + Copy + Drop> OpensPlace for SystemPlaces<'r, R, E> {
-    ghost use Rattle.tui_system.specs.Destination.{IsAtPlace};
+    ghost use Rattle.tui_system.specs.Destination.{OpensAt};
 
-    type Opened = Opened<StdSink<Printer<'r, R>>, StdSink<E>, FileDestination<'r, R>>;
+    type Opened = SystemOpened<'r, R, E>;
 
-    ghost is_at = { IsAtPlace (λ f. string_bytes f.name) };
+    ghost opens = { λ _ place found. OpensAt (λ f. string_bytes f.name) place found };
 
-    fn open(&self, place: Place<'_>) -> Mem<Option<Self::Opened>> {
+    fn open(&self, place: Place<'_>) -> Mem<Option<SystemOpened<'r, R, E>>> {
         match place {
             Place::Output => Ok(Some(Opened::Output(StdSink::new(io::writer(self.rt))))),
             Place::Errors => Ok(Some(Opened::Errors(StdSink::new(self.errors)))),

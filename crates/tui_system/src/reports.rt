@@ -42,6 +42,7 @@ fn reason_in(text: &str) -> &str {
     }
 }
 
-fn print_reason<R: Eprint>(rt: &R, program: &str, name: &str, reason: &str) {
+/// Writes a line on standard error. Nothing changes if that can't be written.
+pub(crate) fn print_reason<R: Eprint>(rt: &R, program: &str, name: &str, reason: &str) {
     let _written = eprintln!(rt; "{program}: {name}: {reason}");
 }

@@ -1,10 +1,14 @@
 //! The system that a process runs on.
 
+ghost use Rattle.std.specs.Prelude.{◌≡◌, IfOk, IsNone, false, true, ⊤};
+
 use crate::host::Host;
-use crate::late_sink::LateSink;
-use crate::late_terminal::LateTerminal;
-use crate::opened::SystemPlaces;
-use crate::streams::{InputStream, SystemStreams, TerminalInput, has_own_streams, input, variable};
+use crate::late::Late;
+use crate::opened::{SystemOpened, SystemPlaces};
+use crate::reports::print_reason;
+use crate::streams::{
+    InputStream, StreamTerminal, SystemStreams, TerminalInput, has_own_streams, input, variable,
+};
 use crate::system::System;
 use std::alloc::Global;
 use std::env::Args;
@@ -29,7 +33,12 @@ impl<'r, R: Host> Runtime<'r, R> {
         program: &'r str,
         input: TerminalInput,
         is_output_shown: bool,
-    ) -> Runtime<'r, R> {
+    ) -> Runtime<'r, R>
+        ensures rt { result.rt.now ≡ rt.now }
+        ensures program { result.program.now ≡ program.now }
+        ensures input { result.input ≡ input }
+        ensures shown { result.is_output_shown ≡ is_output_shown }
+    {
         Runtime {
             rt,
             program,
@@ -39,8 +48,13 @@ impl<'r, R: Host> Runtime<'r, R> {
     }
 
     /// Returns the terminal, which is not open.
-    pub fn terminal(&self) -> LateTerminal<SystemStreams<'r, R>> {
-        LateTerminal::new(SystemStreams {
+    pub fn terminal(&self) -> Late<SystemStreams<'r, R>, StreamTerminal<'r, R>>
+        ensures shut { IsNone result.opened }
+        ensures rt { result.opener.rt.now ≡ self.now.rt.now }
+        ensures program { result.opener.program.now ≡ self.now.program.now }
+        ensures input { result.opener.input ≡ self.now.input }
+    {
+        Late::new(SystemStreams {
             rt: self.rt,
             program: self.program,
             input: self.input,
@@ -52,8 +66,13 @@ impl<'r, R: Host> Runtime<'r, R> {
     pub fn destination<E: Write + Copy + Drop>(
         &self,
         errors: E,
-    ) -> LateSink<SystemPlaces<'r, R, E>> {
-        LateSink::new(SystemPlaces {
+    ) -> Late<SystemPlaces<'r, R, E>, SystemOpened<'r, R, E>>
+        ensures shut { IsNone result.opened }
+        ensures rt { result.opener.rt.now ≡ self.now.rt.now }
+        ensures program { result.opener.program.now ≡ self.now.program.now }
+        ensures errors { result.opener.errors ≡ errors }
+    {
+        Late::new(SystemPlaces {
             rt: self.rt,
             program: self.program,
             errors,
@@ -85,7 +104,14 @@ impl<'r, R: Host> System for Runtime<'r, R> {
         input(self.rt, self.program, self.input, name)
     }
 
-    fn is_output_piped(&self) -> Mem<bool> {
+    fn explain(&self, name: &str, text: &str) {
+        print_reason(self.rt, self.program, name, text);
+    }
+
+    fn is_output_piped(&self) -> Mem<bool>
+        ensures given { IfOk result (λ piped. ⊤) }
+        ensures shown { self.now.is_output_shown ≡ true → IfOk result (λ piped. piped ≡ false) }
+    {
         Ok(!self.is_output_shown && has_own_streams(self.rt)?)
     }
 }

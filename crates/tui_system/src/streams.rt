@@ -8,7 +8,7 @@ ghost use Rattle.tui_system.specs.Stream.{IsFile, IsStandardOrFails};
 
 use crate::answers::{or_out_of_memory, text_of};
 use crate::host::Host;
-use crate::late_terminal::OpensTerminal;
+use crate::late::OpensTerminal;
 use crate::reports::report;
 use crate::stream::Stream;
 use std::fs::{File, Files, OpenOptions};
@@ -60,7 +60,11 @@ pub struct SystemStreams<'r, R> {
 }
 
 impl<'r, R: Host> OpensTerminal for SystemStreams<'r, R> {
+    ghost use Rattle.std.specs.Prelude.{⊤};
+
     type Terminal = StreamTerminal<'r, R>;
+
+    ghost opens = { λ _ _. ⊤ };
 
     fn open(&self) -> Mem<Option<StreamTerminal<'r, R>>> {
         let Some(screen) = screen(self.rt, self.program)? else {

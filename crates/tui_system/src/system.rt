@@ -35,6 +35,10 @@ pub trait System {
     fn open(&self, name: &str) -> Mem<Self::Input>
         ensures { IfOk result (λ file. (gives self.now).opened name.now (Self.Input.observed file)) };
 
+    /// Writes a line on standard error that says what is wrong with a file: the program's name, the file's, and the text.
+    /// Nothing changes if that can't be written.
+    fn explain(&self, name: &str, text: &str);
+
     /// Whether standard output is the user's, and no terminal: a pipe, for instance, or a file.
     fn is_output_piped(&self) -> Mem<bool>
         ensures { IfOk result (gives self.now).piped };

@@ -84,7 +84,8 @@ pub over_stays : (area : Rect) (style : Style) (text : TextData) → StayIn (cov
 unfolding text_over
 over_stays area style text = StayIn-append (dress_stays area style) (text_stays area text)
 
-cell_stays : (area : Rect) (gutter spacing : ℕ) (columns : List Segment) (c : CellData) → StayIn (covers area) (cell_layers area gutter spacing columns c)
+cell_stays : (area : Rect) (gutter spacing : ℕ) (columns : List Segment) (c : CellData) →
+    StayIn (covers area) (cell_layers area gutter spacing columns c)
 unfolding cell_layers
 cell_stays area gutter spacing [] c = StayIn-none
 cell_stays area gutter spacing (k ∷ ks) c = in_columns area _ _ (over_stays (over_columns area gutter spacing k ks) c.style c.content)
@@ -97,7 +98,8 @@ cells_stay area gutter spacing kind columns (c ∷ cs) =
     StayIn-append (cell_stays area gutter spacing (take (span_in kind c) columns) c)
     (cells_stay area gutter spacing kind (drop (span_in kind c) columns) cs)
 
-symbol_stays : (t : TableData) (gutter : ℕ) (kind : RowKind) (area : Rect) (style : Style) → StayIn (covers area) (symbol_layers t gutter kind area style)
+symbol_stays : (t : TableData) (gutter : ℕ) (kind : RowKind) (area : Rect) (style : Style) →
+    StayIn (covers area) (symbol_layers t gutter kind area style)
 symbol_stays t gutter Edge area style = StayIn-none
 symbol_stays t gutter Plain area style = StayIn-none
 symbol_stays t gutter Selected area style = in_columns area 0 gutter (over_stays (columns_from area 0 gutter) style t.symbol)
@@ -174,13 +176,15 @@ body_stays t body gutter columns selected column first last =
 
 body_if_stays : (t : TableData) (inner : Rect) (gutter : ℕ) (columns : List Segment) (s : TableState) (none : Bool) →
     StayIn (covers inner) (if none then [] else
-    body_layers t (body_of t inner) gutter columns (row_after t s) (column_after t s) (table_window t inner.height s).first (table_window t inner.height s).end)
+    body_layers t (body_of t inner) gutter columns (row_after t s) (column_after t s)
+    (table_window t inner.height s).first (table_window t inner.height s).end)
 body_if_stays t inner gutter columns s true = StayIn-none
 body_if_stays t inner gutter columns s false =
     in_rows inner _ _ (body_stays t (body_of t inner) gutter columns (row_after t s) (column_after t s)
     (table_window t inner.height s).first (table_window t inner.height s).end)
 
-parts_stay : (t : TableData) (inner : Rect) (gutter : ℕ) (columns : List Segment) (s : TableState) (empty : Bool) → StayIn (covers inner) (if empty then [] else
+parts_stay : (t : TableData) (inner : Rect) (gutter : ℕ) (columns : List Segment) (s : TableState) (empty : Bool) →
+    StayIn (covers inner) (if empty then [] else
     edge_layers t inner gutter columns 0 t.header
     ++ (body_if t inner gutter columns s ++ edge_layers t inner gutter columns (height_if t.header + room_of t inner.height) t.footer))
 parts_stay t inner gutter columns s true = StayIn-none

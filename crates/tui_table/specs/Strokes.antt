@@ -122,7 +122,8 @@ dress_if_some style (Some area) = stroke (covers area) (set_style style)
 
 -- the selected row, then the selected column, then the cell where they meet
 unfoldable pub highlight_layers : TableData → Option Rect → Option Rect → List Layer
-highlight_layers t row column = dress_if_some t.row_style row ++ (dress_if_some t.column_style column ++ dress_if_some t.cell_style (both_areas row column))
+highlight_layers t row column = dress_if_some t.row_style row
+    ++ (dress_if_some t.column_style column ++ dress_if_some t.cell_style (both_areas row column))
 
 -- The rows that are shown in full and one more, which is cut off, then the highlights. If no row of the screen is left,
 -- the area of that one more row is empty.

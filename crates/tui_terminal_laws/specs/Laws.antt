@@ -34,7 +34,8 @@ use Rattle.tui_terminal_laws.specs.Sending.{change, full}
 
 -- the commands of a full screen show it on any terminal
 abbrev pub FullIsShown : Type 0
-FullIsShown = (o : Output) (cursor : Cursor) (b : Screen) → IsScreen b → IsCursorInside cursor b → IsFull o cursor b (flat_map encoding (full o cursor b))
+FullIsShown = (o : Output) (cursor : Cursor) (b : Screen) → IsScreen b → IsCursorInside cursor b →
+    IsFull o cursor b (flat_map encoding (full o cursor b))
 
 -- the commands of a change show the new screen if the old one was shown
 abbrev pub ChangeIsShown : Type 0
@@ -47,7 +48,8 @@ SendsNothing = (o : Output) (b : Screen) (text : List ℕ) → o.synchronized �
 
 -- a full screen, and then its changes
 abbrev pub FramesFollow : Type 0
-FramesFollow = (o : Output) (place next_place : Cursor) (b c : Screen) (first next : List ℕ) (f : IsFull o place b first) (k : IsChange o next_place b c next) (knows : List ℕ → Bool) (t : Tty) →
+FramesFollow = (o : Output) (place next_place : Cursor) (b c : Screen) (first next : List ℕ)
+    (f : IsFull o place b first) (k : IsChange o next_place b c next) (knows : List ℕ → Bool) (t : Tty) →
     KnowsWidths o.widths knows → HasRoom t b → Shows o knows (run knows (f.commands ++ k.commands) t) c
 
 -- ---- symbols
@@ -95,7 +97,8 @@ NamesStay = (c : Color) → has_name c ≡ true → (color_at depths.Sixteen c �
 
 -- none of the sixteen colours is nearer
 abbrev pub NearestName : Type 0
-NearestName = (c : Channels) (n : Named) → Contains (black ∷ other_names) n → distance c (nearest_of c black other_names).channels ≤ distance c n.channels
+NearestName = (c : Channels) (n : Named) → Contains (black ∷ other_names) n →
+    distance c (nearest_of c black other_names).channels ≤ distance c n.channels
 
 -- none of the palette's cube and grays is nearer
 pub record IsNearest (c : Channels) (found : Named) : Type 0 where

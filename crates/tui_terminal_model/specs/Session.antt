@@ -11,7 +11,8 @@ enter_commands = set_mode alternate true ∷ reset_modes ∷ set_mode bracketed 
 -- Ends synchronized output and bracketed paste, and shows the main screen. Then sets what may have come back with it:
 -- the default pen, autowrap and a visible cursor.
 abbrev pub leave_commands : List Command
-leave_commands = set_mode synchronizing false ∷ set_mode bracketed false ∷ set_mode alternate false ∷ paint [] ∷ set_mode autowrap true ∷ set_mode visible true ∷ []
+leave_commands = set_mode synchronizing false ∷ set_mode bracketed false ∷ set_mode alternate false ∷ paint []
+    ∷ set_mode autowrap true ∷ set_mode visible true ∷ []
 
 unfoldable pub enter_text : List ℕ
 enter_text = flat_map encoding enter_commands

@@ -26,5 +26,6 @@ rows_run depth t e h = record {
 }
 
 -- memory runs out, and nothing is observable of that
-pub unchanged : (given : Given) (old output : Observed) (command : ViewCommand) → EndsWith given old old output output command (Err stop.NoMemory)
-unchanged given old output command = out_of_memory command refl refl
+pub unchanged : (given : Given) (ready : Type 0) (old output : Observed) (command : ViewCommand) →
+    EndsWith given ready old old output output command (Err stop.NoMemory)
+unchanged given ready old output command = out_of_memory command refl refl

@@ -12,6 +12,7 @@ use Rattle.tui_program.specs.declared.stop.Stop.{Stop}
 use Rattle.tui_program.specs.declared.stop.Stop.TheVariants as stop
 use Rattle.tui_schema.specs.declared.bad_field.BadField.{BadField}
 use Rattle.tui_system.specs.Commands.{IsCommand}
+use Rattle.tui_system.specs.Opening.{EndsOpening}
 use Rattle.tui_system.specs.Setting.{IsDepthOf}
 use Rattle.tui_system.specs.System.{Given}
 use Rattle.tui_terminal_model.specs.declared.depth.Depth.{Depth}
@@ -28,24 +29,31 @@ pub record IsRowsRun (depth : Depth) (t : Transcript) (e : Outcome BadField) : T
   pub ends : EndsReading (rows_job depth) t e
   pub complete : IsCompleteReading (rows_job depth) t e
 
--- How a run of a command ends. `old` and `new` are what is observable of the terminal before and after, `output` and
+-- a run of `frames` whose terminal is open: scenes are shown on it, in this colour depth
+abbrev pub AreFramesShown : Depth → Observed → Observed → Outcome BadField → Type 0
+AreFramesShown depth old new e = (end : DisplayEnd) × IsDisplayRun IsFrame (frames_output depth) old new end × (e ≡ display_outcome end)
+
+-- How a run of a command ends. `ready` is that the terminal could be opened. `old` and `new` are what is observable of the terminal before and after, `output` and
 -- `output_then` of the output. The variables of the system give the colour depth. `rows` reads the file that it names,
 -- of which `source` is observable just after it was opened; it writes to the output, and nothing to the terminal. `frames`
--- shows scenes on the terminal, and writes nothing to the output. Or memory runs out first, and nothing is written.
-pub data EndsWith (given : Given) (old new output output_then : Observed) : ViewCommand → Outcome BadField → Type 0 where
+-- opens the terminal and shows scenes on it, and writes nothing to the output. Or memory runs out first, and nothing is
+-- written.
+pub data EndsWith (given : Given) (ready : Type 0) (old new output output_then : Observed) : ViewCommand → Outcome BadField → Type 0 where
   rows : (file : Option (String Global)) (depth : Depth) (source source_then : Observed) (e : Outcome BadField) → IsDepthOf given depth →
       given.opened (input_name (Rows file)) source → IsRowsRun depth (transcript_of source source_then output output_then) e → new ≡ old →
-      EndsWith given old new output output_then (Rows file) e
-  frames : (depth : Depth) (end : DisplayEnd) → IsDepthOf given depth → IsDisplayRun IsFrame (frames_output depth) old new end → output_then ≡ output →
-      EndsWith given old new output output_then Frames (display_outcome end)
-  out_of_memory : (command : ViewCommand) → new ≡ old → output_then ≡ output → EndsWith given old new output output_then command (Err stop.NoMemory)
+      EndsWith given ready old new output output_then (Rows file) e
+  frames : (depth : Depth) (e : Outcome BadField) → IsDepthOf given depth →
+      EndsOpening ready old new (Unit {0}) (AreFramesShown depth old new) e → output_then ≡ output →
+      EndsWith given ready old new output output_then Frames e
+  out_of_memory : (command : ViewCommand) → new ≡ old → output_then ≡ output →
+      EndsWith given ready old new output output_then command (Err stop.NoMemory)
 
 -- how a run ends whose arguments name this: a command is run; or there is none, and only the output says so
-abbrev pub EndsAfter : Given → Observed → Observed → Observed → Observed → Result ViewCommand (Stop BadField) → Outcome BadField → Type 0
-EndsAfter given old new output output_then (Ok command) e = EndsWith given old new output output_then command e
-EndsAfter given old new output output_then (Err stopped) e = EndsStopped refusal_line stopped output output_then e × (new ≡ old)
+abbrev pub EndsAfter : Given → Type 0 → Observed → Observed → Observed → Observed → Result ViewCommand (Stop BadField) → Outcome BadField → Type 0
+EndsAfter given ready old new output output_then (Ok command) e = EndsWith given ready old new output output_then command e
+EndsAfter given ready old new output output_then (Err stopped) e = EndsStopped refusal_line stopped output output_then e × (new ≡ old)
 
 -- how a run on a system ends
-abbrev pub Ends : Given → Observed → Observed → Observed → Observed → Outcome BadField → Type 0
-Ends given old new output output_then e =
-    (x : Result ViewCommand (Stop BadField)) × IsCommand given Name x × EndsAfter given old new output output_then x e
+abbrev pub Ends : Given → Type 0 → Observed → Observed → Observed → Observed → Outcome BadField → Type 0
+Ends given ready old new output output_then e =
+    (x : Result ViewCommand (Stop BadField)) × IsCommand given Name x × EndsAfter given ready old new output output_then x e

@@ -1,15 +1,18 @@
 //! A whole run, from the arguments and the input to the output.
 
-ghost use Rattle.tui_view_run.specs.Ends.{Ends, EndsWith};
+ghost use Rattle.tui_system.specs.Opening.{CanBeOpen, EndsOpening};
+ghost use Rattle.tui_view_run.specs.Ends.{AreFramesShown, Ends, EndsWith};
 
 use crate::command::ViewCommand;
 use crate::display_end::display_outcome;
 use crate::frames::show_frames;
 use crate::rows::RowsCommand;
+use std::alloc::Global;
 use tui_io::Sink;
 use tui_program::{Cleanup, Outcome, run_json, tell};
 use tui_schema::BadField;
-use tui_system::{Console, System, command_of, depth};
+use tui_system::{Console, System, command_of, depth, open_terminal};
+use tui_terminal_model::Depth;
 
 /// Runs the command that the system's arguments name, in the colour depth that its variables give.
 ///
@@ -25,7 +28,8 @@ use tui_system::{Console, System, command_of, depth};
 ///   reset.
 ///
 /// `frames` opens the terminal. It reads scenes from the terminal's input, one a line, and shows each as `show_frames`
-/// does. Nothing is written to `output`. The outcome is `Ok` only if every line was shown and the terminal was left.
+/// does. Nothing is written to `output`. The outcome is `Ok` only if every line was shown and the terminal was left. If the
+/// terminal can't be opened, it is `WriteFault`.
 ///
 /// Other arguments are rejected in one line on `output`, and the outcome is `Usage`. `Stop` lists the causes of the
 /// other outcomes.
@@ -36,7 +40,8 @@ pub fn run_view<S: System, T: Console, K: Sink>(
     terminal: &mut T,
     output: &mut K,
 ) -> Outcome<(), BadField>
-    ensures { Ends (S.gives system.now) (T.observed terminal.old) (T.observed terminal.new) (K.observed output.old) (K.observed output.new) result }
+    ensures { Ends (S.gives system.now) (CanBeOpen T.observed T.is_open (T.observed terminal.old)) (T.observed terminal.old) (T.observed terminal.new)
+        (K.observed output.old) (K.observed output.new) result }
 {
     match command_of::<ViewCommand, BadField, S>(system) {
         Ok(command) => run_command(system, &command, terminal, output),
@@ -51,15 +56,13 @@ fn run_command<S: System, T: Console, K: Sink>(
     terminal: &mut T,
     output: &mut K,
 ) -> Outcome<(), BadField>
-    ensures { EndsWith (S.gives system.now) (T.observed terminal.old) (T.observed terminal.new) (K.observed output.old) (K.observed output.new) command.now result }
+    ensures { EndsWith (S.gives system.now) (CanBeOpen T.observed T.is_open (T.observed terminal.old)) (T.observed terminal.old) (T.observed terminal.new)
+        (K.observed output.old) (K.observed output.new) command.now result }
 {
     let alloc = system.alloc();
     let depth = depth(system)?;
     match command {
-        ViewCommand::Frames => {
-            terminal.open()?;
-            display_outcome(show_frames(alloc, depth, terminal))
-        }
+        ViewCommand::Frames => run_frames(alloc, depth, terminal),
         ViewCommand::Rows(_) => {
             let mut source = system.open(command.input_name())?;
             run_json(
@@ -71,4 +74,13 @@ fn run_command<S: System, T: Console, K: Sink>(
             )
         }
     }
+}
+
+/// Opens the terminal, and shows on it the scenes that it gives.
+fn run_frames<T: Console>(alloc: Global, depth: Depth, terminal: &mut T) -> Outcome<(), BadField>
+    ensures { EndsOpening (CanBeOpen T.observed T.is_open (T.observed terminal.old)) (T.observed terminal.old) (T.observed terminal.new)
+        (Unit {0}) (AreFramesShown depth (T.observed terminal.old) (T.observed terminal.new)) result }
+{
+    open_terminal::<BadField, T>(terminal)?;
+    display_outcome(show_frames(alloc, depth, terminal))
 }

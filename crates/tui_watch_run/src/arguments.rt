@@ -2,8 +2,6 @@
 
 use arrayvec::ArrayVec;
 use std::alloc::Global;
-use tui_io::{Sink, WriteFault};
-use tui_program::Rejects;
 use tui_system::SystemCommand;
 
 /// What the arguments name: FOLDER, which may be left out.
@@ -27,18 +25,5 @@ impl SystemCommand for WatchCommand {
         Some(WatchCommand {
             folder: arguments.pop(),
         })
-    }
-}
-
-/// The program rejects no value.
-impl Rejects for WatchCommand {
-    ghost use Rattle.tui_watch_run.specs.Ends.{no_line};
-
-    type Refusal = ();
-
-    ghost line = { no_line };
-
-    fn reject<K: Sink>(_refusal: (), _sink: &mut K) -> Result<(), WriteFault> {
-        Ok(())
     }
 }

@@ -14,7 +14,8 @@ is_between low high n = int_le low n && int_le n high
 -- the calendar, from the year -9999 to 9999, has this day
 abbrev pub has_day : ℤ → ℤ → ℤ → Bool
 has_day year month day =
-    is_between (negsuc 9998) (pos 9999) year && (is_between (pos 1) (pos 12) month && is_between (pos 1) (pos (days_in_month year (unsigned_abs month))) day)
+    is_between (negsuc 9998) (pos 9999) year &&
+    (is_between (pos 1) (pos 12) month && is_between (pos 1) (pos (days_in_month year (unsigned_abs month))) day)
 
 -- the date with these numbers
 unfoldable pub civil_of : ℤ → ℤ → ℤ → Option DateData

@@ -1,12 +1,16 @@
-use Rattle.std.proofs.Common.{Err, Ok}
-use Rattle.tui_browse_run.proofs.Parsing.{ends_stopped}
+use Rattle.std.proofs.lemmas.Result.{err_from_is_err_and}
 use Rattle.tui_browse_run.proofs.program.browse.Goals as goal
+use Rattle.tui_system.proofs.Ending.{ends_unopened}
+use Rattle.tui_system.specs.Opening.{opened}
 
-pub returns-in-Ok : goal.returns-in-Ok
-returns-in-Ok g c =
-    let shown = c.in-Ok.ensures.shown in
-    (Ok shown.0, shown.1, (c.in-Ok.end, shown.2, c.session_outcome.ensures))
+pub returns-in_err-open_terminal : goal.returns-in_err-open_terminal
+returns-in_err-open_terminal g c =
+    let p = err_from_is_err_and c.from_residual.result c.from_residual.ensures.1 in
+    rw (p.1, p.2) (ends_unopened _ (g.T.Console.is_open c.open_terminal.new.terminal) _ _ _ _ c.in_err-open_terminal.field-0.0
+    c.in_err-open_terminal.ensures tt)
 
-pub returns-in-Err : goal.returns-in-Err
-returns-in-Err g c =
-    (Err c.in-Err.stop, c.in-Err.ensures.shown, ends_stopped _ _ _ c.in-Err.stop c.tell.result c.in-Err.ensures.still c.tell.ensures)
+pub returns : goal.returns
+returns g c =
+    let is = c.in_ok-open_terminal.ensures in
+    let run = rw is.0 at c.browse_on.ensures in
+    opened c.browse_on.result (c.open_terminal.new.terminal, is.0, is.1) run

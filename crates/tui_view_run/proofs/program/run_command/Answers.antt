@@ -2,27 +2,21 @@ use Rattle.std.proofs.Common.{refl}
 use Rattle.std.proofs.lemmas.Result.{err_from_is_err_and}
 use Rattle.tui_view_run.proofs.Ending.{rows_run, unchanged}
 use Rattle.tui_view_run.proofs.program.run_command.Goals as goal
-use Rattle.tui_view_run.specs.Ends.{frames, out_of_memory, rows}
+use Rattle.tui_view_run.specs.Ends.{frames, rows}
 
 pub returns-in_err-depth : goal.returns-in_err-depth
 returns-in_err-depth g c =
     let p = err_from_is_err_and c.from_residual.result c.from_residual.ensures.1 in
-    rw (p.1, p.2) (unchanged _ _ _ _)
-
-pub returns-in_err-open-in-Frames : goal.returns-in_err-open-in-Frames
-returns-in_err-open-in-Frames g c =
-    let p = err_from_is_err_and c.from_residual-in_err-open-in-Frames.result c.from_residual-in_err-open-in-Frames.ensures.1 in
-    rw (p.1, p.2) (out_of_memory c.args.command.now c.open.ensures refl)
+    rw (p.1, p.2) (unchanged _ _ _ _ _)
 
 pub returns-in_err-source-in-Rows : goal.returns-in_err-source-in-Rows
 returns-in_err-source-in-Rows g c =
     let p = err_from_is_err_and c.from_residual-in_err-source-in-Rows.result c.from_residual-in_err-source-in-Rows.ensures.1 in
-    rw (p.1, p.2) (unchanged _ _ _ _)
+    rw (p.1, p.2) (unchanged _ _ _ _ _)
 
-pub returns-in_ok-open-in-Frames : goal.returns-in_ok-open-in-Frames
-returns-in_ok-open-in-Frames g c =
-    let run = rw c.open.ensures at c.show_frames.ensures in
-    rw (c.in-Frames.is, c.display_outcome.ensures) (frames c.in_ok-depth.depth c.show_frames.result c.in_ok-depth.ensures run refl)
+pub returns-in-Frames : goal.returns-in-Frames
+returns-in-Frames g c =
+    rw c.in-Frames.is (frames c.in_ok-depth.depth c.run_frames.result c.in_ok-depth.ensures c.run_frames.ensures refl)
 
 pub returns-in_ok-source-in-Rows : goal.returns-in_ok-source-in-Rows
 returns-in_ok-source-in-Rows g c =

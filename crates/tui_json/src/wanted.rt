@@ -1,0 +1,14 @@
+//! What a value should be.
+
+/// What a value of a kind is, in words, or by the bounds of a kind that has some.
+#[derive(Clone, Copy, Debug, PartialEq, Eq)]
+pub enum Wanted<'v> {
+    /// Such as `true or false`.
+    Words(&'v str),
+    /// A whole number from the first to the second.
+    Number(u64, u64),
+    /// A string of at least this many bytes, and at most so many.
+    Text(usize, usize),
+    /// An array of at least this many values, and at most so many, and what they are, such as `strings`.
+    Values(usize, usize, &'v str),
+}
