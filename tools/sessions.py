@@ -1,4 +1,4 @@
-"""Sessions of the interactive programs, one key in each read: `tools/faults browse`, `form`, `files` and `watch`.
+"""Sessions of the interactive programs, one key in each read: `tools/faults browse`, `form`, `files`, `watch` and `view`.
 
 - Each request for memory fails in turn (tools/refuse.c). The exit status is 8. If the program has entered the screen,
   it leaves it; else it has written nothing.
@@ -345,7 +345,23 @@ def watch(work):
     try_all(session, work)
 
 
-PROGRAMS = {"browse": browse, "form": form, "files": files, "watch": watch}
+# ---- tui_view frames: scenes, one in each read
+
+FRAMES = [json.dumps({"width": 20, "height": 4, "items": [
+    {"widget": "gauge", "area": [0, 0, 20, 1], "percent": percent}, {"widget": "paragraph", "area": [0, 1, 20, 3], "text": f"{percent} of 100, 漢字"}]}).encode() + b"\n"
+    for percent in (0, 40, 80)] + [b'{"width":20,"height":4,"items":[{"widget":"gauge","area":[0,0,20,1],"percent":101}]}\n', b"no scene\n"]
+
+
+def view(work):
+    session = Session("view frames", built("tui_view"), ["frames"], FRAMES, 0, 0, b"")
+    requests, library, again = without_memory(session, work)
+    writes = without_writes(session, work)
+    without_screen(session, work)
+    print(f"faults: {session.name}: {requests} requests failed in turn, of which {library} were of the C library and {again} were made again;",
+          f"{writes} writes failed in turn", flush=True)
+
+
+PROGRAMS = {"browse": browse, "form": form, "files": files, "watch": watch, "view": view}
 
 
 def built(name):

@@ -21,8 +21,8 @@ use tui_app::{AppEnd, Terminal};
 use tui_json::InputError;
 use tui_pager_lib::Entry;
 use tui_pager_run::{BadInput, explain_input};
-use tui_program::{Outcome, Stop};
-use tui_system::{FileCommand, Setting, System, json_or_explain, read_for_command, setting};
+use tui_program::{Outcome, Stop, json_or_explain};
+use tui_system::{FileCommand, NamedFile, Setting, System, read_for_command, setting};
 
 /// Shows what the file has that the arguments name. If the run is stopped before, nothing is written to the terminal.
 pub(crate) fn show_file<S: System, T: Terminal>(
@@ -63,7 +63,7 @@ fn show_json<S: System, T: Terminal>(
     ensures shown { Reaches (MeansJson entries_of bytes.items) (AreEntriesShown setting (T.observed terminal.old) (T.observed terminal.new)) result }
     ensures still { OnErr result (terminal.new ≡ terminal.old) }
 {
-    let value = json_or_explain(system, name, bytes)?;
+    let value = json_or_explain(system.alloc(), bytes, &NamedFile { system, name })?;
     let entries = entries_or_explain(system, name, &value)?;
     Ok(show(system.alloc(), entries, setting, terminal))
 }

@@ -1,17 +1,16 @@
 -- Where a rejected form has the value that is not valid, and what that should be.
-use Rattle.std.specs.Prelude.{ℕ, Option, Some, None, codes, map, option_map}
+use Rattle.std.specs.Prelude.{ℕ, Option, Some, None, codes, map}
 use Rattle.std.specs.Option.{option_or}
 use Rattle.serde_json.specs.Data.{Data}
-use Rattle.serde_json.specs.Find.{as_bool, as_str, get}
+use Rattle.serde_json.specs.Find.{as_bool, as_str}
 use Rattle.tui_form_run.specs.Input.{name_text, texts_of}
 use Rattle.tui_form_run.specs.Kinds.{kinds}
-use Rattle.tui_form_run.specs.Refusals.{key_name}
 use Rattle.tui_form_run.specs.declared.bad_form.BadForm.{BadForm}
 use Rattle.tui_form_run.specs.declared.field_kind.FieldKind.{FieldKind}
 use Rattle.tui_form_run.specs.declared.field_kind.FieldKind.TheVariants.{Text, Choice, Check}
 use Rattle.tui_form_run.specs.declared.key.FormKey.{FormKey}
 use Rattle.tui_form_run.specs.declared.key.FormKey.TheVariants as keys
-use Rattle.tui_json.specs.Faults.{FaultData, WantedData, elements_fault, fault_of, inside, inside_at, key, member_fault, no_parts, number, optional_member_fault, text, values, whole, words}
+use Rattle.tui_json.specs.Faults.{FaultData, WantedData, elements_fault, fault_of, inside_at, member_fault, no_parts, not_allowed, number, optional_member_fault, text, values, words}
 use Rattle.tui_json.specs.Members.{member}
 use Rattle.tui_json.specs.Named.{listed_names, named_of}
 use Rattle.tui_json.specs.Number.{within}
@@ -42,10 +41,6 @@ object_fault = fault_of object_of (words (codes "an object")) no_parts
 
 -- ---- keys
 
--- a value that is of its kind, and that the form does not allow
-abbrev pub not_allowed : WantedData → FormKey → Data → Option FaultData
-not_allowed wanted k d = inside (key (key_name k)) (option_map (whole wanted) (get (key_name k) d))
-
 -- a key of the form
 abbrev pub key_fault : FormKey → Data → Option FaultData
 key_fault keys.Title = member_fault a_string string_fault (codes "title")
@@ -57,13 +52,13 @@ abbrev pub value_fault : Option FieldKind → Data → Option FaultData
 value_fault (Some Check) d = optional_member_fault flag_fault (codes "value") d
 value_fault (Some Text) d = optional_member_fault string_fault (codes "value") d
 value_fault (Some Choice) d = option_or (optional_member_fault string_fault (codes "value") d)
-    (not_allowed (words (codes "one of the strings in `of`")) keys.Value d)
+    (not_allowed (words (codes "one of the strings in `of`")) (codes "value") d)
 value_fault None d = None
 
 -- a key of a field
 abbrev pub field_fault : FormKey → Data → Option FaultData
 field_fault keys.Name d = option_or (member_fault (text 1 64) (fault_of name_text (text 1 64) no_parts) (codes "name") d)
-    (not_allowed (words (codes "a name that no field before it has")) keys.Name d)
+    (not_allowed (words (codes "a name that no field before it has")) (codes "name") d)
 field_fault keys.Label d = member_fault a_string string_fault (codes "label") d
 field_fault keys.Kind d = member_fault a_kind (fault_of (named_of kinds) a_kind no_parts) (codes "kind") d
 field_fault keys.Most d = optional_member_fault (fault_of (within 1 1000) (number 1 1000) no_parts) (codes "most") d

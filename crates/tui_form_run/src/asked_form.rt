@@ -15,8 +15,8 @@ use crate::reading::form_of;
 use serde_json::Value;
 use tui_form_lib::Form;
 use tui_json::InputError;
-use tui_program::Outcome;
-use tui_system::{FileCommand, System, json_or_explain, read_for_command};
+use tui_program::{Outcome, json_or_explain};
+use tui_system::{FileCommand, NamedFile, System, read_for_command};
 
 /// A form, and the files that it was named with.
 #[derive(Drop)]
@@ -30,8 +30,9 @@ pub(crate) fn read_form<S: System>(system: &S) -> Outcome<AskedForm, BadForm>
     ensures { Reaches (ComesTo (S.gives system.now) form_reader) IsAskedWith result }
 {
     let (files, bytes) = read_for_command::<FormFiles, BadForm, S>(system)?;
-    let value = json_or_explain(system, files.file(), bytes)?;
-    let form = form_or_explain(system, files.file(), &value)?;
+    let name = files.file();
+    let value = json_or_explain(system.alloc(), bytes, &NamedFile { system, name })?;
+    let form = form_or_explain(system, name, &value)?;
     Ok(AskedForm { files, form })
 }
 

@@ -2,9 +2,9 @@
 
 ghost use Rattle.std.specs.Prelude.{◌≡◌, IfOk, option_map, string_bytes};
 ghost use Rattle.serde_json.specs.View.{view};
-ghost use Rattle.tui_form_run.specs.Faults.{field_fault, form_fault, key_fault, not_allowed, value_fault};
+ghost use Rattle.tui_form_run.specs.Faults.{field_fault, form_fault, key_fault};
 ghost use Rattle.tui_json.specs.Explanation.{explanation};
-ghost use Rattle.tui_json.specs.Faults.{fault_data, words};
+ghost use Rattle.tui_json.specs.Faults.{fault_data};
 
 use crate::bad_form::BadForm;
 use crate::field_kind::FieldKind;
@@ -14,8 +14,8 @@ use serde_json::Value;
 use std::alloc::Global;
 use tui_cells::Mem;
 use tui_json::{
-    ByName, Fault, Objects, Step, Wanted, Within, by_name, explain, inside, inside_at,
-    member_fault, optional_member_fault, value_at,
+    ByName, Fault, Objects, Within, by_name, explain, inside_at, member_fault, not_allowed,
+    optional_member_fault, value_at,
 };
 
 /// Returns what is wrong with a form that was rejected, in words: where the value is, what is wanted there, and what is
@@ -77,12 +77,7 @@ fn name_fault<'v>(alloc: Global, value: &'v Value) -> Mem<Option<Fault<'v>>>
 {
     match member_fault::<NameText<'v>, FormKey>(alloc, value, "name")? {
         Some(fault) => Ok(Some(fault)),
-        None => not_allowed(
-            alloc,
-            value,
-            FormKey::Name,
-            "a name that no field before it has",
-        ),
+        None => not_allowed(alloc, value, "name", "a name that no field before it has"),
     }
 }
 
@@ -101,26 +96,8 @@ fn value_fault<'v>(alloc: Global, value: &'v Value) -> Mem<Option<Fault<'v>>>
             alloc, value, "value",
         )? {
             Some(fault) => Ok(Some(fault)),
-            None => not_allowed(alloc, value, FormKey::Value, "one of the strings in `of`"),
+            None => not_allowed(alloc, value, "value", "one of the strings in `of`"),
         },
-        None => Ok(None),
-    }
-}
-
-/// Returns the fault of a value that is of its kind, and that the form does not allow.
-fn not_allowed<'v>(
-    alloc: Global,
-    value: &'v Value,
-    key: FormKey,
-    wanted: &'v str,
-) -> Mem<Option<Fault<'v>>>
-    ensures { IfOk result (λ found. option_map fault_data found ≡ not_allowed (words wanted.now) key (view value.now)) }
-{
-    match value.get(key.name()) {
-        Some(member) => inside(
-            Some(Fault::whole(alloc, Wanted::Words(wanted), member)),
-            Step::Key(key.name()),
-        ),
         None => Ok(None),
     }
 }

@@ -1,9 +1,10 @@
 -- Column widths: a number, or an object with one of several members.
-use Rattle.std.specs.Prelude.{ℕ, List, Option, Some, None, option_map, codes}
+use Rattle.std.specs.Prelude.{ℕ, List, Option, Some, None, option_map, option_and_then, codes}
 use Rattle.serde_json.specs.Data.{Data}
-use Rattle.serde_json.specs.Find.{get}
+use Rattle.serde_json.specs.Find.{as_array, get}
 use Rattle.tui_layout.specs.declared.constraint.Constraint.{Constraint}
 use Rattle.tui_layout.specs.declared.constraint.Constraint.TheVariants.{Length, Min, Max, Percentage, Fill, Ratio}
+use Rattle.tui_json.specs.Faults.{FaultData, WantedData, ◌or◌, fault_of, given_member_fault, no_parts, number, pair_fault, two_values, words}
 use Rattle.tui_json.specs.Members.{pair_of}
 use Rattle.tui_json.specs.Number.{u16_of, u32_of}
 
@@ -27,3 +28,27 @@ unfoldable pub constraint_of : Data → Option Constraint
 constraint_of d = member_or (of_u16 Length) (codes "length") d (member_or (of_u16 Min) (codes "min") d (member_or (of_u16 Max) (codes "max") d
     (member_or (of_u16 Percentage) (codes "percentage") d (member_or (of_u16 Fill) (codes "fill") d (member_or ratio_of (codes "ratio") d
     (of_u16 Length d))))))
+
+abbrev pub a_constraint : WantedData
+a_constraint = words (codes "a whole number from 0 to 65535, or an object with `length`, `min`, `max`, `percentage`, `fill` or `ratio`")
+
+-- a number that is not of its kind
+abbrev pub short_fault : Data → Option FaultData
+short_fault = fault_of u16_of (number 0 65535) no_parts
+
+abbrev pub long_fault : Data → Option FaultData
+long_fault = fault_of u32_of (number 0 4294967295) no_parts
+
+-- a ratio that is not two numbers
+abbrev pub ratio_fault : Data → Option FaultData
+ratio_fault = fault_of (pair_of u32_of u32_of) two_values (λ d. option_and_then (pair_fault long_fault long_fault) (as_array d))
+
+-- the member that decides, if it is not of its kind
+abbrev pub constraint_fault : Data → Option FaultData
+constraint_fault d =
+    given_member_fault short_fault (codes "length") d
+    or given_member_fault short_fault (codes "min") d
+    or given_member_fault short_fault (codes "max") d
+    or given_member_fault short_fault (codes "percentage") d
+    or given_member_fault short_fault (codes "fill") d
+    or given_member_fault ratio_fault (codes "ratio") d

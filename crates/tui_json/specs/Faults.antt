@@ -1,10 +1,11 @@
 -- Why a value is not of its kind: where in it a value is that is not, what was wanted there, and what is there.
-use Rattle.std.specs.Prelude.{◌≡◌, ℕ, ◌+◌, List, [], ◌∷◌, ◌++◌, Option, Some, None, IfSome, map, option_map, option_and_then}
+use Rattle.std.specs.Prelude.{◌≡◌, ℕ, ◌+◌, List, [], ◌∷◌, ◌++◌, Option, Some, None, IfSome, map, option_map, option_and_then, codes, if◌then◌else◌}
 use Rattle.std.specs.Option.{option_or}
 use Rattle.serde_json.specs.Data.{Data, Items, no_items, item}
 use Rattle.serde_json.specs.Find.{as_array, at, get}
 use Rattle.serde_json.specs.View.{view}
 use Rattle.tui_json.specs.Members.{unless_null}
+use Rattle.tui_json.specs.Objects.{is_object}
 use Rattle.tui_json.specs.declared.fault.Fault.{Fault}
 use Rattle.tui_json.specs.declared.fault.Step.{Step}
 use Rattle.tui_json.specs.declared.fault.Step.TheVariants as steps
@@ -70,15 +71,23 @@ fault_of {A = A} kind wanted parts d = unless (kind d)
     unless (Some value) = None
     unless None = option_or (parts d) (Some (whole wanted d))
 
+-- the first of two faults that there is
+infixl 6 ◌or◌
+abbrev pub ◌or◌ : Option FaultData → Option FaultData → Option FaultData
+first or second = option_or first second
+
 -- no part has a fault of its own
 abbrev pub no_parts : Data → Option FaultData
 no_parts d = None
 
 -- ---- faults of parts
 
--- of the member of this name, which has to be there
+abbrev pub an_object : WantedData
+an_object = words (codes "an object")
+
+-- of the member of this name, which has to be there, of a value that has to be an object
 abbrev pub member_fault : WantedData → (Data → Option FaultData) → List ℕ → Data → Option FaultData
-member_fault wanted fault name d = inside (key name) (found (get name d))
+member_fault wanted fault name d = if is_object d then inside (key name) (found (get name d)) else Some (whole an_object d)
   where
     found : Option Data → Option FaultData
     found None = Some (missing wanted)
@@ -88,6 +97,18 @@ member_fault wanted fault name d = inside (key name) (found (get name d))
 abbrev pub optional_member_fault : (Data → Option FaultData) → List ℕ → Data → Option FaultData
 optional_member_fault fault name d = inside (key name) (option_and_then fault (option_and_then unless_null (get name d)))
 
+-- of the member of this name, which may be absent; null is a value
+abbrev pub given_member_fault : (Data → Option FaultData) → List ℕ → Data → Option FaultData
+given_member_fault fault name d = inside (key name) (option_and_then fault (get name d))
+
+-- of a member of this name that is of its kind, and that is not allowed
+abbrev pub not_allowed : WantedData → List ℕ → Data → Option FaultData
+not_allowed wanted name d = inside (key name) (option_map (whole wanted) (get name d))
+
+-- of an object; another value has no members
+abbrev pub members_fault : (Data → Option FaultData) → Data → Option FaultData
+members_fault fault d = if is_object d then fault d else None
+
 -- of the first of some values that has one; the first has the index `i`
 unfoldable pub items_fault : (Data → Option FaultData) → ℕ → Items → Option FaultData
 items_fault fault i no_items = None
@@ -96,6 +117,9 @@ items_fault fault i (item d ds) = option_or (inside (index i) (fault d)) (items_
 -- of the values of an array
 abbrev pub elements_fault : (Data → Option FaultData) → Data → Option FaultData
 elements_fault fault d = option_and_then (items_fault fault 0) (as_array d)
+
+abbrev pub two_values : WantedData
+two_values = words (codes "an array of two values")
 
 -- of the two values of an array
 abbrev pub pair_fault : (Data → Option FaultData) → (Data → Option FaultData) → Items → Option FaultData

@@ -129,10 +129,10 @@ impl<'v, F, A: Kind<'v, F> + Drop, B: Kind<'v, F>> Kind<'v, F> for (A, B) {
 }
 
 impl<'v, F, A: Explains<'v, F>, B: Explains<'v, F>> Explains<'v, F> for (A, B) {
-    ghost use Rattle.std.specs.Prelude.{codes, option_and_then};
-    ghost use Rattle.tui_json.specs.Faults.{words};
+    ghost use Rattle.std.specs.Prelude.{option_and_then};
+    ghost use Rattle.tui_json.specs.Faults.{two_values};
 
-    ghost wanted = { words (codes "an array of two values") };
+    ghost wanted = { two_values };
 
     ghost part_fault = { λ d. option_and_then
         (pair_fault (fault_of A.kind A.wanted A.part_fault) (fault_of B.kind B.wanted B.part_fault)) (as_array d) };

@@ -4,10 +4,14 @@ ghost use Rattle.std.specs.Prelude.{◌≡◌};
 ghost use Rattle.serde_json.specs.View.{view};
 ghost use Rattle.tui_json.specs.Constraint.{constraint_of, ratio_of};
 
+use crate::explains::{Explains, given_member_fault};
+use crate::fault::Fault;
 use crate::kind::{Kind, KindError};
 use crate::number::{u16_of, u32_of};
+use crate::wanted::Wanted;
 use serde_json::Value;
 use std::alloc::Global;
+use tui_cells::Mem;
 use tui_layout::Constraint;
 
 #[tactic(auto, using(crate::proofs::Arrays::pair_other), unfolding(crate::specs::Members::pair_of))]
@@ -55,5 +59,30 @@ impl<'v, F> Kind<'v, F> for Constraint {
 
     fn read(_alloc: Global, value: &'v Value) -> Result<Constraint, KindError> {
         constraint_of(value).ok_or(KindError::WrongKind)
+    }
+}
+
+impl<'v, F> Explains<'v, F> for Constraint {
+    ghost use Rattle.tui_json.specs.Constraint.{a_constraint, constraint_fault};
+
+    ghost wanted = { a_constraint };
+
+    ghost part_fault = { constraint_fault };
+
+    fn wanted() -> Wanted<'v> {
+        Wanted::Words(
+            "a whole number from 0 to 65535, or an object with `length`, `min`, `max`, \
+             `percentage`, `fill` or `ratio`",
+        )
+    }
+
+    fn part_fault(alloc: Global, value: &'v Value) -> Mem<Option<Fault<'v>>> {
+        let length = given_member_fault::<u16, F>(alloc, value, "length")?;
+        let min = given_member_fault::<u16, F>(alloc, value, "min")?;
+        let max = given_member_fault::<u16, F>(alloc, value, "max")?;
+        let percentage = given_member_fault::<u16, F>(alloc, value, "percentage")?;
+        let fill = given_member_fault::<u16, F>(alloc, value, "fill")?;
+        let ratio = given_member_fault::<(u32, u32), F>(alloc, value, "ratio")?;
+        Ok(length.or(min).or(max).or(percentage).or(fill).or(ratio))
     }
 }

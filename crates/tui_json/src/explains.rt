@@ -3,7 +3,7 @@
 ghost use Rattle.std.specs.Prelude.{◌≡◌, IfOk, Option, option_map};
 ghost use Rattle.serde_json.specs.Data.{Data};
 ghost use Rattle.serde_json.specs.View.{items_view, view};
-ghost use Rattle.tui_json.specs.Faults.{FaultData, WantedData, elements_fault, fault_data, fault_of, index, inside, items_fault, key, member_fault, optional_member_fault, value_at, wanted_data};
+ghost use Rattle.tui_json.specs.Faults.{FaultData, WantedData, elements_fault, fault_data, fault_of, given_member_fault, index, inside, items_fault, key, member_fault, not_allowed, optional_member_fault, value_at, wanted_data, words};
 
 use crate::fault::{Fault, Step, inside};
 use crate::kind::{Kind, KindError};
@@ -48,7 +48,7 @@ pub fn fault_of<'v, T: Explains<'v, F>, F>(
     }
 }
 
-/// Returns the fault of the member of this name, which has to be there.
+/// Returns the fault of the member of this name, which has to be there. A value that is no object is at fault itself.
 pub fn member_fault<'v, T: Explains<'v, F>, F>(
     alloc: Global,
     value: &'v Value,
@@ -57,6 +57,9 @@ pub fn member_fault<'v, T: Explains<'v, F>, F>(
     ensures { IfOk result (λ found. option_map fault_data found
         ≡ member_fault T.wanted (fault_of T.kind T.wanted T.part_fault) name.now (view value.now)) }
 {
+    if !value.is_object() {
+        return Ok(Some(Fault::whole(alloc, Wanted::Words("an object"), value)));
+    }
     let found = match value.get(name) {
         Some(member) => fault_of::<T, F>(alloc, member)?,
         None => Some(Fault::missing(alloc, T::wanted())),
@@ -78,6 +81,40 @@ pub fn optional_member_fault<'v, T: Explains<'v, F>, F>(
         None => None,
     };
     inside(found, Step::Key(name))
+}
+
+/// Returns the fault of the member of this name, which may be absent. Null is read as a value of the kind.
+pub fn given_member_fault<'v, T: Explains<'v, F>, F>(
+    alloc: Global,
+    value: &'v Value,
+    name: &'v str,
+) -> Mem<Option<Fault<'v>>>
+    ensures { IfOk result (λ found. option_map fault_data found
+        ≡ given_member_fault (fault_of T.kind T.wanted T.part_fault) name.now (view value.now)) }
+{
+    let found = match value.get(name) {
+        Some(member) => fault_of::<T, F>(alloc, member)?,
+        None => None,
+    };
+    inside(found, Step::Key(name))
+}
+
+/// Returns the fault of the member of this name, which is of its kind and is not allowed. None if it is absent.
+pub fn not_allowed<'v>(
+    alloc: Global,
+    value: &'v Value,
+    name: &'v str,
+    wanted: &'v str,
+) -> Mem<Option<Fault<'v>>>
+    ensures { IfOk result (λ found. option_map fault_data found ≡ not_allowed (words wanted.now) name.now (view value.now)) }
+{
+    match value.get(name) {
+        Some(member) => inside(
+            Some(Fault::whole(alloc, Wanted::Words(wanted), member)),
+            Step::Key(name),
+        ),
+        None => Ok(None),
+    }
 }
 
 /// Returns the fault of the first of these values that is not of the kind.

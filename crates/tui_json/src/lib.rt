@@ -21,8 +21,8 @@ mod wanted;
 pub use array::{Counted, each, elements};
 pub use constraint::constraint_of;
 pub use explains::{
-    Explains, elements_fault, fault_of, inside_at, items_fault, member_fault,
-    optional_member_fault, value_at,
+    Explains, elements_fault, fault_of, given_member_fault, inside_at, items_fault, member_fault,
+    not_allowed, optional_member_fault, value_at,
 };
 pub use explanation::explain;
 pub use fault::{Fault, Step, inside};

@@ -96,6 +96,36 @@ impl<'v, F> Explains<'v, F> for u16 {
     }
 }
 
+impl<'v, F> Kind<'v, F> for u32 {
+    ghost use Rattle.std.specs.Prelude.{ℕ};
+
+    ghost AsData = { ℕ };
+
+    ghost as_data = { λ n. n };
+
+    ghost kind = { u32_of };
+
+    fn read(_alloc: Global, value: &'v Value) -> Result<u32, KindError> {
+        u32_of(value).ok_or(KindError::WrongKind)
+    }
+}
+
+impl<'v, F> Explains<'v, F> for u32 {
+    ghost use Rattle.tui_json.specs.Faults.{no_parts, number};
+
+    ghost wanted = { number 0 4294967295 };
+
+    ghost part_fault = { no_parts };
+
+    fn wanted() -> Wanted<'v> {
+        Wanted::Number(0, 4_294_967_295)
+    }
+
+    fn part_fault(_alloc: Global, _value: &'v Value) -> Mem<Option<Fault<'v>>> {
+        Ok(None)
+    }
+}
+
 /// A whole number from `LOW` to `HIGH`. Reading it does not allocate.
 #[derive(Drop)]
 pub struct Within<const LOW: u16, const HIGH: u16>(pub u16);

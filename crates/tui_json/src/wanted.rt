@@ -7,8 +7,8 @@ pub enum Wanted<'v> {
     Words(&'v str),
     /// A whole number from the first to the second.
     Number(u64, u64),
-    /// A string of at least this many bytes, and at most so many.
+    /// A string whose length in bytes is from the first to the second number.
     Text(usize, usize),
-    /// An array of at least this many values, and at most so many, and what they are, such as `strings`.
+    /// An array whose length is from the first to the second number, and what its values are, such as `strings`.
     Values(usize, usize, &'v str),
 }

@@ -5,14 +5,12 @@
 use std::process::ExitCode;
 use std::{env, io};
 use tui_io::{StdSink, StdSource};
-use tui_pager_run::{PagerEnded, run_program};
+use tui_pager_run::run_program;
+use tui_program::Process;
 
 fn main(rt: HostRuntime) -> ExitCode {
     let mut source = StdSource::new(rt.reader());
     let mut sink = StdSink::new(io::writer(&rt));
-    let ended = run_program(rt.alloc(), env::args(&rt), &mut source, &mut sink);
-    if ended == PagerEnded::Usage {
-        let _written = eprintln!(rt; "usage: tui_pager");
-    }
-    ended.exit_code()
+    let process = Process::new(&rt, "tui_pager", "tui_pager");
+    run_program(rt.alloc(), env::args(&rt), &mut source, &mut sink, &process).exit_code()
 }

@@ -1,5 +1,5 @@
 -- Where a rejected input has the value that is not valid, and what that should be.
-use Rattle.std.specs.Prelude.{ℕ, Option, Some, None, codes}
+use Rattle.std.specs.Prelude.{ℕ, ◌++◌, Option, Some, None, codes}
 use Rattle.serde_json.specs.Data.{Data}
 use Rattle.tui_json.specs.Faults.{FaultData, WantedData, fault_of, inside_at, member_fault, no_parts, number, text, values, words}
 use Rattle.tui_json.specs.Members.{elements_within}
@@ -32,7 +32,8 @@ entry_fault other = λ d. None
 
 -- a key or a size
 abbrev pub a_step : WantedData
-a_step = words (codes "the name of a key, or [columns, rows] of 12 to 200 columns and 5 to 100 rows")
+a_step = words (codes "`Up`, `Down`, `PageUp`, `PageDown`, `First`, `Last`, `LineUp`, `LineDown`, `BodyTop`, `BodyEnd`, "
+    ++ codes "or `[columns, rows]` of 12 to 200 columns and 5 to 100 rows")
 
 -- the value that is not valid
 abbrev pub input_fault : BadInput → Data → Option FaultData

@@ -5,11 +5,13 @@ ghost use Rattle.tui_pager_run.specs.Input.{input_data};
 ghost use Rattle.tui_pager_run.specs.Printed.{IsWritten};
 
 use crate::bad_input::BadInput;
+use crate::faults::explain_input;
 use crate::input::{Input, read_input};
 use crate::printing::write_run;
 use crate::run::press_keys;
 use serde_json::Value;
 use std::alloc::Global;
+use tui_cells::Mem;
 use tui_io::{Sink, WriteFault};
 use tui_program::{Cleanup, Job, JsonCommand, Outcome, Rejects, are_empty, write_refused_field};
 
@@ -59,6 +61,10 @@ impl Job for PagerCommand {
     ) -> Outcome<(), BadInput> {
         let input = read_input(alloc, value)?;
         show(alloc, input, sink, cleanup)
+    }
+
+    fn explain(&self, alloc: Global, value: &Value, bad: BadInput) -> Mem<Option<String>> {
+        explain_input(alloc, value, bad)
     }
 }
 

@@ -83,7 +83,9 @@ impl<'v> Explains<'v, PagerField> for PagerStep {
 
     fn wanted() -> Wanted<'v> {
         Wanted::Words(
-            "the name of a key, or [columns, rows] of 12 to 200 columns and 5 to 100 rows",
+            "`Up`, `Down`, `PageUp`, `PageDown`, `First`, `Last`, \
+             `LineUp`, `LineDown`, `BodyTop`, `BodyEnd`, or \
+             `[columns, rows]` of 12 to 200 columns and 5 to 100 rows",
         )
     }
 

@@ -11,7 +11,7 @@ use std::alloc::Global;
 use std::env::Args;
 use std::io;
 use tui_io::{Sink, Source};
-use tui_program::{Cleanup, run};
+use tui_program::{Caller, Library, run};
 
 /// Reads entries and keys in JSON (docs/PROGRAMS.md) from the source. Makes the step of each key in order, and writes
 /// the states and the last screen to the sink.
@@ -36,22 +36,21 @@ pub fn run_pager<S: Source, K: Sink>(
     ensures { IsRun pager_rules arguments.now
         (transcript_of (S.observed source.old) (S.observed source.new) (K.observed sink.old) (K.observed sink.new)) (outcome_of result) }
 {
-    run::<PagerCommand, S, K>(alloc, arguments, source, sink, Cleanup::Dropped).into()
+    run::<PagerCommand, S, K, Library>(alloc, arguments, source, sink, &Library).into()
 }
 
 /// Runs as `run_pager` does, with the system's arguments. If the system reports an invalid argument, runs with a single
 /// empty argument, so that the outcome is `Usage`. If it reports that it is out of memory, nothing is read and nothing
 /// is written.
-///
-/// Call this only as the last action of a process: the memory of the run is leaked.
-pub fn run_program<S: Source, K: Sink>(
+pub fn run_program<S: Source, K: Sink, H: Caller>(
     alloc: Global,
     args: io::Result<Args>,
     source: &mut S,
     sink: &mut K,
+    caller: &H,
 ) -> PagerEnded
     ensures { IsRunFrom pager_rules args
         (transcript_of (S.observed source.old) (S.observed source.new) (K.observed sink.old) (K.observed sink.new)) (outcome_of result) }
 {
-    tui_program::run_program::<PagerCommand, S, K>(alloc, args, source, sink).into()
+    tui_program::run_program::<PagerCommand, S, K, H>(alloc, args, source, sink, caller).into()
 }

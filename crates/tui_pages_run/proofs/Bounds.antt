@@ -42,7 +42,7 @@ required_least bounded high key refusal d n is = by_member (get key d) is
     by_member (Some found) h = by_found (within bounded high found) (λ m e. within_least bounded high found m e) h
     by_member None h = absurd cc
 
-bind_ok : {A B R : Type 0} (r : Result A R) (f : A → Result B R) (y : B) → (r >>= f) ≡ Ok y → (x : A) × (r ≡ Ok x) × (f x ≡ Ok y)
+pub bind_ok : {A B R : Type 0} (r : Result A R) (f : A → Result B R) (y : B) → (r >>= f) ≡ Ok y → (x : A) × (r ≡ Ok x) × (f x ≡ Ok y)
 bind_ok (Ok x) f y is = (x, refl, is)
 bind_ok (Err e) f y is = absurd cc
 

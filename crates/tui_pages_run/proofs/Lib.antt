@@ -2,3 +2,4 @@ pub mod Bounds
 pub mod PageRows
 pub mod Pages
 pub mod TooTall
+pub mod Explained

@@ -1,11 +1,13 @@
 -- The rules of the program: its arguments, and what it reads and writes.
-use Rattle.std.specs.Prelude.{◌≡◌, ◌≤◌, ℕ, List, [], ◌∷◌, length, codes, String}
+use Rattle.std.specs.Prelude.{◌≡◌, ◌≤◌, ℕ, List, [], ◌∷◌, length, option_map, codes, String}
 use Rattle.std.specs.declared.alloc.Global.{Global}
+use Rattle.tui_json.specs.Explanation.{explanation}
 use Rattle.tui_pages_lib.specs.Report.{ReportData}
 use Rattle.tui_program.specs.Outcomes.{nothing}
 use Rattle.tui_program.specs.Rules.{JobRules, Rules, reading_rules}
 use Rattle.tui_program.specs.Arguments.{AreTexts, most_arguments}
 use Rattle.tui_program.proofs.ArgumentLists.{few_none, few_one}
+use Rattle.tui_pages_run.specs.Faults.{report_fault}
 use Rattle.tui_pages_run.specs.Input.{report_in}
 use Rattle.tui_pages_run.specs.Printed.{AreAllPages, AreFewerPages, count_line}
 use Rattle.tui_pages_run.specs.Refusals.{refusal_line}
@@ -35,7 +37,14 @@ IsAllowedPartial command.Count r text = nothing text
 
 -- what a command does with a value
 abbrev pub pages_job : PagesCommand → JobRules PagesRefusal
-pages_job c = record { Input = ReportData; input_of = report_in; line = refusal_line; expected = IsWritten c; part = IsAllowedPartial c }
+pages_job c = record {
+  Input = ReportData;
+  input_of = report_in;
+  line = refusal_line;
+  explained = λ bad d. option_map explanation (report_fault bad d);
+  expected = IsWritten c;
+  part = IsAllowedPartial c;
+}
 
 -- the rules of all commands
 abbrev pub pages_rules : Rules PagesCommand PagesRefusal

@@ -5,11 +5,13 @@ ghost use Rattle.tui_pages_lib.specs.Strokes.{page_area};
 ghost use Rattle.tui_program.specs.Outcomes.{AnswersWith, no_refusal};
 ghost use Rattle.tui_pages_run.specs.Rules.{IsAllowedPartial, IsWritten};
 
+use crate::faults::explain_report;
 use crate::paged_report::{PagedReport, read_report};
 use crate::printing::{print_count, print_pages};
 use crate::refusal::{PagesRefusal, write_refusal};
 use serde_json::Value;
 use std::alloc::Global;
+use tui_cells::Mem;
 use tui_io::{Sink, WriteFault};
 use tui_program::{Cleanup, Job, JsonCommand, Outcome, Rejects, are_empty, is_single_argument};
 
@@ -68,6 +70,10 @@ impl Job for PagesCommand {
         let answer = write(*self, alloc, &paged, sink);
         cleanup.dispose_of(paged);
         answer
+    }
+
+    fn explain(&self, alloc: Global, value: &Value, bad: PagesRefusal) -> Mem<Option<String>> {
+        explain_report(alloc, value, bad)
     }
 }
 

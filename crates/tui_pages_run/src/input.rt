@@ -2,18 +2,16 @@
 
 ghost use Rattle.std.specs.Prelude.{map};
 ghost use Rattle.serde_json.specs.View.{view};
-ghost use Rattle.tui_json.specs.Kinds.{Reads};
 ghost use Rattle.tui_json.specs.Refusals.{Gives};
 ghost use Rattle.tui_pages_lib.specs.Report.{cells_of, column_data};
-ghost use Rattle.tui_pages_run.specs.Input.{column_of, input_data, input_of, record_of, sheet_data, sheet_of, texts_of};
+ghost use Rattle.tui_pages_run.specs.Input.{column_of, input_data, input_of, record_of, sheet_data, sheet_of};
 
 use crate::field::ReportField;
+use crate::record_texts::RecordTexts;
 use crate::refusal::PagesRefusal;
 use serde_json::Value;
 use std::alloc::Global;
-use tui_json::{
-    Counted, InputError, Kind, KindError, Numbered, Within, each, each_numbered, error_at, required,
-};
+use tui_json::{Counted, InputError, Kind, Numbered, Within, each_numbered, error_at, required};
 use tui_layout::Constraint;
 use tui_pages_lib::{Column, Record};
 
@@ -115,17 +113,9 @@ impl<'v> Numbered<'v, ReportField> for Record<'v> {
         number: usize,
         value: &'v Value,
     ) -> Result<Record<'v>, InputError<PagesRefusal>> {
-        match read_texts(alloc, value) {
-            Ok(cells) => Ok(Record { cells }),
+        match <RecordTexts<'v> as Kind<'v, ReportField>>::read(alloc, value) {
+            Ok(RecordTexts(cells)) => Ok(Record { cells }),
             Err(why) => Err(error_at(ReportField::Records, Some(number), why)),
         }
     }
-}
-
-#[tactic(auto, unfolding(crate::specs::Input::texts_of))]
-fn read_texts<'v>(alloc: Global, value: &'v Value) -> Result<Vec<&'v str>, KindError>
-    ensures { Reads (λ texts. map (λ text. text.now) texts.items) result (texts_of (view value.now)) }
-{
-    let Counted(values) = <Counted<'v, 0, 32> as Kind<'v, ReportField>>::read(alloc, value)?;
-    each::<&'v str, ReportField>(alloc, values)
 }

@@ -11,7 +11,7 @@ use std::alloc::Global;
 use std::env::Args;
 use std::io;
 use tui_io::{Sink, Source};
-use tui_program::{Cleanup, run};
+use tui_program::{Caller, Library, run};
 
 /// Reads a report in JSON (docs/PROGRAMS.md) from the source. Writes its pages to the sink or, with the argument
 /// `count`, how many there are.
@@ -37,22 +37,21 @@ pub fn run_pages<S: Source, K: Sink>(
     ensures { IsRun pages_rules arguments.now
         (transcript_of (S.observed source.old) (S.observed source.new) (K.observed sink.old) (K.observed sink.new)) (outcome_of result) }
 {
-    run::<PagesCommand, S, K>(alloc, arguments, source, sink, Cleanup::Dropped).into()
+    run::<PagesCommand, S, K, Library>(alloc, arguments, source, sink, &Library).into()
 }
 
 /// Runs as `run_pages` does, with the system's arguments. If the system reports an invalid argument, runs with a single
 /// empty argument, so that the outcome is `Usage`. If it reports that it is out of memory, nothing is read and nothing
 /// is written.
-///
-/// Call this only as the last action of a process: the memory of the run is leaked.
-pub fn run_program<S: Source, K: Sink>(
+pub fn run_program<S: Source, K: Sink, H: Caller>(
     alloc: Global,
     args: io::Result<Args>,
     source: &mut S,
     sink: &mut K,
+    caller: &H,
 ) -> PagesEnded
     ensures { IsRunFrom pages_rules args
         (transcript_of (S.observed source.old) (S.observed source.new) (K.observed sink.old) (K.observed sink.new)) (outcome_of result) }
 {
-    tui_program::run_program::<PagesCommand, S, K>(alloc, args, source, sink).into()
+    tui_program::run_program::<PagesCommand, S, K, H>(alloc, args, source, sink, caller).into()
 }

@@ -1,5 +1,5 @@
 -- The rules of the program: its arguments, and what it reads and writes.
-use Rattle.std.specs.Prelude.{ℕ, ◌≤◌, List, [], ◌∷◌, length, codes, String}
+use Rattle.std.specs.Prelude.{ℕ, ◌≤◌, List, [], ◌∷◌, length, None, codes, String}
 use Rattle.std.specs.declared.alloc.Global.{Global}
 use Rattle.tui_cells.specs.Rect.{farthest_edge}
 use Rattle.tui_program.specs.Outcomes.{nothing}
@@ -39,7 +39,14 @@ IsWritten (command.At x y) input text = IsFound x y input text
 
 -- what a command does with a value: nothing is written before all is drawn
 abbrev pub panes_job : PanesCommand → JobRules PanesRefusal
-panes_job c = record { Input = InputData; input_of = input_of; line = refusal_line; expected = IsWritten c; part = λ input. nothing }
+panes_job c = record {
+  Input = InputData;
+  input_of = input_of;
+  line = refusal_line;
+  explained = λ refusal d. None;
+  expected = IsWritten c;
+  part = λ input. nothing;
+}
 
 abbrev pub panes_rules : Rules PanesCommand PanesRefusal
 panes_rules = reading_rules Names panes_job

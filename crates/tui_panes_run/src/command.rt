@@ -15,7 +15,7 @@ use crate::refusal::{PanesRefusal, write_refusal};
 use crate::screen::{drawn, placed};
 use serde_json::Value;
 use std::alloc::Global;
-use tui_cells::Position;
+use tui_cells::{Mem, Position};
 use tui_io::{Sink, WriteFault};
 use tui_print::write_screen;
 use tui_program::{
@@ -88,6 +88,15 @@ impl Job for PanesCommand {
     ) -> Outcome<(), PanesRefusal> {
         let input = read_input(alloc, value)?;
         write(*self, alloc, input, sink, cleanup)
+    }
+
+    fn explain(
+        &self,
+        _alloc: Global,
+        _value: &Value,
+        _refusal: PanesRefusal,
+    ) -> Mem<Option<String>> {
+        Ok(None)
     }
 }
 

@@ -11,7 +11,7 @@ use std::alloc::Global;
 use std::env::Args;
 use std::io;
 use tui_io::{Sink, Source};
-use tui_program::{Cleanup, run};
+use tui_program::{Caller, Library, run};
 
 /// Reads a tree of panes and changes in JSON (docs/PROGRAMS.md) from the source. Without arguments it draws all panes
 /// from first to last; with `reverse` it draws them from last to first. Then it makes the changes, each of which
@@ -35,20 +35,20 @@ pub fn run_panes<S: Source, K: Sink>(
     ensures { IsRun panes_rules arguments.now
         (transcript_of (S.observed source.old) (S.observed source.new) (K.observed sink.old) (K.observed sink.new)) (outcome_of result) }
 {
-    run::<PanesCommand, S, K>(alloc, arguments, source, sink, Cleanup::Dropped).into()
+    run::<PanesCommand, S, K, Library>(alloc, arguments, source, sink, &Library).into()
 }
 
 /// Runs as `run_panes` does, with the arguments that the system gives. If the system rejects one, it runs with one
 /// empty argument, and so ends with `Usage`. If the system has no memory for them, nothing is read and nothing written.
-/// Call it last in a process: it does not free the memory of what it read and drew.
-pub fn run_program<S: Source, K: Sink>(
+pub fn run_program<S: Source, K: Sink, H: Caller>(
     alloc: Global,
     args: io::Result<Args>,
     source: &mut S,
     sink: &mut K,
+    caller: &H,
 ) -> PanesEnded
     ensures { IsRunFrom panes_rules args
         (transcript_of (S.observed source.old) (S.observed source.new) (K.observed sink.old) (K.observed sink.new)) (outcome_of result) }
 {
-    tui_program::run_program::<PanesCommand, S, K>(alloc, args, source, sink).into()
+    tui_program::run_program::<PanesCommand, S, K, H>(alloc, args, source, sink, caller).into()
 }

@@ -1,5 +1,5 @@
 -- The outcomes of a run, and their causes.
-use Rattle.std.specs.Prelude.{◌≡◌, ℕ, ◌⊎◌, List, Result, None, Ok, Err, codes, IsUtf8, String}
+use Rattle.std.specs.Prelude.{◌≡◌, ℕ, ◌⊎◌, List, Result, Some, None, Ok, Err, codes, IsUtf8, String}
 use Rattle.std.specs.declared.alloc.Global.{Global}
 use Rattle.serde_json.specs.Data.{Data}
 use Rattle.serde_json.specs.Read.{read}
@@ -31,6 +31,11 @@ abbrev pub IsExpectedFor : {R : Type 0} → JobRules R → Data → List ℕ →
 IsExpectedFor r d text (Ok u) = IsOutput r d text
 IsExpectedFor r d text (Err (stop.Rejected x)) = (r.input_of d ≡ Err x) × (text ≡ r.line x)
 IsExpectedFor r d text e = ⊥
+
+-- what is said in words of a value at which a run was stopped: only why it is rejected
+abbrev pub IsExplanation : {R : Type 0} → JobRules R → Data → Stop R → List ℕ → Type 0
+IsExplanation r d (stop.Rejected x) text = r.explained x d ≡ Some text
+IsExplanation r d other text = ⊥
 
 -- what has to be written completely after reading
 abbrev pub IsExpected : {R : Type 0} → JobRules R → Transcript → List ℕ → Outcome R → Type 0

@@ -1,5 +1,5 @@
 -- The rules of a program: its arguments, and what its commands have to do.
-use Rattle.std.specs.Prelude.{ℕ, List, Result, String}
+use Rattle.std.specs.Prelude.{ℕ, List, Option, Result, String}
 use Rattle.std.specs.declared.alloc.Global.{Global}
 use Rattle.serde_json.specs.Data.{Data}
 
@@ -11,6 +11,8 @@ pub record JobRules (R : Type 0) : Type 1 where
   pub input_of : Data → Result Input R
   -- the line of a rejection
   pub line : R → List ℕ
+  -- what is wrong with a rejected value, in words, if there are any
+  pub explained : R → Data → Option (List ℕ)
   -- the output
   pub expected : Input → List ℕ → Type 0
   -- first parts of the output that may remain if memory runs out; for most commands `nothing`

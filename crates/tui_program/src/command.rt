@@ -7,7 +7,7 @@ ghost use Rattle.tui_program.specs.Outcomes.{EndsBy};
 ghost use Rattle.tui_program.specs.Rules.{Rules};
 ghost use Rattle.tui_program.specs.Arguments.{IsOnly, most_arguments};
 
-use crate::cleanup::Cleanup;
+use crate::caller::Caller;
 use crate::rejects::Rejects;
 use crate::stop::Outcome;
 use std::alloc::Global;
@@ -25,13 +25,14 @@ pub trait ProgramCommand: Rejects + Sized {
     fn from_arguments(arguments: &[String]) -> Option<Self>
         ensures { IsOnly (λ command. rules.named command arguments.now) result };
 
-    /// Runs the command: reads its input, and writes the expected output.
-    fn run<S: Source, K: Sink>(
+    /// Runs the command: reads its input, and writes the expected output. Says to the caller, in words, what is wrong with
+    /// a rejected input.
+    fn run<S: Source, K: Sink, H: Caller>(
         &self,
         alloc: Global,
         source: &mut S,
         sink: &mut K,
-        cleanup: Cleanup,
+        caller: &H,
     ) -> Outcome<(), Self::Refusal>
         requires { (arguments : List (String Global)) × rules.named self.now arguments }
         ensures { EndsBy (rules.task self.now)

@@ -5,7 +5,7 @@ ghost use Rattle.std.specs.declared.alloc.Global.{Global};
 ghost use Rattle.tui_program.specs.Rules.{reading_rules};
 ghost use Rattle.tui_program.specs.Arguments.{IsOnly, most_arguments};
 
-use crate::cleanup::Cleanup;
+use crate::caller::Caller;
 use crate::command::ProgramCommand;
 use crate::job::{Job, run_json};
 use crate::stop::Outcome;
@@ -34,13 +34,13 @@ impl<C: JsonCommand> ProgramCommand for C {
         C::json_command_of(arguments)
     }
 
-    fn run<S: Source, K: Sink>(
+    fn run<S: Source, K: Sink, H: Caller>(
         &self,
         alloc: Global,
         source: &mut S,
         sink: &mut K,
-        cleanup: Cleanup,
+        caller: &H,
     ) -> Outcome<(), C::Refusal> {
-        run_json(self, alloc, source, sink, cleanup)
+        run_json(self, alloc, source, sink, caller)
     }
 }

@@ -1,5 +1,9 @@
 pub mod Arrays
 pub mod Dates
+pub mod Explained
+pub mod FieldsExplained
+pub mod FieldsLead
+pub mod Narrower
 pub mod Styling
 pub mod Stored
 pub mod TableWidths

@@ -19,6 +19,7 @@ pub mod Span
 pub mod Style
 pub mod Symbol
 pub mod Table
+pub mod TableWidth
 pub mod Text
 pub mod Title
 pub mod Wrap

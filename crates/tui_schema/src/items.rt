@@ -14,7 +14,7 @@ mod scrollbar;
 mod sparkline;
 mod table;
 mod tabs;
-mod widget;
+pub(crate) mod widget;
 
 ghost use Rattle.serde_json.specs.View.{view};
 ghost use Rattle.tui_scene.specs.Item.{item_data, placed_data};

@@ -1,6 +1,7 @@
-//! `==` and clones of fields and errors.
+//! `==` and clones of fields and errors, and that the fault of a rejected scene is found.
 
 ghost use Rattle.std.specs.Prelude.{◌≡◌, true};
+ghost use Rattle.tui_schema.specs.Laws.{ItemsAreExplained, ScenesAreExplained};
 
 use crate::bad_field::BadField;
 use crate::error::SceneError;
@@ -14,4 +15,12 @@ pub fn refusal_laws()
     ensures field_clone { (a b : Field) → ⟦<Field as Clone>⟧.is_clone a b → b ≡ a }
     ensures bad_field_clone { (a b : BadField) → ⟦<BadField as Clone>⟧.is_clone a b → b ≡ a }
     ensures error_clone { (a b : SceneError) → ⟦<SceneError as Clone>⟧.is_clone a b → b ≡ a }
+{}
+
+/// What `explain_scene` and `item_fault` find: a scene that is rejected has a fault, at the field that the rejection
+/// names, and the path leads to the value that is not what is wanted, or to a value that is missing. So has an item whose
+/// area is given elsewhere.
+pub fn explained_law()
+    ensures scenes { ScenesAreExplained }
+    ensures items { ItemsAreExplained }
 {}

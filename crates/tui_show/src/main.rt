@@ -5,14 +5,12 @@
 use std::process::ExitCode;
 use std::{env, io};
 use tui_io::{StdSink, StdSource};
-use tui_show_run::{Ended, run_program};
+use tui_program::Process;
+use tui_show_run::run_program;
 
 fn main(rt: HostRuntime) -> ExitCode {
     let mut source = StdSource::new(rt.reader());
     let mut sink = StdSink::new(io::writer(&rt));
-    let ended = run_program(rt.alloc(), env::args(&rt), &mut source, &mut sink);
-    if ended == Ended::Usage {
-        let _written = eprintln!(rt; "usage: tui_show scene | tui_show demo N");
-    }
-    ended.exit_code()
+    let process = Process::new(&rt, "tui_show", "tui_show scene | tui_show demo N");
+    run_program(rt.alloc(), env::args(&rt), &mut source, &mut sink, &process).exit_code()
 }

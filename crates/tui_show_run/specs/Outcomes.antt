@@ -1,10 +1,12 @@
 -- The outcome of a run: the rules of the program, and what they mean for a run of any program.
-use Rattle.std.specs.Prelude.{ℕ, List, String}
+use Rattle.std.specs.Prelude.{ℕ, List, String, option_map}
 use Rattle.std.specs.declared.alloc.Global.{Global}
 use Rattle.tui_program.specs.Transcript.{Transcript}
 use Rattle.tui_program.specs.Complete.{IsCompleteReading, IsCompleteWithoutReading}
 use Rattle.tui_program.specs.Outcomes as frame
 use Rattle.tui_program.specs.Rules.{JobRules, Rules, Task, reads, only_writes}
+use Rattle.tui_json.specs.Explanation.{explanation}
+use Rattle.tui_schema.specs.FieldFaults.{scene_fault}
 use Rattle.tui_schema.specs.Scene.{SceneData, scene_of}
 use Rattle.tui_show_run.specs.Commands.{IsDemoCommand, IsSceneCommand, Names}
 use Rattle.tui_show_run.specs.Demo.{IsDemo}
@@ -22,6 +24,7 @@ scene_job = record {
   Input = SceneData;
   input_of = scene_of;
   line = λ refused. field_line refused.item refused.field;
+  explained = λ bad d. option_map explanation (scene_fault bad d);
   expected = IsShown;
   part = λ s. frame.nothing;
 }

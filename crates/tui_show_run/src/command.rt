@@ -7,14 +7,15 @@ ghost use Rattle.tui_show_run.specs.Shown.{IsShown};
 use crate::demo::show_demo;
 use serde_json::Value;
 use std::alloc::Global;
+use tui_cells::Mem;
 use tui_io::{Sink, Source, WriteFault};
 use tui_print::write_screen;
 use tui_program::{
-    Cleanup, Job, Numerals, Outcome, ProgramCommand, Rejects, is_single_argument, number_after,
-    run_json, write_refused_in_scene,
+    Caller, Cleanup, Job, Numerals, Outcome, ProgramCommand, Rejects, is_single_argument,
+    number_after, run_json, write_refused_in_scene,
 };
 use tui_scene::draw_new;
-use tui_schema::{BadField, Reading, read_scene};
+use tui_schema::{BadField, Reading, explain_scene, read_scene};
 
 /// A command of the program.
 #[derive(Clone, Copy, Debug, PartialEq, Eq)]
@@ -48,15 +49,15 @@ impl ProgramCommand for ShowCommand {
         }
     }
 
-    fn run<S: Source, K: Sink>(
+    fn run<S: Source, K: Sink, H: Caller>(
         &self,
         alloc: Global,
         source: &mut S,
         sink: &mut K,
-        cleanup: Cleanup,
+        caller: &H,
     ) -> Outcome<(), BadField> {
         match self {
-            ShowCommand::Scene => run_json(self, alloc, source, sink, cleanup),
+            ShowCommand::Scene => run_json(self, alloc, source, sink, caller),
             ShowCommand::Demo(n) => show_demo(alloc, *n, sink),
         }
     }
@@ -90,6 +91,10 @@ impl Job for ShowCommand {
         let answer = show_scene(alloc, &mut reading, sink, cleanup);
         cleanup.dispose_of(reading);
         answer
+    }
+
+    fn explain(&self, alloc: Global, value: &Value, bad: BadField) -> Mem<Option<String>> {
+        explain_scene(alloc, value, bad)
     }
 }
 

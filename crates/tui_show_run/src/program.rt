@@ -13,7 +13,7 @@ use std::alloc::Global;
 use std::env::Args;
 use std::io;
 use tui_io::{Sink, Source};
-use tui_program::{Cleanup, run};
+use tui_program::{Caller, Library, run};
 
 /// Runs the command that the arguments name.
 ///
@@ -42,23 +42,21 @@ pub fn show<S: Source, K: Sink>(
     ensures demo { IsCompleteDemo words.now (transcript_of (S.observed source.old) (S.observed source.new) (K.observed sink.old) (K.observed sink.new)) result }
     ensures usage { IsNoCommand words.now → (result ≡ Ended.Usage) ⊎ (result ≡ Ended.WriteFault) }
 {
-    run::<ShowCommand, S, K>(alloc, words, source, sink, Cleanup::Dropped).into()
+    run::<ShowCommand, S, K, Library>(alloc, words, source, sink, &Library).into()
 }
 
 /// Runs the command that the system's arguments name, as `show` does. If the system reports an invalid argument, runs
 /// with a single empty argument, so that the outcome is `Usage`. If it reports that it is out of memory, nothing is
 /// read and nothing is written.
-///
-/// Call this only as the last action of a process: the memory of the run is leaked. A caller that continues should
-/// use `show`, which frees it.
-pub fn run_program<S: Source, K: Sink>(
+pub fn run_program<S: Source, K: Sink, H: Caller>(
     alloc: Global,
     args: io::Result<Args>,
     source: &mut S,
     sink: &mut K,
+    caller: &H,
 ) -> Ended
     ensures { IsRunFrom show_rules args
         (transcript_of (S.observed source.old) (S.observed source.new) (K.observed sink.old) (K.observed sink.new)) (outcome_of result) }
 {
-    tui_program::run_program::<ShowCommand, S, K>(alloc, args, source, sink).into()
+    tui_program::run_program::<ShowCommand, S, K, H>(alloc, args, source, sink, caller).into()
 }

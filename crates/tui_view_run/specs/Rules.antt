@@ -1,6 +1,9 @@
 -- What `rows` has to do with a value.
+use Rattle.std.specs.Prelude.{option_map}
 use Rattle.tui_program.specs.Outcomes.{nothing}
 use Rattle.tui_program.specs.Rules.{JobRules}
+use Rattle.tui_json.specs.Explanation.{explanation}
+use Rattle.tui_schema.specs.FieldFaults.{scene_fault}
 use Rattle.tui_schema.specs.Scene.{SceneData, scene_of}
 use Rattle.tui_schema.specs.declared.bad_field.BadField.{BadField}
 use Rattle.tui_terminal_model.specs.declared.depth.Depth.{Depth}
@@ -13,6 +16,7 @@ rows_job depth = record {
   Input = SceneData;
   input_of = scene_of;
   line = refusal_line;
+  explained = λ bad d. option_map explanation (scene_fault bad d);
   expected = AreRowsShown depth;
   part = λ s. nothing;
 }

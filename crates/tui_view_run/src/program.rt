@@ -9,9 +9,9 @@ use crate::frames::show_frames;
 use crate::rows::RowsCommand;
 use std::alloc::Global;
 use tui_io::Sink;
-use tui_program::{Cleanup, Outcome, run_json, tell};
+use tui_program::{Outcome, run_json, tell};
 use tui_schema::BadField;
-use tui_system::{Console, System, command_of, depth, open_terminal};
+use tui_system::{Console, NamedFile, System, command_of, depth, open_terminal};
 use tui_terminal_model::Depth;
 
 /// Runs the command that the system's arguments name, in the colour depth that its variables give.
@@ -64,13 +64,14 @@ fn run_command<S: System, T: Console, K: Sink>(
     match command {
         ViewCommand::Frames => run_frames(alloc, depth, terminal),
         ViewCommand::Rows(_) => {
-            let mut source = system.open(command.input_name())?;
+            let name = command.input_name();
+            let mut source = system.open(name)?;
             run_json(
                 &RowsCommand { depth },
                 alloc,
                 &mut source,
                 output,
-                Cleanup::Left,
+                &NamedFile { system, name },
             )
         }
     }

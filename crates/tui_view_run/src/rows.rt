@@ -6,10 +6,11 @@ ghost use Rattle.tui_view_run.specs.Shown.{AreRowsShown};
 
 use serde_json::Value;
 use std::alloc::Global;
+use tui_cells::Mem;
 use tui_io::{Sink, WriteFault};
 use tui_program::{Cleanup, Job, Outcome, Rejects, write_refused_in_scene};
 use tui_scene::draw_new;
-use tui_schema::{BadField, Reading, read_scene};
+use tui_schema::{BadField, Reading, explain_scene, read_scene};
 use tui_terminal::write_styled_rows;
 use tui_terminal_model::Depth;
 
@@ -47,6 +48,10 @@ impl Job for RowsCommand {
         let answer = show_rows(alloc, self.depth, &mut reading, sink, cleanup);
         cleanup.dispose_of(reading);
         answer
+    }
+
+    fn explain(&self, alloc: Global, value: &Value, bad: BadField) -> Mem<Option<String>> {
+        explain_scene(alloc, value, bad)
     }
 }
 

@@ -11,7 +11,7 @@ use Rattle.tui_text.specs.Span.{SpanData}
 use Rattle.tui_schema.specs.declared.field.Field.{Field}
 use Rattle.tui_schema.specs.declared.field.Field.TheVariants as fields
 use Rattle.tui_schema.specs.Items.Frame.{frame_in, style_in}
-use Rattle.tui_schema.specs.Kinds.Fraction.{fraction_of}
+use Rattle.tui_schema.specs.Kinds.Fraction.{fraction_of, is_share}
 use Rattle.tui_schema.specs.Kinds.Line.{line_of}
 use Rattle.tui_json.specs.Number.{u16_of}
 use Rattle.tui_schema.specs.Kinds.Span.{span_of}
@@ -19,10 +19,6 @@ use Rattle.tui_schema.specs.Kinds.Symbol.{symbol_of}
 use Rattle.tui_json.specs.Refusals.{◌>>=◌}
 use Rattle.tui_schema.specs.Refusals.{optional}
 use Rattle.tui_schema.specs.declared.bad_field.BadField.{BadField}
-
--- a share: at most 1, and with a denominator that is not 0
-abbrev pub is_share : Fraction → Bool
-is_share f = nat_lt 0 f.den && nat_le f.num f.den
 
 -- a value if a test holds, or else the rejection of a field
 abbrev pub if_holds : {A : Type 0} → Bool → Option ℕ → Field → A → Result A BadField

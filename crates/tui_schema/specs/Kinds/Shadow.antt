@@ -1,5 +1,5 @@
 -- Shadows: an object with `effect` and optionally `symbol`, `style` and `offset`.
-use Rattle.std.specs.Prelude.{ℕ, pos, List, [], ◌∷◌, if◌then◌else◌, Option, Some, unwrap_or, codes}
+use Rattle.std.specs.Prelude.{ℕ, pos, List, [], ◌∷◌, if◌then◌else◌, Option, Some, option_map, unwrap_or, codes}
 use Rattle.std.specs.Str.{bytes_eq}
 use Rattle.serde_json.specs.Data.{Data}
 use Rattle.serde_json.specs.Find.{as_str}
@@ -23,6 +23,12 @@ effect_by name d =
       text ← member symbol_of (codes "symbol") d
       Some (symbol text))
     else named effect_names name
+
+-- the name of an effect
+unfoldable pub effect_named : Data → Option (List ℕ)
+effect_named d = do
+  name ← as_str d
+  if bytes_eq name (codes "symbol") then Some name else option_map (λ kind. name) (named effect_names name)
 
 unfoldable pub effect_of : Data → Option KindData
 effect_of d = do

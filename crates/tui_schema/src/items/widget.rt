@@ -7,7 +7,8 @@ ghost use Rattle.tui_json.specs.Members.{named};
 use crate::field::Field;
 use serde_json::Value;
 use std::alloc::Global;
-use tui_json::{Kind, KindError};
+use tui_cells::Mem;
+use tui_json::{Explains, Fault, Kind, KindError, Wanted};
 
 /// The widgets.
 #[derive(Clone, Copy, Debug, PartialEq, Eq)]
@@ -28,7 +29,7 @@ pub(crate) enum Widget {
     Logo,
 }
 
-fn named_widget(text: &str) -> Option<Widget>
+pub(crate) fn named_widget(text: &str) -> Option<Widget>
     ensures { result ≡ named widget_names text.now }
 {
     match text {
@@ -64,5 +65,26 @@ impl<'v> Kind<'v, Field> for Widget {
     fn read(_alloc: Global, value: &'v Value) -> Result<Widget, KindError> {
         let name = value.as_str().ok_or(KindError::WrongKind)?;
         named_widget(name).ok_or(KindError::WrongKind)
+    }
+}
+
+impl<'v> Explains<'v, Field> for Widget {
+    ghost use Rattle.tui_json.specs.Faults.{no_parts};
+    ghost use Rattle.tui_schema.specs.FieldFaults.{a_widget};
+
+    ghost wanted = { a_widget };
+
+    ghost part_fault = { no_parts };
+
+    #[tactic(auto, unfolding(tui_json::specs::Named::listed_names))]
+    fn wanted() -> Wanted<'v> {
+        Wanted::Words(
+            "`clear`, `fill`, `block`, `paragraph`, `list`, `table`, `tabs`, `scrollbar`, `gauge`, \
+             `line_gauge`, `bar_chart`, `sparkline`, `monthly` or `logo`",
+        )
+    }
+
+    fn part_fault(_alloc: Global, _value: &'v Value) -> Mem<Option<Fault<'v>>> {
+        Ok(None)
     }
 }

@@ -8,12 +8,15 @@ ghost use Rattle.tui_schema.specs.Kinds.Bars.{bar_of, bar_set_of, group_of, spar
 ghost use Rattle.tui_text.specs.Line.{line_data};
 
 use crate::field::Field;
-use crate::kinds::member::{member, optional_member, read};
+use crate::kinds::member::{
+    elements_fault, member, member_fault, optional_member, optional_member_fault, read,
+};
+use crate::kinds::style::style_member_fault;
 use serde_json::Value;
 use std::alloc::Global;
 use tui_bars::{Bar, BarGroup, SparklineBar};
-use tui_cells::{Style, bar};
-use tui_json::{Kind, KindError};
+use tui_cells::{Mem, Style, bar};
+use tui_json::{Explains, Fault, Kind, KindError, Wanted};
 use tui_text::Line;
 
 fn with_label<'v>(bar: Bar<'v>, label: Option<Line<'v>>) -> Bar<'v>
@@ -63,6 +66,31 @@ impl<'v> Kind<'v, Field> for Bar<'v> {
     }
 }
 
+impl<'v> Explains<'v, Field> for Bar<'v> {
+    ghost use Rattle.tui_schema.specs.Faults.{a_bar, bar_parts};
+
+    ghost wanted = { a_bar };
+
+    ghost part_fault = { bar_parts };
+
+    fn wanted() -> Wanted<'v> {
+        Wanted::Words("a whole number from 0, below 2^64, or an object with `value`")
+    }
+
+    #[tactic(auto, unfolding(crate::specs::Faults::bar_parts))]
+    fn part_fault(alloc: Global, value: &'v Value) -> Mem<Option<Fault<'v>>> {
+        if !value.is_object() {
+            return Ok(None);
+        }
+        let number = member_fault::<u64>(alloc, value, "value")?;
+        let label = optional_member_fault::<Line<'v>>(alloc, value, "label")?;
+        let style = style_member_fault(alloc, value)?;
+        let value_style = optional_member_fault::<Style>(alloc, value, "value_style")?;
+        let text = optional_member_fault::<&'v str>(alloc, value, "text_value")?;
+        Ok(number.or(label).or(style).or(value_style).or(text))
+    }
+}
+
 impl<'v> Kind<'v, Field> for BarGroup<'v> {
     ghost use Rattle.tui_bars.specs.BarChart.{GroupData, group_data};
 
@@ -84,6 +112,31 @@ impl<'v> Kind<'v, Field> for BarGroup<'v> {
                     None => BarGroup::new(bars),
                 })
             }
+        }
+    }
+}
+
+impl<'v> Explains<'v, Field> for BarGroup<'v> {
+    ghost use Rattle.tui_schema.specs.Faults.{a_group, group_parts};
+
+    ghost wanted = { a_group };
+
+    ghost part_fault = { group_parts };
+
+    fn wanted() -> Wanted<'v> {
+        Wanted::Words("an array of bars, or an object with `bars`")
+    }
+
+    #[tactic(auto, unfolding(crate::specs::Faults::group_parts))]
+    fn part_fault(alloc: Global, value: &'v Value) -> Mem<Option<Fault<'v>>> {
+        match value {
+            Value::Array(_) => elements_fault::<Bar<'v>>(alloc, value),
+            Value::Object(_) => {
+                let bars = member_fault::<Vec<Bar<'v>>>(alloc, value, "bars")?;
+                let label = optional_member_fault::<Line<'v>>(alloc, value, "label")?;
+                Ok(bars.or(label))
+            }
+            _ => Ok(None),
         }
     }
 }
@@ -111,6 +164,29 @@ impl<'v> Kind<'v, Field> for SparklineBar {
                 Ok(SparklineBar::from(number))
             }
         }
+    }
+}
+
+impl<'v> Explains<'v, Field> for SparklineBar {
+    ghost use Rattle.tui_schema.specs.Faults.{a_sparkline_bar, sparkline_bar_parts};
+
+    ghost wanted = { a_sparkline_bar };
+
+    ghost part_fault = { sparkline_bar_parts };
+
+    fn wanted() -> Wanted<'v> {
+        Wanted::Words(
+            "a whole number from 0, below 2^64, null, or an object with `value` or `style`",
+        )
+    }
+
+    #[tactic(auto, unfolding(crate::specs::Faults::sparkline_bar_parts))]
+    fn part_fault(alloc: Global, value: &'v Value) -> Mem<Option<Fault<'v>>> {
+        if !value.is_object() {
+            return Ok(None);
+        }
+        let number = optional_member_fault::<u64>(alloc, value, "value")?;
+        Ok(number.or(style_member_fault(alloc, value)?))
     }
 }
 
@@ -142,5 +218,22 @@ impl<'v> Kind<'v, Field> for bar::Set<'v> {
             Some("ThreeLevels") => Ok(three_levels()),
             _ => Err(KindError::WrongKind),
         }
+    }
+}
+
+impl<'v> Explains<'v, Field> for bar::Set<'v> {
+    ghost use Rattle.tui_json.specs.Faults.{no_parts};
+    ghost use Rattle.tui_schema.specs.Faults.{a_bar_set};
+
+    ghost wanted = { a_bar_set };
+
+    ghost part_fault = { no_parts };
+
+    fn wanted() -> Wanted<'v> {
+        Wanted::Words("`NineLevels` or `ThreeLevels`")
+    }
+
+    fn part_fault(_alloc: Global, _value: &'v Value) -> Mem<Option<Fault<'v>>> {
+        Ok(None)
     }
 }

@@ -1,22 +1,26 @@
 //! Blocks: objects whose members may all be left out.
 
-ghost use Rattle.std.specs.Prelude.{◌≡◌, map, option_map};
+ghost use Rattle.std.specs.Prelude.{◌≡◌, IfOk, map, option_map};
 ghost use Rattle.std.specs.Option.{option_or};
 ghost use Rattle.serde_json.specs.View.{view};
 ghost use Rattle.tui_frames.specs.Block.{block_data, block_of as new_block, title_data};
 ghost use Rattle.tui_frames.specs.BorderType.{symbols_of};
 ghost use Rattle.tui_frames.specs.Shadow.{shadow_data};
+ghost use Rattle.tui_json.specs.Faults.{fault_data};
 ghost use Rattle.tui_json.specs.Kinds.{Reads};
+ghost use Rattle.tui_schema.specs.Faults.{frame_parts, titles_parts};
 ghost use Rattle.tui_schema.specs.Kinds.Block.{block_of, borders_in, space_in, titles_in};
 
 use crate::field::Field;
-use crate::kinds::member::{optional_member, optional_named_member};
-use crate::kinds::style::style_member;
+use crate::kinds::member::{
+    named_fault, optional_member, optional_member_fault, optional_named_member,
+};
+use crate::kinds::style::{style_member, style_member_fault};
 use serde_json::Value;
 use std::alloc::Global;
-use tui_cells::{MergeStrategy, Style};
+use tui_cells::{Mem, MergeStrategy, Style};
 use tui_frames::{Block, BorderType, Borders, Padding, Shadow, Title, TitlePosition};
-use tui_json::{Kind, KindError};
+use tui_json::{Explains, Fault, Kind, KindError, Wanted};
 use tui_text::Alignment;
 
 /// Reads the sides, the kind and the style of the borders.
@@ -133,4 +137,50 @@ impl<'v> Kind<'v, Field> for Block<'v> {
         let block = framed(alloc, borders, space, titles);
         Ok(joined(block, strategy.unwrap_or(MergeStrategy::Replace), shadow))
     }
+}
+
+impl<'v> Explains<'v, Field> for Block<'v> {
+    ghost use Rattle.tui_schema.specs.Faults.{an_object, block_parts};
+
+    ghost wanted = { an_object };
+
+    ghost part_fault = { block_parts };
+
+    fn wanted() -> Wanted<'v> {
+        Wanted::Words("an object")
+    }
+
+    #[tactic(auto, unfolding(crate::specs::Faults::block_parts))]
+    fn part_fault(alloc: Global, value: &'v Value) -> Mem<Option<Fault<'v>>> {
+        let frame = frame_fault(alloc, value)?;
+        let titles = titles_fault(alloc, value)?;
+        let strategy = named_fault::<MergeStrategy>(alloc, value, "merge_borders")?;
+        let shadow = optional_member_fault::<Shadow<'v>>(alloc, value, "shadow")?;
+        Ok(frame.or(titles).or(strategy).or(shadow))
+    }
+}
+
+/// Returns the fault of the borders, or of the space inside them.
+#[tactic(auto, unfolding(crate::specs::Faults::frame_parts))]
+fn frame_fault<'v>(alloc: Global, value: &'v Value) -> Mem<Option<Fault<'v>>>
+    ensures { IfOk result (λ found. option_map fault_data found ≡ frame_parts (view value.now)) }
+{
+    let borders = optional_member_fault::<Borders>(alloc, value, "borders")?;
+    let kind = named_fault::<BorderType>(alloc, value, "border_type")?;
+    let border_style = optional_member_fault::<Style>(alloc, value, "border_style")?;
+    let style = style_member_fault(alloc, value)?;
+    let padding = optional_member_fault::<Padding>(alloc, value, "padding")?;
+    Ok(borders.or(kind).or(border_style).or(style).or(padding))
+}
+
+/// Returns the fault of the titles, or of their style, alignment or position.
+#[tactic(auto, unfolding(crate::specs::Faults::titles_parts))]
+fn titles_fault<'v>(alloc: Global, value: &'v Value) -> Mem<Option<Fault<'v>>>
+    ensures { IfOk result (λ found. option_map fault_data found ≡ titles_parts (view value.now)) }
+{
+    let titles = optional_member_fault::<Vec<Title<'v>>>(alloc, value, "titles")?;
+    let style = optional_member_fault::<Style>(alloc, value, "title_style")?;
+    let alignment = named_fault::<Alignment>(alloc, value, "title_alignment")?;
+    let position = named_fault::<TitlePosition>(alloc, value, "title_position")?;
+    Ok(titles.or(style).or(alignment).or(position))
 }

@@ -6,8 +6,8 @@ ghost use Rattle.tui_schema.specs.Kinds.Color.{byte_of, color_named, color_of, c
 use crate::field::Field;
 use serde_json::Value;
 use std::alloc::Global;
-use tui_cells::Color;
-use tui_json::{Kind, KindError};
+use tui_cells::{Color, Mem};
+use tui_json::{Explains, Fault, Kind, KindError, Wanted};
 
 #[tactic(auto, unfolding(crate::specs::Kinds::Color::color_named, tui_cells::specs::ColorText::color_text))]
 fn named_color(text: &str) -> Option<Color>
@@ -88,5 +88,26 @@ impl<'v> Kind<'v, Field> for Color {
             _ => None,
         };
         color.ok_or(KindError::WrongKind)
+    }
+}
+
+impl<'v> Explains<'v, Field> for Color {
+    ghost use Rattle.tui_json.specs.Faults.{no_parts};
+    ghost use Rattle.tui_schema.specs.Faults.{a_color};
+
+    ghost wanted = { a_color };
+
+    ghost part_fault = { no_parts };
+
+    fn wanted() -> Wanted<'v> {
+        Wanted::Words(
+            "`reset`, `black`, `red`, `green`, `yellow`, `blue`, `magenta`, `cyan`, \
+             `gray`, `darkgray`, `lightred`, `lightgreen`, `lightyellow`, `lightblue`, \
+             `lightmagenta`, `lightcyan`, `white`, `#` and six hexadecimal digits, or a number from 0 to 255",
+        )
+    }
+
+    fn part_fault(_alloc: Global, _value: &'v Value) -> Mem<Option<Fault<'v>>> {
+        Ok(None)
     }
 }

@@ -9,7 +9,8 @@ use crate::kinds::member::read;
 use jiff::civil::Date;
 use serde_json::Value;
 use std::alloc::Global;
-use tui_json::{Kind, KindError, elements};
+use tui_cells::Mem;
+use tui_json::{Explains, Fault, Kind, KindError, Wanted, elements};
 
 /// Returns the date with these numbers, if the calendar has it.
 fn civil_date(year: i16, month: i8, day: i8) -> Option<Date>
@@ -36,5 +37,22 @@ impl<'v> Kind<'v, Field> for Date {
         let month: i8 = read(alloc, month)?;
         let day: i8 = read(alloc, day)?;
         civil_date(year, month, day).ok_or(KindError::WrongKind)
+    }
+}
+
+impl<'v> Explains<'v, Field> for Date {
+    ghost use Rattle.tui_json.specs.Faults.{no_parts};
+    ghost use Rattle.tui_schema.specs.Faults.{a_date};
+
+    ghost wanted = { a_date };
+
+    ghost part_fault = { no_parts };
+
+    fn wanted() -> Wanted<'v> {
+        Wanted::Words("`[year, month, day]`, a day of the calendar")
+    }
+
+    fn part_fault(_alloc: Global, _value: &'v Value) -> Mem<Option<Fault<'v>>> {
+        Ok(None)
     }
 }

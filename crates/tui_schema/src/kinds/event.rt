@@ -3,12 +3,12 @@
 ghost use Rattle.tui_schema.specs.Kinds.StyledDate.{event_of};
 
 use crate::field::Field;
-use crate::kinds::member::member;
+use crate::kinds::member::{member, member_fault};
 use jiff::civil::Date;
 use serde_json::Value;
 use std::alloc::Global;
-use tui_cells::Style;
-use tui_json::{Kind, KindError};
+use tui_cells::{Mem, Style};
+use tui_json::{Explains, Fault, Kind, KindError, Wanted};
 
 /// A date with a style.
 #[derive(Drop)]
@@ -33,5 +33,27 @@ impl<'v> Kind<'v, Field> for StyledDate {
         let date: Date = member(alloc, value, "date")?;
         let style: Style = member(alloc, value, "style")?;
         Ok(StyledDate { date, style })
+    }
+}
+
+impl<'v> Explains<'v, Field> for StyledDate {
+    ghost use Rattle.tui_schema.specs.Faults.{an_event, event_parts};
+
+    ghost wanted = { an_event };
+
+    ghost part_fault = { event_parts };
+
+    fn wanted() -> Wanted<'v> {
+        Wanted::Words("an object with `date` and `style`")
+    }
+
+    #[tactic(auto, unfolding(crate::specs::Faults::event_parts))]
+    fn part_fault(alloc: Global, value: &'v Value) -> Mem<Option<Fault<'v>>> {
+        if !value.is_object() {
+            return Ok(None);
+        }
+        let date = member_fault::<Date>(alloc, value, "date")?;
+        let style = member_fault::<Style>(alloc, value, "style")?;
+        Ok(date.or(style))
     }
 }

@@ -6,11 +6,14 @@ ghost use Rattle.tui_schema.specs.Kinds.Line.{line_of, line_with_spans};
 ghost use Rattle.tui_text.specs.Line.{line_data};
 
 use crate::field::Field;
-use crate::kinds::member::{member, optional_named_member, read};
-use crate::kinds::style::style_member;
+use crate::kinds::member::{
+    elements_fault, member, member_fault, named_fault, optional_named_member, read,
+};
+use crate::kinds::style::{style_member, style_member_fault};
 use serde_json::Value;
 use std::alloc::Global;
-use tui_json::{Kind, KindError};
+use tui_cells::Mem;
+use tui_json::{Explains, Fault, Kind, KindError, Wanted};
 use tui_text::{Alignment, Line, Span};
 
 #[tactic(auto, unfolding(crate::specs::Kinds::Line::line_with_spans))]
@@ -45,6 +48,32 @@ impl<'v> Kind<'v, Field> for Line<'v> {
                 Ok(Line::from(spans))
             }
             _ => line_with_spans(alloc, value),
+        }
+    }
+}
+
+impl<'v> Explains<'v, Field> for Line<'v> {
+    ghost use Rattle.tui_schema.specs.Faults.{a_line, line_parts};
+
+    ghost wanted = { a_line };
+
+    ghost part_fault = { line_parts };
+
+    fn wanted() -> Wanted<'v> {
+        Wanted::Words("a string, an array of spans, or an object with `spans`")
+    }
+
+    #[tactic(auto, unfolding(crate::specs::Faults::line_parts))]
+    fn part_fault(alloc: Global, value: &'v Value) -> Mem<Option<Fault<'v>>> {
+        match value {
+            Value::Array(_) => elements_fault::<Span<'v>>(alloc, value),
+            Value::Object(_) => {
+                let spans = member_fault::<Vec<Span<'v>>>(alloc, value, "spans")?;
+                let style = style_member_fault(alloc, value)?;
+                let alignment = named_fault::<Alignment>(alloc, value, "alignment")?;
+                Ok(spans.or(style).or(alignment))
+            }
+            _ => Ok(None),
         }
     }
 }

@@ -7,10 +7,11 @@ ghost use Rattle.tui_schema.specs.Kinds.Joined.{joined_of};
 ghost use Rattle.tui_schema.specs.Kinds.Modifier.{modifier_named, modifiers_of};
 
 use crate::field::Field;
+use crate::kinds::member::elements_fault;
 use serde_json::Value;
 use std::alloc::Global;
-use tui_cells::Modifier;
-use tui_json::{Kind, KindError, elements};
+use tui_cells::{Mem, Modifier};
+use tui_json::{Explains, Fault, Kind, KindError, Wanted, elements};
 
 #[tactic(auto, unfolding(crate::specs::Kinds::Modifier::modifier_named))]
 fn named_modifier(value: &Value) -> Option<Modifier>
@@ -52,5 +53,63 @@ impl<'v> Kind<'v, Field> for Modifier {
     #[tactic(auto, unfolding(crate::specs::Kinds::Modifier::modifiers_of))]
     fn read(_alloc: Global, value: &'v Value) -> Result<Modifier, KindError> {
         all_modifiers(elements(value)?).ok_or(KindError::WrongKind)
+    }
+}
+
+impl<'v> Explains<'v, Field> for Modifier {
+    ghost use Rattle.tui_schema.specs.Faults.{an_array, modifiers_parts};
+
+    ghost wanted = { an_array };
+
+    ghost part_fault = { modifiers_parts };
+
+    fn wanted() -> Wanted<'v> {
+        Wanted::Words("an array")
+    }
+
+    #[tactic(auto, unfolding(crate::specs::Faults::modifiers_parts))]
+    fn part_fault(alloc: Global, value: &'v Value) -> Mem<Option<Fault<'v>>> {
+        elements_fault::<ModifierName>(alloc, value)
+    }
+}
+
+/// A name in such an array.
+#[derive(Drop)]
+struct ModifierName(Modifier);
+
+impl<'v> Kind<'v, Field> for ModifierName {
+    ghost use Rattle.tui_cells.specs.declared.modifier.Modifier.{Modifier};
+
+    ghost AsData = { Modifier };
+
+    ghost as_data = { λ name. name.0 };
+
+    ghost kind = { modifier_named };
+
+    fn read(_alloc: Global, value: &'v Value) -> Result<ModifierName, KindError> {
+        match named_modifier(value) {
+            Some(value) => Ok(ModifierName(value)),
+            None => Err(KindError::WrongKind),
+        }
+    }
+}
+
+impl<'v> Explains<'v, Field> for ModifierName {
+    ghost use Rattle.tui_json.specs.Faults.{no_parts};
+    ghost use Rattle.tui_schema.specs.Faults.{a_modifier};
+
+    ghost wanted = { a_modifier };
+
+    ghost part_fault = { no_parts };
+
+    fn wanted() -> Wanted<'v> {
+        Wanted::Words(
+            "`bold`, `dim`, `italic`, `underlined`, `slow_blink`, `rapid_blink`, `reversed`, `hidden` \
+             or `crossed_out`",
+        )
+    }
+
+    fn part_fault(_alloc: Global, _value: &'v Value) -> Mem<Option<Fault<'v>>> {
+        Ok(None)
     }
 }

@@ -6,11 +6,12 @@ ghost use Rattle.tui_schema.specs.Kinds.Span.{span_of, span_with_text};
 ghost use Rattle.tui_text.specs.Span.{span_data};
 
 use crate::field::Field;
-use crate::kinds::member::member;
-use crate::kinds::style::style_member;
+use crate::kinds::member::{member, member_fault};
+use crate::kinds::style::{style_member, style_member_fault};
 use serde_json::Value;
 use std::alloc::Global;
-use tui_json::{Kind, KindError};
+use tui_cells::Mem;
+use tui_json::{Explains, Fault, Kind, KindError, Wanted};
 use tui_text::Span;
 
 #[tactic(auto, unfolding(crate::specs::Kinds::Span::span_with_text))]
@@ -37,5 +38,26 @@ impl<'v> Kind<'v, Field> for Span<'v> {
             Value::String(content) => Ok(Span::raw(content)),
             _ => span_with_text(alloc, value),
         }
+    }
+}
+
+impl<'v> Explains<'v, Field> for Span<'v> {
+    ghost use Rattle.tui_schema.specs.Faults.{a_span, span_parts};
+
+    ghost wanted = { a_span };
+
+    ghost part_fault = { span_parts };
+
+    fn wanted() -> Wanted<'v> {
+        Wanted::Words("a string, or an object with `text`")
+    }
+
+    #[tactic(auto, unfolding(crate::specs::Faults::span_parts))]
+    fn part_fault(alloc: Global, value: &'v Value) -> Mem<Option<Fault<'v>>> {
+        if !value.is_object() {
+            return Ok(None);
+        }
+        let text = member_fault::<&'v str>(alloc, value, "text")?;
+        Ok(text.or(style_member_fault(alloc, value)?))
     }
 }

@@ -6,7 +6,8 @@ ghost use Rattle.tui_schema.specs.Kinds.Symbol.{is_control, is_symbol, symbol_of
 use crate::field::Field;
 use serde_json::Value;
 use std::alloc::Global;
-use tui_json::{Kind, KindError};
+use tui_cells::Mem;
+use tui_json::{Explains, Fault, Kind, KindError, Wanted};
 
 /// A string of at most 32 bytes without control characters.
 #[derive(Drop)]
@@ -40,5 +41,22 @@ impl<'v> Kind<'v, Field> for Symbol<'v> {
             Some(text) if is_symbol(text) => Ok(Symbol(text)),
             _ => Err(KindError::WrongKind),
         }
+    }
+}
+
+impl<'v> Explains<'v, Field> for Symbol<'v> {
+    ghost use Rattle.tui_json.specs.Faults.{no_parts};
+    ghost use Rattle.tui_schema.specs.Faults.{a_symbol};
+
+    ghost wanted = { a_symbol };
+
+    ghost part_fault = { no_parts };
+
+    fn wanted() -> Wanted<'v> {
+        Wanted::Words("a string of at most 32 bytes without control characters")
+    }
+
+    fn part_fault(_alloc: Global, _value: &'v Value) -> Mem<Option<Fault<'v>>> {
+        Ok(None)
     }
 }

@@ -1,14 +1,21 @@
 //! Cells of a table: an object with `text`, or else text. Rows of a table: an array of cells, or an object with
 //! `cells`.
 
+ghost use Rattle.std.specs.Prelude.{◌≡◌, IfOk, option_map};
+ghost use Rattle.serde_json.specs.View.{view};
+ghost use Rattle.tui_json.specs.Faults.{fault_data};
+ghost use Rattle.tui_schema.specs.Faults.{row_members};
 ghost use Rattle.tui_schema.specs.Kinds.Table.{row_of, table_cell_of};
 
 use crate::field::Field;
-use crate::kinds::member::{member, optional_member, read};
-use crate::kinds::style::style_member;
+use crate::kinds::member::{
+    elements_fault, member, member_fault, optional_member, optional_member_fault, part_fault, read,
+};
+use crate::kinds::style::{style_member, style_member_fault};
 use serde_json::Value;
 use std::alloc::Global;
-use tui_json::{Kind, KindError};
+use tui_cells::Mem;
+use tui_json::{Explains, Fault, Kind, KindError, Wanted};
 use tui_table::{Cell, Row};
 use tui_text::Text;
 
@@ -31,6 +38,31 @@ impl<'v> Kind<'v, Field> for Cell<'v> {
                 let span: Option<u16> = optional_member(alloc, value, "column_span")?;
                 let cell = Cell::new(content).style(style);
                 Ok(cell.column_span(span.unwrap_or(1)))
+            }
+        }
+    }
+}
+
+impl<'v> Explains<'v, Field> for Cell<'v> {
+    ghost use Rattle.tui_schema.specs.Faults.{a_list_item, cell_parts};
+
+    ghost wanted = { a_list_item };
+
+    ghost part_fault = { cell_parts };
+
+    fn wanted() -> Wanted<'v> {
+        Wanted::Words("a text, or an object with `text`")
+    }
+
+    #[tactic(auto, unfolding(crate::specs::Faults::cell_parts))]
+    fn part_fault(alloc: Global, value: &'v Value) -> Mem<Option<Fault<'v>>> {
+        match value.get("text") {
+            None => part_fault::<Text<'v>>(alloc, value),
+            Some(_) => {
+                let content = member_fault::<Text<'v>>(alloc, value, "text")?;
+                let style = style_member_fault(alloc, value)?;
+                let span = optional_member_fault::<u16>(alloc, value, "column_span")?;
+                Ok(content.or(style).or(span))
             }
         }
     }
@@ -68,4 +100,37 @@ impl<'v> Kind<'v, Field> for Row<'v> {
             }
         }
     }
+}
+
+impl<'v> Explains<'v, Field> for Row<'v> {
+    ghost use Rattle.tui_schema.specs.Faults.{a_row, row_parts};
+
+    ghost wanted = { a_row };
+
+    ghost part_fault = { row_parts };
+
+    fn wanted() -> Wanted<'v> {
+        Wanted::Words("an array of cells, or an object with `cells`")
+    }
+
+    #[tactic(auto, unfolding(crate::specs::Faults::row_parts))]
+    fn part_fault(alloc: Global, value: &'v Value) -> Mem<Option<Fault<'v>>> {
+        match value {
+            Value::Array(_) => elements_fault::<Cell<'v>>(alloc, value),
+            Value::Object(_) => row_members_fault(alloc, value),
+            _ => Ok(None),
+        }
+    }
+}
+
+/// Returns the fault of the first member of an object with `cells` that has one.
+fn row_members_fault<'v>(alloc: Global, value: &'v Value) -> Mem<Option<Fault<'v>>>
+    ensures { IfOk result (λ found. option_map fault_data found ≡ row_members (view value.now)) }
+{
+    let cells = member_fault::<Vec<Cell<'v>>>(alloc, value, "cells")?;
+    let height = optional_member_fault::<u16>(alloc, value, "height")?;
+    let top = optional_member_fault::<u16>(alloc, value, "top_margin")?;
+    let bottom = optional_member_fault::<u16>(alloc, value, "bottom_margin")?;
+    let style = style_member_fault(alloc, value)?;
+    Ok(cells.or(height).or(top).or(bottom).or(style))
 }

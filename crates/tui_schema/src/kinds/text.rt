@@ -7,11 +7,14 @@ ghost use Rattle.tui_schema.specs.Kinds.Text.{text_of, text_with_lines};
 ghost use Rattle.tui_text.specs.Text.{text_data};
 
 use crate::field::Field;
-use crate::kinds::member::{member, optional_named_member, read};
-use crate::kinds::style::style_member;
+use crate::kinds::member::{
+    elements_fault, member, member_fault, named_fault, optional_named_member, read,
+};
+use crate::kinds::style::{style_member, style_member_fault};
 use serde_json::Value;
 use std::alloc::Global;
-use tui_json::{Kind, KindError};
+use tui_cells::Mem;
+use tui_json::{Explains, Fault, Kind, KindError, Wanted};
 use tui_text::{Alignment, Line, Text};
 
 #[tactic(auto, unfolding(crate::specs::Kinds::Text::text_with_lines))]
@@ -46,6 +49,32 @@ impl<'v> Kind<'v, Field> for Text<'v> {
                 Ok(Text::from(lines))
             }
             _ => text_with_lines(alloc, value),
+        }
+    }
+}
+
+impl<'v> Explains<'v, Field> for Text<'v> {
+    ghost use Rattle.tui_schema.specs.Faults.{a_text, text_parts};
+
+    ghost wanted = { a_text };
+
+    ghost part_fault = { text_parts };
+
+    fn wanted() -> Wanted<'v> {
+        Wanted::Words("a string, an array of lines, or an object with `lines`")
+    }
+
+    #[tactic(auto, unfolding(crate::specs::Faults::text_parts))]
+    fn part_fault(alloc: Global, value: &'v Value) -> Mem<Option<Fault<'v>>> {
+        match value {
+            Value::Array(_) => elements_fault::<Line<'v>>(alloc, value),
+            Value::Object(_) => {
+                let lines = member_fault::<Vec<Line<'v>>>(alloc, value, "lines")?;
+                let style = style_member_fault(alloc, value)?;
+                let alignment = named_fault::<Alignment>(alloc, value, "alignment")?;
+                Ok(lines.or(style).or(alignment))
+            }
+            _ => Ok(None),
         }
     }
 }

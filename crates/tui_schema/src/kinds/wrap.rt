@@ -3,10 +3,11 @@
 ghost use Rattle.tui_schema.specs.Kinds.Wrap.{wrap_of};
 
 use crate::field::Field;
-use crate::kinds::member::{member, optional_member};
+use crate::kinds::member::{member, member_fault, optional_member, optional_member_fault};
 use serde_json::Value;
 use std::alloc::Global;
-use tui_json::{Kind, KindError};
+use tui_cells::Mem;
+use tui_json::{Explains, Fault, Kind, KindError, Wanted};
 use tui_para::Wrap;
 
 impl<'v> Kind<'v, Field> for Wrap {
@@ -26,5 +27,27 @@ impl<'v> Kind<'v, Field> for Wrap {
             trim,
             hyphens: hyphens.unwrap_or(false),
         })
+    }
+}
+
+impl<'v> Explains<'v, Field> for Wrap {
+    ghost use Rattle.tui_schema.specs.Faults.{a_wrap, wrap_parts};
+
+    ghost wanted = { a_wrap };
+
+    ghost part_fault = { wrap_parts };
+
+    fn wanted() -> Wanted<'v> {
+        Wanted::Words("an object with `trim`")
+    }
+
+    #[tactic(auto, unfolding(crate::specs::Faults::wrap_parts))]
+    fn part_fault(alloc: Global, value: &'v Value) -> Mem<Option<Fault<'v>>> {
+        if !value.is_object() {
+            return Ok(None);
+        }
+        let trim = member_fault::<bool>(alloc, value, "trim")?;
+        let hyphens = optional_member_fault::<bool>(alloc, value, "hyphens")?;
+        Ok(trim.or(hyphens))
     }
 }

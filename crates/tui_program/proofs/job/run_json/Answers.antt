@@ -6,13 +6,13 @@ pub returns-in-Err : goal.returns-in-Err
 returns-in-Err g c =
     ends_unread (g.J.Job.job_rules c.args.job.now) g.J.Rejects.line _ c.in-Err.stop c.tell.result (c.in-Err.ensures _ _) c.tell.ensures
 
-pub returns-in-Ok-json_of : goal.returns-in-Ok-json_of
-returns-in-Ok-json_of g c =
-    let json = c.in-Ok-json_of.ensures in
-    ends_for (g.J.Job.job_rules c.args.job.now) _ c.in-Ok.bytes.items (view c.in-Ok-json_of.value) c.run_value-outcome.result
+pub returns-in-Ok-json_or_explain : goal.returns-in-Ok-json_or_explain
+returns-in-Ok-json_or_explain g c =
+    let json = c.in-Ok-json_or_explain.ensures in
+    ends_for (g.J.Job.job_rules c.args.job.now) _ c.in-Ok.bytes.items (view c.in-Ok-json_or_explain.value) c.run_value-outcome.result
     (record { whole = c.in-Ok.ensures _ _; utf8 = json.0; json = json.1 }) c.run_value-outcome.ensures
 
-pub returns-in-Err-json_of : goal.returns-in-Err-json_of
-returns-in-Err-json_of g c =
-    ends_unparsed (g.J.Job.job_rules c.args.job.now) g.J.Rejects.line _ c.in-Ok.bytes.items c.in-Err-json_of.stop c.tell-in-Err-json_of.result (c.in-Ok.ensures _ _)
-    c.in-Err-json_of.ensures c.tell-in-Err-json_of.ensures
+pub returns-in-Err-json_or_explain : goal.returns-in-Err-json_or_explain
+returns-in-Err-json_or_explain g c =
+    ends_unparsed (g.J.Job.job_rules c.args.job.now) g.J.Rejects.line _ c.in-Ok.bytes.items c.in-Err-json_or_explain.stop c.tell-in-Err-json_or_explain.result (c.in-Ok.ensures _ _)
+    c.in-Err-json_or_explain.ensures c.tell-in-Err-json_or_explain.ensures

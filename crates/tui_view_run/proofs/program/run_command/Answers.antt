@@ -20,6 +20,6 @@ returns-in-Frames g c =
 
 pub returns-in_ok-source-in-Rows : goal.returns-in_ok-source-in-Rows
 returns-in_ok-source-in-Rows g c =
-    let opened = rw (c.input_name.ensures, c.in-Rows.is) at c.in_ok-source-in-Rows.ensures in
+    let opened = rw (c.input_name-name.ensures, c.in-Rows.is) at c.in_ok-source-in-Rows.ensures in
     let run = rows_run c.in_ok-depth.depth _ c.run_json.result c.run_json.ensures in
     rw c.in-Rows.is (rows c.in-Rows.field-0 c.in_ok-depth.depth _ _ c.run_json.result c.in_ok-depth.ensures opened run refl)
