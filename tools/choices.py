@@ -1,21 +1,17 @@
 """Kinds that are one of several kinds, the kinds of widgets, and remarks on what in a value is not read."""
-import json
-
-from kinds import Kind, Names, Number, Symbol, Text, Tuple, Wrong, listed, suggestion, step
+from kinds import Array, Kind, Names, Number, Object, Text, Tuple, listed, suggestion, step
 
 
 class Choice(Kind):
     """One of several kinds."""
 
-    def __init__(self, kinds, title=""):
-        self.kinds, self.title = kinds, title
+    def __init__(self, kinds):
+        self.kinds = kinds
 
-    def alternatives(self):
-        """Returns its kinds. A choice among them is replaced by its own kinds."""
-        return [inner for kind in self.kinds for inner in (kind.alternatives() if isinstance(kind, Choice) else [kind])]
-
-    def describe(self):
-        return (f"{self.title}: " if self.title else "") + ", or ".join(kind.describe() for kind in self.alternatives())
+    def words(self):
+        each = [", ".join(f"`{name}`" for name in kind.names) if isinstance(kind, Names)
+                else f"an array of {kind.word.lower()}s" if isinstance(kind, Array) else kind.words() for kind in self.kinds]
+        return ", ".join(each[:-1]) + ", or " + each[-1]
 
     def of(self, node):
         """Returns the kind that a value is meant to have: the one that accepts it."""
@@ -25,13 +21,6 @@ class Choice(Kind):
     def accepts(self, node):
         return self.of(node) is not None
 
-    def wrong(self, node, path):
-        kind = self.of(node)
-        if kind:
-            return kind.wrong(node, path)
-        hints = [kind.hint(node) for kind in self.kinds]
-        return Wrong(path, node.at, self.describe(), self.what(node) + next((hint for hint in hints if hint), ""))
-
     def children(self, node):
         return self.of(node).children(node)
 
@@ -39,19 +28,22 @@ class Choice(Kind):
         kind = self.of(node)
         return kind.known(node) if kind else None
 
-    def reads_null(self):
-        return any(kind.reads_null() for kind in self.kinds)
 
-    def hint(self, node):
-        return next((hint for hint in (kind.hint(node) for kind in self.kinds) if hint), "")
+class Either(Choice):
+    """One of several kinds. Another field decides which."""
 
 
 class Keyed(Choice):
     """One kind for an object that has a certain key, and another kind for every other value."""
 
-    def __init__(self, key, having, other, title=""):
-        super().__init__([other, having], title)
-        self.key, self.having, self.other = key, having, other
+    def __init__(self, key, having, other, name):
+        super().__init__([other, having])
+        self.key, self.having, self.other, self.name = key, having, other, name
+
+    def words(self):
+        if isinstance(self.other, Object):
+            return f"an object with {listed([*self.other.required(), self.key])}"
+        return f"a {self.name.lower()}, or an object with `{self.key}`"
 
     def of(self, node):
         return self.having if node.get(self.key) is not None else self.other
@@ -59,60 +51,44 @@ class Keyed(Choice):
     def accepts(self, node):
         return self.of(node).accepts(node)
 
-    def wrong(self, node, path):
-        if self.other.accepts(node) or self.having.accepts(node):
-            return self.of(node).wrong(node, path)
-        return Wrong(path, node.at, self.describe(), self.what(node) + self.hint(node))
-
 
 class Width(Kind):
     """A number of columns, or an object of which the first known key counts."""
 
     def __init__(self, number, fields, most=None):
-        self.number, self.fields, self.most = number, dict(fields), most
+        self.number, self.fields = number, dict(fields)
         if most is not None:
             self.fields["percentage"] = (False, Number(0, most), None)
 
-    def describe(self):
-        return "a number of columns, " + self.number.describe() + ", or an object with one of " + listed(self.fields)
-
-    def hint(self, node):
-        return self.number.hint(node)
+    def words(self):
+        return f"{self.number.words()}, or an object with {listed(self.fields)}"
 
     def accepts(self, node):
         return node.kind == "number" or node.kind == "object" and any(node.get(name) for name in self.fields)
 
-    def wrong(self, node, path):
-        return self.number.wrong(node, path) if node.kind == "number" else super().wrong(node, path)
-
     def children(self, node):
         for name, (_, kind, _) in self.fields.items() if node.kind == "object" else []:
             if node.get(name):
-                return [(name, kind, node.get(name), True)]
+                return [(name, kind, node.get(name))]
         return []
 
     def known(self, node):
-        return {name for name, _, _, _ in self.children(node)} or set(self.fields) if node.kind == "object" else None
+        return {name for name, _, _ in self.children(node)} or set(self.fields) if node.kind == "object" else None
 
 
 class Date(Tuple):
     """A day of the calendar."""
 
-    def describe(self):
-        return "[year, month, day], a day of the calendar from 1 January -9999 to 31 December 9999"
+    def words(self):
+        return f"`[{', '.join(self.labels)}]`, a day of the calendar"
 
-    def holds(self, node):
-        numbers = [value.whole() for value in node.value]
-        if len(numbers) != 3 or None in numbers:
-            return False
-        year, month, day = numbers
-        leap = year % 4 == 0 and (year % 100 != 0 or year % 400 == 0)
-        return -9999 <= year <= 9999 and 1 <= month <= 12 and 1 <= day <= (31, 29 if leap else 28, 31, 30, 31, 30, 31, 31, 30, 31, 30, 31)[month - 1]
 
-    def what(self, node):
-        if node.kind == "array" and len(node.value) == 3:
-            return "found [" + ", ".join(json.dumps(value.value) if value.kind == "text" else str(value.value) for value in node.value) + "]"
-        return super().what(node)
+class Size(Tuple):
+    """A size that is within bounds."""
+
+    def words(self):
+        each = " and ".join(f"{kind.low} to {kind.high} {label}" for label, kind in zip(self.labels, self.elements))
+        return f"`[{', '.join(self.labels)}]` of {each}"
 
 
 class Item(Kind):
@@ -123,15 +99,14 @@ class Item(Kind):
         self.widgets, self.fields = widgets, fields
         self.widget = Names(list(widgets))
 
-    def describe(self):
-        return "an item: an object with `widget` (required)"
+    def words(self):
+        return "an object"
 
     def children(self, node):
         name = node.get("widget")
         own = self.widgets.get(name.value, {}) if name and name.kind == "text" else {}
         fields = {**self.fields, **own}
-        return [("widget", self.widget, node.get("widget"), True),
-                *((field, kind, node.get(field), required) for field, (required, kind, _) in fields.items())]
+        return [("widget", self.widget, node.get("widget")), *((field, kind, node.get(field)) for field, (_, kind, _) in fields.items())]
 
     def known(self, node):
         name = node.get("widget")
@@ -158,7 +133,7 @@ def remarks(kind, node, path):
         kind = kind.of(node)
         if kind is None:
             return
-    if node.kind == "text" and isinstance(kind, Text) and not isinstance(kind, Symbol):
+    if node.kind == "text" and isinstance(kind, Text):
         for c in kind.left_out(node.value):
             yield node.at, f"the control character U+{ord(c):04X} in {path} is left out"
     if node.kind == "object":
@@ -170,6 +145,6 @@ def remarks(kind, node, path):
                 yield at, f"{step(path, name)} is not read{suggestion(name, known)}"
             seen.add(name)
     if kind.accepts(node):
-        for name, inner, inside, _ in kind.children(node):
+        for name, inner, inside in kind.children(node):
             if inside is not None and not inside.is_null():
                 yield from remarks(inner, inside, step(path, name))

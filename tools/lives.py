@@ -5,9 +5,11 @@ kill. What the programs have to show is worked out by hand from docs/PROGRAMS.md
 """
 import json
 import os
+import pathlib
 import shutil
 import signal
 import subprocess
+import time
 from typing import NamedTuple
 
 from tmux import MODES, ROOT, SIZE
@@ -30,9 +32,11 @@ class Program(NamedTuple):
 
 
 def is_built(name):
-    if (CRATES / name / "out" / name).exists():
+    """Whether ./live runs the proved program, so that nothing is built here, and standard error says nothing more."""
+    found = subprocess.run([ROOT / "tools/program", "--built", name], check=False, capture_output=True, text=True).stdout
+    if found == f"{CRATES / name / 'out' / name}\n":
         return True
-    print(f"tools/live_check: {name} was skipped, since it is not built")
+    print(f"tools/live_check: {name} was skipped, since there is no proved program newer than its sources")
     return False
 
 
@@ -115,12 +119,12 @@ def browses(tmux):
     tmux.shows("the second piece", "│>1001 line 1001", "││line 1019")
     tmux.keys("C-c")
     tmux.ended("Ctrl-C of tui_browse", 130)
-    rejects(tmux, "tui_browse", [("text", 4, ["tui_browse: text: invalid JSON at line 1 column 1", "refused: not JSON"]), ("--text latin", 4, ["refused: not UTF-8"]), ("", 2, ["refused: usage", "usage: tui_browse [--text] FILE"]), ("nothing", 6, ["tui_browse: nothing: No such file or directory"])])
+    rejects(tmux, "tui_browse", [("text", 4, ["refused: not JSON", "tui_browse: text: invalid JSON at line 1 column 1"]), ("--text latin", 4, ["refused: not UTF-8"]), ("", 2, ["refused: usage", "usage: tui_browse [--text] FILE"]), ("nothing", 6, ["tui_browse: nothing: No such file or directory"])])
     (tmux.folder / "wrong.json").write_text('{"entries": [{"title": "one", "body": ""}, {"title": 2, "body": ""}]}', encoding="utf-8")
     (tmux.folder / "long.json").write_text('{"entries": []}'.ljust(LIMIT + 1), encoding="utf-8")
     # The screen has 60 columns.
     said = ["tui_browse: wrong.json: entries[1].title: expected a string", "of 0 to 1000 bytes, found the number 2"]
-    rejects(tmux, "tui_browse", [("wrong.json", 5, [*said, "refused: field title at 1"]), ("long.json", 3, ["refused: too long"])])
+    rejects(tmux, "tui_browse", [("wrong.json", 5, ["refused: field title at 1", *said]), ("long.json", 3, ["refused: too long"])])
 
 
 def lines_of(count, length):
@@ -230,7 +234,7 @@ def asks(tmux):
     tmux.ended("Esc twice", 1)
     (tmux.folder / "full").mkdir(exist_ok=True)
     tmux.equal("answers that can't be written", tmux.run("./live tui_form form.json full"), "tui_form: full: Is a directory\n")
-    rejects(tmux, "tui_form", [("", 2, ["refused: usage", "usage: tui_form FORM [ANSWERS]"]), ("wrong.json", 5, ["tui_form: wrong.json: title: expected a string, found the nu", "mber 1", "refused: field title"]), ("nothing", 6, ["tui_form: nothing: No such file or directory"])])
+    rejects(tmux, "tui_form", [("", 2, ["refused: usage", "usage: tui_form FORM [ANSWERS]"]), ("wrong.json", 5, ["refused: field title", "tui_form: wrong.json: title: expected a string, found the nu", "mber 1"]), ("nothing", 6, ["tui_form: nothing: No such file or directory"])])
 
 
 def watches(tmux):
@@ -249,7 +253,22 @@ def watches(tmux):
     tmux.shows("a file that is missing", "no loadavg")
     tmux.text("q")
     tmux.ended("q of tui_watch", 0)
+    quits_after_seconds(tmux)
     rejects(tmux, "tui_watch", [("a b", 2, ["refused: usage", "usage: tui_watch [FOLDER]"])])
+
+
+def quits_after_seconds(tmux):
+    """tui_watch over /proc is stopped until 2,000 seconds have piled up. Reading the machine at each would take long."""
+    tmux.start("tui_watch", "load ")
+    program = tmux.process("out/tui_watch")
+    os.kill(program, signal.SIGSTOP)
+    pathlib.Path(f"/proc/{program}/fd/0").write_bytes(bytes(2000))
+    tmux.text("q")
+    os.kill(program, signal.SIGCONT)
+    begin = time.monotonic()
+    tmux.until("q after 2,000 seconds", lambda: tmux.status() is not None)
+    tmux.equal("q after 2,000 seconds: within a second", time.monotonic() - begin < 1, True)
+    tmux.ended("q after 2,000 seconds", 0)
 
 
 def fits_in_pipes(tmux):

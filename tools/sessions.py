@@ -6,7 +6,8 @@
 - The screen can't be opened. The exit status is 7, nothing is written to standard output, and no file is created.
 - The keys are random bytes. The program ends as usual, and its time grows in proportion to their number. A pager shows
   what `tui_pager` writes after the keys that tools/keys.py decodes from these bytes.
-- Keys come in two reads, cut anywhere except after an ESC. They have the same effect as in one read.
+- Keys come in two reads, cut anywhere except after an ESC. They have the same effect as in one read. Ticks are not
+  among them, since those of a read come after its keys.
 - There are control characters in the input and in a paste. The output has only commands of docs/TERMINAL.md and
   printable characters.
 - A program that writes answers writes them only if it ends as usual.
@@ -33,6 +34,7 @@ WIDTH, HEIGHT = 40, 12
 SIZE = {"COLUMNS": str(WIDTH), "LINES": str(HEIGHT)}
 # Ends a paste, if there is one. Then comes the first size again, after which the whole screen is drawn.
 SIZE_AGAIN = f"\x1b[201~\x1b[8;{HEIGHT};{WIDTH}t".encode()
+TICK = b"\0"
 ENTER, LEAVE = ends.ENTER.encode("latin-1"), ends.LEAVE.encode("latin-1")
 BEFORE = "what stood there before\n"
 
@@ -183,23 +185,24 @@ def shows_same_as_pager(session, entries, work):
 def in_two_reads(session):
     """Sends the keys up to each key in one read, and in two reads that are cut within or before this key.
 
-    The end and the screen have to be the same. There is no cut after an ESC. If the program has answers, this
-    is done only with all keys, and the answers have to be the same instead of the screen: how far a list of
-    fields is scrolled may depend on what was drawn between the reads. Returns the number of cuts.
+    The end and the screen have to be the same. There is no cut after an ESC. The last read ends with a tick. If the
+    program has answers, this is done only with all keys, and the answers have to be the same instead of the screen: how
+    far a list of fields is scrolled may depend on what was drawn between the reads. Returns the number of cuts.
     """
-    given = b"".join(session.keys)
+    keys = [key for key in session.keys if key != TICK]
+    given, rest = b"".join(keys), SIZE_AGAIN + TICK
 
     def end_by(*reads):
         status, written, _ = one_a_read(session, reads, {})
         return status, session.answered() if session.answers else last_screen(written, WIDTH, HEIGHT)
 
     start = cuts = 0
-    for end in [len(given)] if session.answers else itertools.accumulate(map(len, session.keys)):
-        whole = end_by(given[:end] + SIZE_AGAIN)
+    for end in [len(given)] if session.answers else itertools.accumulate(map(len, keys)):
+        whole = end_by(given[:end] + rest)
         for cut in range(max(start, 1), end):
             if given[cut - 1 : cut] == b"\x1b":
                 continue
-            found = end_by(given[:cut], given[cut:end] + SIZE_AGAIN)
+            found = end_by(given[:cut], given[cut:end] + rest)
             cuts += 1
             if found != whole:
                 fail(session.name, "ends with", found, "and not with", whole, "if its keys are cut between", given[:cut][-8:], "and", given[cut:end][:8])
@@ -333,7 +336,7 @@ def files(work):
 
 # ---- tui_watch: a dashboard
 
-WATCHED = [b"\0", b"p", b"\0", b"p", b"\x0c", b"\x1b[8;5;20t", b"\0", b"\x1b[8;1;3t", b"\x1b[8;12;40t", b"x", b"\0"]
+WATCHED = [TICK, b"p", TICK, b"p", b"\x0c", b"\x1b[8;5;20t", TICK, b"\x1b[8;1;3t", b"\x1b[8;12;40t", b"x", TICK]
 
 
 def watch(work):
@@ -341,7 +344,7 @@ def watch(work):
     shutil.copytree(ROOT / "crates/tui_watch/data/machine", machine)
     session = Session("watch", built("tui_watch"), [machine], WATCHED, 0, 0, b"\x03q")
     (machine / "loadavg").write_text(CONTROLS, encoding="utf-8")
-    sends_no_command(session, [b"\0", *PASTE])
+    sends_no_command(session, [TICK, *PASTE])
     try_all(session, work)
 
 

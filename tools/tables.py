@@ -2,26 +2,15 @@
 import pathlib
 import re
 
-from choices import Choice, Date, Item, Keyed, Named, Width
-from kinds import U16, Array, Flag, Hex, Names, Null, Number, Object, Symbol, Text, Tuple, listed
+from choices import Choice, Date, Either, Item, Keyed, Named, Size, Width
+from kinds import U16, Array, Flag, Hex, Names, Null, Number, Object, Record, Symbol, Text, Tuple
 
 ROOT = pathlib.Path(__file__).resolve().parent.parent
 FIELD = re.compile(r"`(\w+)`(\*?)(?: \(((?:[^()]|\([^()]*\))*)\))?")
 
 
-def with_article(name):
-    return f"{'an' if name[0] in 'aeioAEIO' else 'a'} {name}"
-
-
 def number(text):
     return int(text.replace(",", ""))
-
-
-class Leaf(Number):
-    """The number of a leaf. The input decides how many leaves there are."""
-
-    def describe(self):
-        return f"the number of a leaf, from 0 to {self.high}"
 
 
 class Tables:
@@ -72,7 +61,7 @@ class Tables:
         word = "strings" if found[4] == "texts" else found[4]
         if word.startswith("`"):
             names = re.findall(r"`(\w+)`", phrase)
-            return Array(Names(names), least, most, listed(names))
+            return Array(Names(names), least, most, word)
         if found[6]:
             return Array(self.width(int(found[6])), least, most, word)
         return Array(self.kind(found[5]) if found[5] else self.named(word), least, most, word)
@@ -93,7 +82,7 @@ class Tables:
             inside = re.findall(r"the boolean `(\w+)`(, which is required)?", phrase)
             return Object({name: (bool(required), Flag(), None) for name, required in inside})
         if re.match(r"a (text|string) or a boolean\b", phrase):
-            return Choice([Text(), Flag()])
+            return Either([Text(), Flag()])
         if "a boolean" in phrase:
             return Flag()
         if phrase.startswith("the name of a key"):
@@ -111,23 +100,21 @@ class Tables:
             return self.kinds["bare item"]
         return self.simple(phrase) or self.named(re.match(r"(?:an? )?(\w+)", phrase)[1])
 
-    def alternatives(self, name, phrase, fields):
+    def alternatives(self, phrase, fields):
         """Returns the kind that a row of the table of kinds describes."""
         keyed = re.search(r"has the key `(\w+)`; any other value is a (\w+)", phrase)
-        article = with_article(name)
         having = Object(fields)
         if keyed:
-            return Keyed(keyed[1], having, self.named(keyed[2]), article)
+            return Keyed(keyed[1], having, self.named(keyed[2]), keyed[2])
         if "first field of these says which" in phrase:
             return Width(U16, fields)
         if phrase.startswith("`["):
             return self.sequence(phrase)
         if phrase.startswith("a string of at most 32 bytes"):
             return Symbol()
-        found = [Names(re.findall(r"`(\w+)`", phrase), article)] if re.match(r"`\w", phrase) else []
+        found = [Names(re.findall(r"`(\w+)`", phrase))] if re.match(r"`\w", phrase) else []
         if "six hexadecimal digits" in phrase:
-            found[0].title = ""
-            found += [Hex(), Number(0, 255)]
+            found += [Hex(), Number(0, 255, "number")]
         if re.match("a string", phrase):
             found.append(Text(lines="cut into lines" in phrase))
         if re.match(r"a u64|a whole number", phrase):
@@ -138,11 +125,7 @@ class Tables:
             found.append(self.array(re.search(r"an array of \w+", phrase)[0]))
         if "an object" in phrase:
             found.append(having)
-        if len(found) > 1:
-            return Choice(found, article)
-        if isinstance(found[0], Object):
-            found[0].title = article
-        return found[0]
+        return Choice(found) if len(found) > 1 else found[0]
 
     # docs/SCENE.md.
 
@@ -179,20 +162,20 @@ class Tables:
         self.raw_kinds["item"] = {}
         for name, phrase in phrases.items():
             self.raw_kinds[name] = self.made(self.raw_kinds[name])
-            self.kinds[name] = self.alternatives(name, phrase, self.raw_kinds[name])
+            self.kinds[name] = self.alternatives(phrase, self.raw_kinds[name])
         for name, fields in self.raw_widgets.items():
             if name not in ("the scene", "each item"):
                 self.widgets[name] = self.made(fields)
         area = {"area": self.raw_widgets["each item"]["area"]}
         self.kinds["item"] = Item(self.widgets, self.made(area))
         self.kinds["bare item"] = Item(self.widgets, {})
-        self.kinds["scene"] = Object(self.made(self.raw_widgets["the scene"]))
+        self.kinds["scene"] = Record(self.made(self.raw_widgets["the scene"]))
 
     # docs/PROGRAMS.md.
 
     def read_programs(self):
         page = (ROOT / "docs/PROGRAMS.md").read_text(encoding="utf-8")
-        self.leaf, self.inputs = Leaf(0, 255), {}
+        self.leaf, self.inputs = Number(0, 255), {}
         for part in page.split("\n## ")[1:]:
             name = re.match(r"tui_(\w+):", part)
             if name:
@@ -213,11 +196,11 @@ class Tables:
             fields[owner][field] = (needed == "yes", self.kind(phrase), None)
         self.inputs[name] = [(field, kind) for inside in fields.values() for field, (_, kind, _) in inside.items()]
         for owner, inside in fields.items():
-            self.kinds[owner or name] = Object(inside, with_article(owner) if owner else "")
+            self.kinds[owner or name] = Record(inside)
         if "leaf" in fields:
-            self.kinds["pane"] = Keyed("parts", self.kinds["split"], self.kinds["leaf"], "a pane")
+            self.kinds["pane"] = Keyed("parts", self.kinds["split"], self.kinds["leaf"], "leaf")
 
     def read_keys(self, part, fields):
         names = [name for row in re.findall(r"^\| (`.*?) \| [^|]* \|$", part, re.M) for name in re.findall(r"`([A-Z]\w+)`", row)]
-        size = Tuple(["width", "height"], [fields["width"][1], fields["height"][1]])
-        self.kinds["key"] = Choice([Names(names), size], "a key")
+        size = Size(["columns", "rows"], [fields["width"][1], fields["height"][1]])
+        self.kinds["key"] = Choice([Names(names), size])

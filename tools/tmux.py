@@ -8,6 +8,8 @@ import time
 ROOT = pathlib.Path(__file__).resolve().parent.parent
 SIZE = (60, 12)
 PATIENCE = 8
+# What ./live and tmux need, whatever the locale and the terminal of the caller are.
+ENVIRONMENT = {**os.environ, "LC_ALL": "C.UTF-8", "TERM": "xterm"}
 MODES = ["cursor_x", "cursor_y", "alternate_on", "cursor_flag", "wrap_flag", "insert_flag", "origin_flag", "keypad_flag"]
 
 
@@ -26,7 +28,7 @@ class Tmux:
         self.lines = self.run("stty -a")
 
     def call(self, *arguments):
-        return subprocess.run(["tmux", "-L", self.socket, *arguments], check=True, capture_output=True, text=True).stdout
+        return subprocess.run(["tmux", "-L", self.socket, *arguments], check=True, capture_output=True, encoding="utf-8", env=ENVIRONMENT).stdout
 
     def screen(self):
         return "\n".join(line.rstrip() for line in self.call("capture-pane", "-p").split("\n")).rstrip()

@@ -72,9 +72,12 @@ no processes
 ";
 
 /// What is read, and the screen then.
-const TICKS: [(&[&[u8]], &str); 4] = [
+const TICKS: [(&[&[u8]], &str); 6] = [
     (&[], FIRST),
     (&[b"\0"], SECOND),
+    // A read has one tick, and it comes last.
+    (&[b"\0\0x\0"], SECOND),
+    (&[b"\0", b"\0p"], PAUSED),
     (&[b"\0", b"p\0"], PAUSED),
     (&[b"\0", b"p\0", b"p\0", b"q"], THIRD),
 ];

@@ -8,7 +8,7 @@ use Rattle.tui_app.specs.EventLoop.{LoopState, area_after, events_of_read, keys_
 use Rattle.tui_app.specs.Feeding.{HandlesBytes, no_reaction}
 use Rattle.tui_app.specs.Parts.{Closed, Follows, IsBegun, IsDrawn, Iterated, Opened, Sent, SessionReached, state_of}
 use Rattle.tui_app.specs.Run.{Counts, HasStopped, IsAppRun, Stops, cut, enters, leaves, shows, whole}
-use Rattle.tui_app.specs.Session.{IsText, Iterates, begins, cursor_for, goes_on, is_in_full}
+use Rattle.tui_app.specs.Session.{Iterates, begins, cursor_for, goes_on}
 use Rattle.tui_app.specs.Trace.{IsRead, Traced, WriteFailed, read_entry}
 use Rattle.tui_app.specs.declared.outcome.AppEnd.{AppEnd}
 use Rattle.tui_app.specs.declared.outcome.AppEnd.TheVariants as ends

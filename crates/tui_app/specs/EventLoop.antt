@@ -1,5 +1,6 @@
 -- The event loop of an app: for each read, the app handles its events and then draws.
-use Rattle.std.specs.Prelude.{◌≡◌, ◌≢◌, ℕ, nat_lt, List, [], ◌∷◌, ◌++◌, length, Option, None, Some, if◌then◌else◌}
+use Rattle.std.specs.List.{list_any}
+use Rattle.std.specs.Prelude.{◌≡◌, ◌≢◌, ℕ, nat_lt, Bool, true, false, not, List, [], ◌∷◌, ◌++◌, filter, length, Option, None, Some, if◌then◌else◌}
 use Rattle.tui_app.specs.Behaviour.{Behaviour}
 use Rattle.tui_app.specs.Trace.{IsRead, read_capacity}
 use Rattle.tui_app.specs.declared.app.Flow.{Flow}
@@ -12,14 +13,29 @@ use Rattle.tui_cells.specs.declared.rect.Rect.{Rect}
 use Rattle.tui_keys.specs.Events.{events_of, events_of_short_read, keys_after, keys_after_short_read}
 use Rattle.tui_keys.specs.Steps.{start}
 use Rattle.tui_keys.specs.declared.event.Event.{Event}
-use Rattle.tui_keys.specs.declared.event.Event.TheVariants.{Resize}
+use Rattle.tui_keys.specs.declared.event.Event.TheVariants.{Resize, Tick}
 use Rattle.tui_keys.specs.declared.keys.KeyDecoder.{KeyDecoder}
 
 -- ---- what is read
 
--- The events of a read. After a full read more bytes may be available, so what has begun stays pending.
+-- What the bytes of a read decode to. After a full read more bytes may be available, so what has begun stays pending.
+abbrev pub decoded_of_read : KeyDecoder → List ℕ → List Event
+decoded_of_read keys bytes = if nat_lt (length bytes) read_capacity then events_of_short_read keys bytes else events_of keys bytes
+
+abbrev pub is_tick : Event → Bool
+is_tick Tick = true
+is_tick event = false
+
+abbrev pub without_ticks : List Event → List Event
+without_ticks es = filter (λ e. not (is_tick e)) es
+
+-- the other events, and then one tick if there was any
+abbrev pub ticks_last : List Event → List Event
+ticks_last es = without_ticks es ++ (if list_any is_tick es then Tick ∷ [] else [])
+
+-- The events that a read gives to the app. However many ticks have piled up, the app gets one.
 abbrev pub events_of_read : KeyDecoder → List ℕ → List Event
-events_of_read keys bytes = if nat_lt (length bytes) read_capacity then events_of_short_read keys bytes else events_of keys bytes
+events_of_read keys bytes = ticks_last (decoded_of_read keys bytes)
 
 abbrev pub keys_after_read : KeyDecoder → List ℕ → KeyDecoder
 keys_after_read keys bytes = if nat_lt (length bytes) read_capacity then keys_after_short_read keys bytes else keys_after keys bytes

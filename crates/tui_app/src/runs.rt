@@ -23,6 +23,9 @@ use tui_terminal_model::Output;
 /// the app draws. Then for each read hands it the events, and shows what it draws then. At the end leaves the
 /// alternate screen.
 ///
+/// The app gets one tick for all the ticks of a read, after the other events of the read. So an app that was stopped or
+/// slow does not have to make up for every second.
+///
 /// A size that the terminal reports is the size of the screen from then on. The cursor is where the app wants it. After `MAX_READS` (2^32) reads the session ends with `ManyReads`.
 ///
 /// At the end the alternate screen is left, with two exceptions: after a `WriteFault` nothing more is

@@ -2,6 +2,7 @@
 
 ghost use Rattle.tui_app_laws.specs.Overs.{OverEndsThere, OverMatchesEventLoop};
 ghost use Rattle.tui_app_laws.specs.Showing.{WaitingShows};
+ghost use Rattle.tui_app_laws.specs.Ticks.{TicksAreOne};
 
 use tui_app::App;
 use tui_terminal_model::Output;
@@ -22,4 +23,10 @@ pub fn waiting_law<A: App>(output: Output)
 pub fn over_law<A: App>()
     ensures event_loop { OverMatchesEventLoop A.behaviour }
     ensures ends { OverEndsThere A.behaviour }
+{}
+
+/// Suppose that a byte 0 is added to a read, outside of pastes, and the read still isn't full. Then the app gets the
+/// events that are not ticks as without it, and then one tick, however many bytes 0 the read has.
+pub fn ticks_law()
+    ensures { TicksAreOne }
 {}

@@ -3,4 +3,4 @@
 
 mod laws;
 
-pub use laws::{over_law, waiting_law};
+pub use laws::{over_law, ticks_law, waiting_law};

@@ -20,7 +20,7 @@ use Rattle.tui_pager_run.specs.Refusals.{refusal_line}
 use Rattle.tui_pager_run.specs.declared.bad_input.BadInput.{BadInput}
 use Rattle.tui_program.proofs.Reaching.{reaches_too}
 use Rattle.tui_program.specs.Input.{Reaches}
-use Rattle.tui_program.specs.Stops.{Tells, line_of}
+use Rattle.tui_program.specs.Stops.{WritesLine, line_of}
 use Rattle.tui_program.specs.declared.stop.Stop.{Stop}
 use Rattle.tui_program.specs.declared.stop.Stop.TheVariants as stop
 use Rattle.tui_system.proofs.Commanding.{comes_read, reaches_doing}
@@ -75,5 +75,5 @@ shown_on given setting command bytes old terminal new e same settings read h =
 
 -- a run that was stopped before the terminal changed
 pub ends_stopped : (old terminal new : Observed) (stopped e : Stop BadInput) → terminal ≡ old →
-    Tells (line_of refusal_line stopped) stopped terminal new e → Tells (line_of refusal_line stopped) stopped old new e
-ends_stopped old terminal new stopped e same h = subst (λ (o : Observed). Tells (line_of refusal_line stopped) stopped o new e) same h
+    WritesLine (line_of refusal_line stopped) stopped terminal new e → WritesLine (line_of refusal_line stopped) stopped old new e
+ends_stopped old terminal new stopped e same h = subst (λ (o : Observed). WritesLine (line_of refusal_line stopped) stopped o new e) same h

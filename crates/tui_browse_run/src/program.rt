@@ -7,7 +7,7 @@ use crate::browsing::show_file;
 use crate::format::Format;
 use tui_app::Terminal;
 use tui_pager_run::BadInput;
-use tui_program::{Outcome, tell};
+use tui_program::{Outcome, report_stop};
 use tui_system::{Console, Left, System, open_terminal, session_outcome};
 
 /// Reads a file to its end, and shows its entries in a pager on the terminal until the user quits. The arguments are
@@ -28,6 +28,6 @@ fn browse_on<S: System, T: Terminal>(system: &S, terminal: &mut T) -> Outcome<Le
 {
     match show_file(system, terminal) {
         Ok(end) => session_outcome(end),
-        Err(stop) => Err(tell::<Format, T>(stop, terminal)),
+        Err(stop) => Err(report_stop::<Format, T>(stop, terminal)),
     }
 }

@@ -10,7 +10,7 @@ use crate::paths::FolderPaths;
 use crate::running::run_browser;
 use tui_app::Terminal;
 use tui_files_lib::Folders;
-use tui_program::{Outcome, tell};
+use tui_program::{Outcome, report_stop};
 use tui_system::{Console, Destination, Left, RejectsNothing, System, command_of, open_terminal};
 
 /// Shows a folder on the terminal until the user quits, and then writes the selected path, or the folder that it lies
@@ -52,6 +52,6 @@ fn browse_on<S: System, P: FolderPaths, F: Folders + Drop, T: Terminal, A: Desti
             let browsing = begin(system.alloc(), paths, folders, command)?;
             run_browser(system, paths, browsing, terminal, chosen)
         }
-        Err(stop) => Err(tell::<RejectsNothing, T>(stop, terminal)),
+        Err(stop) => Err(report_stop::<RejectsNothing, T>(stop, terminal)),
     }
 }

@@ -10,7 +10,7 @@ use Rattle.tui_form_run.specs.declared.bad_form.BadForm.{BadForm}
 use Rattle.tui_form_run.specs.declared.form_left.FormLeft.{FormLeft}
 use Rattle.tui_io.proofs.Outside.{Keeps-self}
 use Rattle.tui_io.specs.Causes.{Observed}
-use Rattle.tui_program.specs.Stops.{Tells, line_of}
+use Rattle.tui_program.specs.Stops.{WritesLine, line_of}
 use Rattle.tui_program.specs.Transcript.{Unwritten}
 use Rattle.tui_program.specs.declared.stop.Stop.{Stop}
 use Rattle.tui_system.specs.Places.{PlaceData, place_data}
@@ -37,9 +37,9 @@ after_opening last end old ready new e is h = subst (λ (t : Observed). EndsAnsw
 
 -- a run that was stopped before anything else changed
 pub ends_stopped : (old terminal new answers answers_then : Observed) (stopped e : Stop BadForm) → terminal ≡ old → answers_then ≡ answers →
-    Tells (line_of refusal_line stopped) stopped terminal new e → Tells (line_of refusal_line stopped) stopped old new e × Unwritten answers answers_then
+    WritesLine (line_of refusal_line stopped) stopped terminal new e → WritesLine (line_of refusal_line stopped) stopped old new e × Unwritten answers answers_then
 ends_stopped old terminal new answers answers_then stopped e same still h =
-    (subst (λ (o : Observed). Tells (line_of refusal_line stopped) stopped o new e) same h, untouched_same answers answers_then still)
+    (subst (λ (o : Observed). WritesLine (line_of refusal_line stopped) stopped o new e) same h, untouched_same answers answers_then still)
 
 -- a form that is asked with
 pub ends_with : (given : Given) (old new answers answers_then : Observed) (opened : PlaceData → Type 0) (input asked : Asked) (e : Result FormLeft (Stop BadForm)) →

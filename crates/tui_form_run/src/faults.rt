@@ -23,10 +23,7 @@ use tui_json::{
 pub fn explain_form(alloc: Global, value: &Value, bad: BadForm) -> Mem<Option<String>>
     ensures { IfOk result (λ text. option_map string_bytes text ≡ option_map explanation (form_fault bad (view value.now))) }
 {
-    match form_fault(alloc, value, bad)? {
-        Some(fault) => Ok(Some(explain(alloc, &fault)?)),
-        None => Ok(None),
-    }
+    explain(alloc, form_fault(alloc, value, bad)?)
 }
 
 fn form_fault<'v>(alloc: Global, value: &'v Value, bad: BadForm) -> Mem<Option<Fault<'v>>>

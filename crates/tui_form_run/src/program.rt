@@ -9,7 +9,7 @@ use crate::bad_form::BadForm;
 use crate::form_command::FormCommand;
 use crate::form_left::FormLeft;
 use tui_app::Terminal;
-use tui_program::{Outcome, tell};
+use tui_program::{Outcome, report_stop};
 use tui_system::{Console, Destination, System, open_terminal};
 
 /// Reads a form in JSON (docs/PROGRAMS.md) to its end, and shows it on the terminal until the user accepts or leaves
@@ -42,6 +42,6 @@ fn run_on<S: System, T: Terminal, A: Destination>(
 {
     match ask_by_file(system, terminal, answers) {
         Ok(outcome) => outcome,
-        Err(stop) => Err(tell::<FormCommand, T>(stop, terminal)),
+        Err(stop) => Err(report_stop::<FormCommand, T>(stop, terminal)),
     }
 }

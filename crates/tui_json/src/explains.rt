@@ -3,7 +3,8 @@
 ghost use Rattle.std.specs.Prelude.{◌≡◌, IfOk, Option, option_map};
 ghost use Rattle.serde_json.specs.Data.{Data};
 ghost use Rattle.serde_json.specs.View.{items_view, view};
-ghost use Rattle.tui_json.specs.Faults.{FaultData, WantedData, elements_fault, fault_data, fault_of, given_member_fault, index, inside, items_fault, key, member_fault, not_allowed, optional_member_fault, value_at, wanted_data, words};
+ghost use Rattle.tui_json.specs.Faults.{FaultData, WantedData, fault_data, index, inside, key, value_at, wanted_data, words};
+ghost use Rattle.tui_json.specs.Faults.{elements_fault, fault_of, given_member_fault, items_fault, member_fault, not_allowed, optional_member_fault};
 
 use crate::fault::{Fault, Step, inside};
 use crate::kind::{Kind, KindError};

@@ -1,6 +1,6 @@
 //! What is wrong with a value, in words.
 
-ghost use Rattle.std.specs.Prelude.{◌≡◌, IfOk, map, string_bytes};
+ghost use Rattle.std.specs.Prelude.{◌≡◌, IfOk, map, option_map, string_bytes};
 ghost use Rattle.serde_json.specs.Data.{string};
 ghost use Rattle.serde_json.specs.Events.{items_len};
 ghost use Rattle.serde_json.specs.View.{items_view, view};
@@ -16,11 +16,20 @@ use tui_cells::Mem;
 /// The longest string that is shown, in bytes.
 const LONGEST: usize = 64;
 
-/// Returns a fault in words: its path, what is wanted there, and what is there, such as
+/// Returns a fault in words, if there is one: its path, what is wanted there, and what is there, such as
 /// `fields[0].kind: expected text, choice or check, found the string "txt"`. Fails with `NoMemory` if there is
 /// no memory for the text.
+pub fn explain(alloc: Global, fault: Option<Fault<'_>>) -> Mem<Option<String>>
+    ensures { IfOk result (λ text. option_map string_bytes text ≡ option_map explanation (option_map fault_data fault.entry)) }
+{
+    match fault {
+        Some(fault) => Ok(Some(fault_text(alloc, &fault)?)),
+        None => Ok(None),
+    }
+}
+
 #[tactic(auto, unfolding(crate::specs::Explanation::explanation))]
-pub fn explain(alloc: Global, fault: &Fault<'_>) -> Mem<String>
+fn fault_text(alloc: Global, fault: &Fault<'_>) -> Mem<String>
     ensures { IfOk result (λ text. string_bytes text ≡ explanation (fault_data fault.now)) }
 {
     let place = place_text(alloc, &fault.steps)?;

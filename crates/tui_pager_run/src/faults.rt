@@ -22,10 +22,7 @@ use tui_json::{
 pub fn explain_input(alloc: Global, value: &Value, bad: BadInput) -> Mem<Option<String>>
     ensures { IfOk result (λ text. option_map string_bytes text ≡ option_map explanation (input_fault bad (view value.now))) }
 {
-    match input_fault(alloc, value, bad)? {
-        Some(fault) => Ok(Some(explain(alloc, &fault)?)),
-        None => Ok(None),
-    }
+    explain(alloc, input_fault(alloc, value, bad)?)
 }
 
 fn input_fault<'v>(alloc: Global, value: &'v Value, bad: BadInput) -> Mem<Option<Fault<'v>>>

@@ -24,10 +24,7 @@ use tui_layout::Constraint;
 pub fn explain_report(alloc: Global, value: &Value, bad: PagesRefusal) -> Mem<Option<String>>
     ensures { IfOk result (λ text. option_map string_bytes text ≡ option_map explanation (report_fault bad (view value.now))) }
 {
-    match report_fault(alloc, value, bad)? {
-        Some(fault) => Ok(Some(explain(alloc, &fault)?)),
-        None => Ok(None),
-    }
+    explain(alloc, report_fault(alloc, value, bad)?)
 }
 
 fn report_fault<'v>(alloc: Global, value: &'v Value, bad: PagesRefusal) -> Mem<Option<Fault<'v>>>

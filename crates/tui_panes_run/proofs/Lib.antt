@@ -6,3 +6,5 @@ pub mod Holding
 pub mod Numbers
 pub mod Output
 pub mod Trees
+pub mod Explained
+pub mod FaultLoops

@@ -1,7 +1,6 @@
 -- An input has one output.
-use Rattle.std.proofs.Common.{◌≡◌, ℕ, ◌+◌, ◌<◌, Bool, true, false, ◌&&◌, List, [], ◌∷◌, length, get_or, map, Option, Some, None, option_map}
+use Rattle.std.proofs.Common.{◌≡◌, ℕ, ◌<◌, Bool, true, false, ◌&&◌, List, [], ◌∷◌, length, get_or, map, Option, Some, None, option_map}
 use Rattle.std.proofs.Common.{refl, sym, ap, ◌∙◌, subst, arith, inl, inr}
-use Rattle.std.specs.Prelude.{◌⊎◌, Ok}
 use Rattle.std.proofs.lemmas.Bool.{cases_lt}
 use Rattle.std.proofs.lemmas.List.{get_or-map, length-map}
 use Rattle.tui_cells.specs.declared.rect.Rect.{Rect}
@@ -15,7 +14,6 @@ use Rattle.tui_scene.specs.Item.{PlacedData, placed_after, placed_layers}
 use Rattle.tui_scene.specs.Scene.{no_widget, placed_at, scene_layers}
 use Rattle.tui_scene.proofs.Drawn.{filled_cell, one_screen}
 use Rattle.tui_panes_lib.specs.Draw.{in_order}
-use Rattle.tui_panes_lib.specs.Panes.{rects_of}
 use Rattle.tui_panes_lib.specs.Replace.{item_in_leaf}
 use Rattle.tui_panes_lib.proofs.DisjointLeaves.{are_disjoint_within}
 use Rattle.tui_panes_lib.specs.Apart.{AreDisjointWithin}

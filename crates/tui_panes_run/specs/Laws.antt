@@ -1,5 +1,5 @@
 -- What holds for the program's output.
-use Rattle.std.specs.Prelude.{◌≡◌, ℕ, All, List, [], ◌∷◌, Ok, slice_set}
+use Rattle.std.specs.Prelude.{◌≡◌, ℕ, All, List, [], ◌∷◌, IsSome, Ok, Err, slice_set}
 use Rattle.serde_json.specs.Data.{Data}
 use Rattle.tui_cells.specs.Buffer.{IsFilled, Screen}
 use Rattle.tui_cells.specs.Cell.{blank}
@@ -9,6 +9,9 @@ use Rattle.tui_scene.specs.Shadow.{HasNoShadow}
 use Rattle.tui_panes_lib.specs.Draw.{HaveNoShadow}
 use Rattle.tui_panes_lib.specs.Replace.{item_in_leaf}
 use Rattle.tui_panes_run.specs.Changes.{ChangeData}
+use Rattle.tui_json.specs.Faults.{Leads}
+use Rattle.tui_panes_run.specs.Faults.{input_fault}
+use Rattle.tui_panes_run.specs.declared.refusal.PanesRefusal.{PanesRefusal}
 use Rattle.tui_panes_run.specs.Input.{InputData, input_of}
 use Rattle.tui_panes_run.specs.Rules.{IsWritten}
 use Rattle.tui_panes_run.specs.Shown.{ArePanesShown, leaves_of, screen_area}
@@ -47,3 +50,8 @@ PrintsAsFromBlank = (o : Order) (d : Data) (input : InputData) (text : List ℕ)
 abbrev pub ReverseIsSame : Type 0
 ReverseIsSame = (d : Data) (input : InputData) (text other : List ℕ) → input_of d ≡ Ok input → HasNoShadows input →
     IsWritten (command.Draw order.FirstToLast) input text → IsWritten (command.Draw order.LastToFirst) input other → other ≡ text
+
+-- An input that is rejected has a fault, and its steps lead to what it says is there.
+pub record InputsAreExplained : Type 0 where
+  pub found : (d : Data) (refusal : PanesRefusal) → input_of d ≡ Err refusal → IsSome (input_fault d)
+  pub leads : (d : Data) → Leads (input_fault d) d

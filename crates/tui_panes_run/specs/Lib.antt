@@ -8,6 +8,7 @@ pub mod Order
 pub mod Shown
 pub mod Found
 pub mod Ended
+pub mod Faults
 pub mod Rules
 pub mod Same
 pub mod Laws

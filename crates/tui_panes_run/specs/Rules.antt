@@ -1,5 +1,5 @@
 -- The rules of the program: its arguments, and what it reads and writes.
-use Rattle.std.specs.Prelude.{ℕ, ◌≤◌, List, [], ◌∷◌, length, None, codes, String}
+use Rattle.std.specs.Prelude.{ℕ, ◌≤◌, List, [], ◌∷◌, length, codes, option_map, String}
 use Rattle.std.specs.declared.alloc.Global.{Global}
 use Rattle.tui_cells.specs.Rect.{farthest_edge}
 use Rattle.tui_program.specs.Outcomes.{nothing}
@@ -7,6 +7,8 @@ use Rattle.tui_program.specs.Rules.{JobRules, Rules, reading_rules}
 use Rattle.tui_program.specs.Arguments.{AreTexts, HaveNumbers, most_arguments}
 use Rattle.tui_program.proofs.ArgumentLists.{few_none, few_one, few_three}
 use Rattle.tui_program.specs.declared.numerals.Numerals.{Numerals}
+use Rattle.tui_json.specs.Explanation.{explanation}
+use Rattle.tui_panes_run.specs.Faults.{input_fault}
 use Rattle.tui_panes_run.specs.Found.{IsFound}
 use Rattle.tui_panes_run.specs.Input.{InputData, input_of}
 use Rattle.tui_panes_run.specs.Refusals.{refusal_line}
@@ -43,7 +45,7 @@ panes_job c = record {
   Input = InputData;
   input_of = input_of;
   line = refusal_line;
-  explained = λ refusal d. None;
+  explained = λ refusal d. option_map explanation (input_fault d);
   expected = IsWritten c;
   part = λ input. nothing;
 }

@@ -8,6 +8,7 @@ ghost use Rattle.tui_panes_run.specs.Input.{input_data};
 ghost use Rattle.tui_panes_run.specs.Rules.{IsWritten};
 ghost use Rattle.tui_panes_run.specs.Shown.{ArePanesShown, leaves_of};
 
+use crate::faults::explain_input;
 use crate::finding::{leaf_in, write_leaf_line};
 use crate::input::{Input, read_input};
 use crate::order::Order;
@@ -90,13 +91,8 @@ impl Job for PanesCommand {
         write(*self, alloc, input, sink, cleanup)
     }
 
-    fn explain(
-        &self,
-        _alloc: Global,
-        _value: &Value,
-        _refusal: PanesRefusal,
-    ) -> Mem<Option<String>> {
-        Ok(None)
+    fn explain(&self, alloc: Global, value: &Value, _refusal: PanesRefusal) -> Mem<Option<String>> {
+        explain_input(alloc, value)
     }
 }
 

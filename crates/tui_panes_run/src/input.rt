@@ -16,7 +16,7 @@ use tui_json::{Fields, InputError, Within, any_member, required};
 use tui_panes_lib::Pane;
 
 /// The most levels below the root.
-const ROOM: u8 = 31;
+pub(crate) const ROOM: u8 = 31;
 
 /// All fields of an input. Its strings are borrowed from the JSON value.
 #[derive(Drop)]

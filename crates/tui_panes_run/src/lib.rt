@@ -7,6 +7,7 @@ mod change_field;
 mod command;
 mod counts;
 mod ended;
+mod faults;
 mod field;
 mod finding;
 mod input;
@@ -22,8 +23,9 @@ mod tree;
 
 pub use command::PanesCommand;
 pub use ended::PanesEnded;
+pub use faults::explain_input;
 pub use field::PaneField;
-pub use laws::output_laws;
+pub use laws::{explained_law, output_laws};
 pub use order::Order;
 pub use program::{run_panes, run_program};
 pub use refusal::PanesRefusal;

@@ -146,7 +146,7 @@ fn read_parts<'v>(
 
 #[cycle(panes)]
 #[tactic(auto, unfolding(crate::specs::Tree::part_in))]
-fn read_part<'v>(
+pub(crate) fn read_part<'v>(
     alloc: Global,
     room: u8,
     number: usize,

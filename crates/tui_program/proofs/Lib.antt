@@ -2,5 +2,5 @@ pub mod Completeness
 pub mod Outcomes
 pub mod FirstArguments
 pub mod ArgumentLists
-pub mod Telling
+pub mod StopLine
 pub mod Reaching

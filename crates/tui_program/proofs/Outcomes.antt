@@ -12,8 +12,8 @@ use Rattle.tui_program.specs.Outcomes.{Answers, AnswersWith, EndsAsUsage, EndsBy
 use Rattle.tui_program.specs.Rules.{JobRules, Rules, Task, reads, only_writes}
 use Rattle.tui_program.specs.Runs.{IsRun, IsRunFrom}
 use Rattle.tui_program.specs.Input.{Parses, Reads}
-use Rattle.tui_program.specs.Stops.{IsOfCommand, Outcome, Tells, line_of}
-use Rattle.tui_program.proofs.Telling.{tells_nothing}
+use Rattle.tui_program.specs.Stops.{IsOfCommand, Outcome, WritesLine, line_of}
+use Rattle.tui_program.proofs.StopLine.{without_line}
 use Rattle.tui_program.specs.declared.stop.Stop.{Stop}
 use Rattle.tui_program.specs.declared.stop.Stop.TheVariants as stop
 
@@ -48,57 +48,57 @@ gave_whole t bytes whole = record { bytes = bytes; taken = whole.taken; enough =
 -- ---- runs that were stopped
 
 -- a line that is written, or not completely, ends a run that read
-tells_line : {R : Type 0} (r : JobRules R) (t : Transcript) (stopped : Stop R) (text : List ℕ) (e : Stop R) → IsExpected r t text (Err stopped) →
-    (WritesAll t.sink t.sink_then text → EndsReading r t (Err stopped)) → Tells text stopped t.sink t.sink_then e → EndsReading r t (Err e)
-tells_line {R} r t stopped text e expected all h = elim h [
-  | inl told ↦ subst (λ (x : Stop R). EndsReading r t (Err x)) (sym told.0) (all told.1)
+ends_with_line : {R : Type 0} (r : JobRules R) (t : Transcript) (stopped : Stop R) (text : List ℕ) (e : Stop R) → IsExpected r t text (Err stopped) →
+    (WritesAll t.sink t.sink_then text → EndsReading r t (Err stopped)) → WritesLine text stopped t.sink t.sink_then e → EndsReading r t (Err e)
+ends_with_line {R} r t stopped text e expected all h = elim h [
+  | inl written ↦ subst (λ (x : Stop R). EndsReading r t (Err x)) (sym written.0) (all written.1)
   | inr failed ↦ subst (λ (x : Stop R). EndsReading r t (Err x)) (sym failed.0) (text, Err stopped, expected, failed.1)
 ]
 
 -- a source that was not read to its end
 pub ends_unread : {R : Type 0} (r : JobRules R) (line : R → List ℕ) (t : Transcript) (stopped e : Stop R) → Reads t (Err stopped) →
-    Tells (line_of line stopped) stopped t.sink t.sink_then e → EndsReading r t (Err e)
-ends_unread {R} r line t stop.TooLong e past h = tells_line r t stop.TooLong (codes "refused: too long\n") e (past, refl) (λ all. (codes "refused: too long\n", (past, refl), all)) h
+    WritesLine (line_of line stopped) stopped t.sink t.sink_then e → EndsReading r t (Err e)
+ends_unread {R} r line t stop.TooLong e past h = ends_with_line r t stop.TooLong (codes "refused: too long\n") e (past, refl) (λ all. (codes "refused: too long\n", (past, refl), all)) h
 ends_unread {R} r line t stop.ReadFault e fault h =
-    let none = tells_nothing stop.ReadFault h in
+    let none = without_line stop.ReadFault h in
     subst (λ (x : Stop R). EndsReading r t (Err x)) (sym none.0) (fault.0, none.1, fault.1)
 ends_unread {R} r line t stop.NoMemory e end h =
-    let none = tells_nothing stop.NoMemory h in
+    let none = without_line stop.NoMemory h in
     subst (λ (x : Stop R). EndsReading r t (Err x)) (sym none.0) (end.0, end.1, inl none.1)
 ends_unread r line t other e read h = absurd read
 
 -- bytes that have no value
 pub ends_unparsed : {R : Type 0} (r : JobRules R) (line : R → List ℕ) (t : Transcript) (bytes : List ℕ) (stopped e : Stop R) → ReadWhole t bytes → Parses bytes (Err stopped) →
-    Tells (line_of line stopped) stopped t.sink t.sink_then e → EndsReading r t (Err e)
+    WritesLine (line_of line stopped) stopped t.sink t.sink_then e → EndsReading r t (Err e)
 ends_unparsed {R} r line t bytes stop.NotJson e whole none h =
-    tells_line r t stop.NotJson (codes "refused: not JSON\n") e ((bytes, whole, none), refl) (λ all. (codes "refused: not JSON\n", ((bytes, whole, none), refl), all)) h
+    ends_with_line r t stop.NotJson (codes "refused: not JSON\n") e ((bytes, whole, none), refl) (λ all. (codes "refused: not JSON\n", ((bytes, whole, none), refl), all)) h
 ends_unparsed {R} r line t bytes stop.NoMemory e whole parses h =
-    let none = tells_nothing stop.NoMemory h in
+    let none = without_line stop.NoMemory h in
     subst (λ (x : Stop R). EndsReading r t (Err x)) (sym none.0) (gave_whole t bytes whole, whole.quiet, inl none.1)
 ends_unparsed r line t bytes other e whole parses h = absurd parses
 
 -- what a command wrote, and then the line of a rejection
 pub ends_answered : {R : Type 0} (r : JobRules R) (line : R → List ℕ) (d : Data) (stopped e : Stop R) (old put new : Observed) → r.line ≡ line →
-    Answers {T = Unit {0}} r d old put (Err stopped) → Tells (line_of line stopped) stopped put new e →
+    Answers {T = Unit {0}} r d old put (Err stopped) → WritesLine (line_of line stopped) stopped put new e →
     EndsWith (IsExpectedFor r d) (IsPartialOutput r d) old new (Err e)
-ends_answered {R} r line d (stop.Rejected x) e old put new same h tells =
+ends_answered {R} r line d (stop.Rejected x) e old put new same h writes =
     let is : r.line x ≡ line x = ap (λ (l : R → List ℕ). l x) same in
-    elim tells [
-      | inl told ↦ subst (λ (y : Stop R). EndsWith (IsExpectedFor r d) (IsPartialOutput r d) old new (Err y)) (sym told.0)
-          (line x, (h.0, sym is), written_after_nothing h.1 told.1)
+    elim writes [
+      | inl written ↦ subst (λ (y : Stop R). EndsWith (IsExpectedFor r d) (IsPartialOutput r d) old new (Err y)) (sym written.0)
+          (line x, (h.0, sym is), written_after_nothing h.1 written.1)
       | inr failed ↦ subst (λ (y : Stop R). EndsWith (IsExpectedFor r d) (IsPartialOutput r d) old new (Err y)) (sym failed.0)
           (line x, Err (stop.Rejected x), (h.0, sym is), written_after_nothing h.1 failed.1)
     ]
-ends_answered {R} r line d stop.WriteFault e old put new same h tells =
-    let none = tells_nothing stop.WriteFault tells in
+ends_answered {R} r line d stop.WriteFault e old put new same h writes =
+    let none = without_line stop.WriteFault writes in
     subst (λ (y : Stop R). EndsWith (IsExpectedFor r d) (IsPartialOutput r d) old new (Err y)) (sym none.0) (h.0, Ok tt, h.1, nothing_after_written h.2 none.1)
-ends_answered {R} r line d stop.NoMemory e old put new same h tells =
-    let none = tells_nothing stop.NoMemory tells in
+ends_answered {R} r line d stop.NoMemory e old put new same h writes =
+    let none = without_line stop.NoMemory writes in
     subst (λ (y : Stop R). EndsWith (IsExpectedFor r d) (IsPartialOutput r d) old new (Err y)) (sym none.0) (elim h [
       | inl before ↦ inl (nothing_twice before none.1)
       | inr some ↦ inr (some.0, some.1, nothing_after_written some.2 none.1)
     ])
-ends_answered r line d other e old put new same h tells = absurd h
+ends_answered r line d other e old put new same h writes = absurd h
 
 -- what has to be written for the value that was read has to be written by the run
 expected_of : {R : Type 0} (r : JobRules R) (t : Transcript) (bytes : List ℕ) (d : Data) → ReadJson t bytes d →

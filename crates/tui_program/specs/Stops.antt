@@ -24,13 +24,13 @@ line_of line (stop.Rejected x) = line x
 line_of line other = []
 
 -- a stopped run has written its line, or a write failed after the first part of it
-abbrev pub Tells : {R : Type 0} → List ℕ → Stop R → Observed → Observed → Stop R → Type 0
-Tells text stopped old new e = ((e ≡ stopped) × WritesAll old new text) ⊎ ((e ≡ stop.WriteFault) × WritesPrefix old new text)
+abbrev pub WritesLine : {R : Type 0} → List ℕ → Stop R → Observed → Observed → Stop R → Type 0
+WritesLine text stopped old new e = ((e ≡ stopped) × WritesAll old new text) ⊎ ((e ≡ stop.WriteFault) × WritesPrefix old new text)
 
 -- the outcome of a stopped run
 abbrev pub EndsStopped : {D R : Type 0} → (R → List ℕ) → Stop R → Observed → Observed → Result D (Stop R) → Type 0
 EndsStopped line stopped old new (Ok x) = ⊥
-EndsStopped line stopped old new (Err e) = Tells (line_of line stopped) stopped old new e
+EndsStopped line stopped old new (Err e) = WritesLine (line_of line stopped) stopped old new e
 
 -- the exit status of a stop, given that of each rejection
 abbrev pub stop_status : {R : Type 0} → (R → ℕ) → Stop R → ℕ

@@ -9,7 +9,7 @@ pub trait Explainer {
     fn explain(&self, text: &str);
 }
 
-/// Who runs a program. No outcome depends on them: what they are told is only words.
+/// Who runs a program and reads what it says in words. No outcome of a run depends on it.
 pub trait Caller: Explainer {
     /// Returns what happens to the values of a run at its end.
     fn cleanup(&self) -> Cleanup;

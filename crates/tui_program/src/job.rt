@@ -10,7 +10,7 @@ use crate::caller::Caller;
 use crate::cleanup::Cleanup;
 use crate::input::read_input;
 use crate::json::json_or_explain;
-use crate::rejects::{Rejects, tell};
+use crate::rejects::{Rejects, report_stop};
 use crate::stop::{Outcome, Stop};
 use serde_json::Value;
 use std::alloc::Global;
@@ -52,7 +52,7 @@ pub fn run_json<J: Job, S: Source, K: Sink, H: Caller>(
 {
     let bytes = match read_input(alloc, source) {
         Ok(bytes) => bytes,
-        Err(stop) => return Err(tell::<J, K>(stop, sink)),
+        Err(stop) => return Err(report_stop::<J, K>(stop, sink)),
     };
     match json_or_explain(alloc, bytes, caller) {
         Ok(value) => {
@@ -60,7 +60,7 @@ pub fn run_json<J: Job, S: Source, K: Sink, H: Caller>(
             caller.cleanup().dispose_of(value);
             outcome
         }
-        Err(stop) => Err(tell::<J, K>(stop, sink)),
+        Err(stop) => Err(report_stop::<J, K>(stop, sink)),
     }
 }
 
@@ -77,7 +77,7 @@ fn run_value<J: Job, K: Sink, H: Caller>(
     match job.answer(alloc, value, sink, caller.cleanup()) {
         Ok(()) => Ok(()),
         Err(stop) => {
-            let ended = tell::<J, K>(stop, sink);
+            let ended = report_stop::<J, K>(stop, sink);
             explain_stop(job, alloc, value, ended, caller);
             Err(ended)
         }

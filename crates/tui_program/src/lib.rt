@@ -30,6 +30,6 @@ pub use json::json_or_explain;
 pub use numerals::{Numerals, number_after, numbers_after};
 pub use program::{run, run_program};
 pub use reader::JsonCommand;
-pub use rejects::{Rejects, tell};
+pub use rejects::{Rejects, report_stop};
 pub use status::{Done, exit_code};
 pub use stop::{Outcome, Stop};

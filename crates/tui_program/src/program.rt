@@ -8,7 +8,7 @@ ghost use Rattle.tui_program.specs.Runs.{IsRun, IsRunFrom};
 use crate::arguments::first_arguments;
 use crate::caller::Caller;
 use crate::command::ProgramCommand;
-use crate::rejects::tell;
+use crate::rejects::report_stop;
 use crate::stop::{Outcome, Stop};
 use std::alloc::Global;
 use std::env::Args;
@@ -31,7 +31,7 @@ pub fn run<C: ProgramCommand + Drop, S: Source, K: Sink, H: Caller>(
     match C::from_arguments(arguments) {
         Some(command) => command.run(alloc, source, sink, caller),
         None => {
-            let ended = tell::<C, K>(Stop::Usage, sink);
+            let ended = report_stop::<C, K>(Stop::Usage, sink);
             caller.print_usage();
             Err(ended)
         }

@@ -2,7 +2,7 @@
 
 ghost use Rattle.std.specs.Prelude.{ℕ, List};
 ghost use Rattle.tui_io.specs.Causes.{Writes};
-ghost use Rattle.tui_program.specs.Stops.{Tells, line_of};
+ghost use Rattle.tui_program.specs.Stops.{WritesLine, line_of};
 
 use crate::stop::Stop;
 use tui_io::{Sink, WriteFault, write_all};
@@ -23,8 +23,8 @@ pub trait Rejects {
 
 /// Writes the line that says why an input is rejected, without allocating. Writes nothing for a stop that has no line.
 /// Returns how the run ends.
-pub fn tell<P: Rejects, K: Sink>(stop: Stop<P::Refusal>, sink: &mut K) -> Stop<P::Refusal>
-    ensures { Tells (line_of P.line stop) stop (K.observed sink.old) (K.observed sink.new) result }
+pub fn report_stop<P: Rejects, K: Sink>(stop: Stop<P::Refusal>, sink: &mut K) -> Stop<P::Refusal>
+    ensures { WritesLine (line_of P.line stop) stop (K.observed sink.old) (K.observed sink.new) result }
 {
     match write_line::<P, K>(stop, sink) {
         Ok(()) => stop,

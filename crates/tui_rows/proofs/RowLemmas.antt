@@ -1,5 +1,5 @@
 -- The rows of a buffer in the output.
-use Rattle.std.proofs.Common.{◌≡◌, ℕ, ◌+◌, ◌-◌, ◌<◌, ◌≤◌, List, [], ◌∷◌, ◌++◌, length, get_or, take, slice_index_or, flat_map, refl, ap, sym, ◌∙◌, add-one, min, append_assoc, slice_set, arith, rules, false, true}
+use Rattle.std.proofs.Common.{◌≡◌, ℕ, ◌+◌, ◌-◌, ◌<◌, ◌≤◌, List, [], ◌∷◌, ◌++◌, length, get_or, take, slice_index_or, flat_map, refl, ap, sym, ◌∙◌, add-one, min, append_assoc, slice_set, arith, false}
 use Rattle.std.proofs.lemmas.List.{append-nil, length-set, take_more_set}
 use Rattle.std.proofs.lemmas.Grind.{flat_map-append}
 use Rattle.std.proofs.lemmas.List.Concat.{flat_map-cons}

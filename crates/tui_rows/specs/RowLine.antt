@@ -1,5 +1,5 @@
 -- The output line of a row, in bytes.
-use Rattle.std.specs.Prelude.{ℕ, List, ◌++◌, codes, drop, flat_map}
+use Rattle.std.specs.Prelude.{ℕ, List, ◌++◌, codes, drop}
 use Rattle.tui_cells.specs.Cell.{Look}
 use Rattle.tui_io.specs.Texts.{newline}
 use Rattle.tui_text.specs.Visible.{joined_symbols, symbols_in, visible_from}

@@ -6,12 +6,12 @@ use Rattle.serde_json.specs.Find.{as_array, as_bool, as_str, get}
 use Rattle.tui_json.proofs.Leading.{constraint_leads, leads_elements, leads_given_member, leads_leaf, leads_member, leads_members, leads_of, leads_optional_member, leads_or, leads_pair}
 use Rattle.tui_json.specs.Constraint.{a_constraint}
 use Rattle.tui_json.specs.Faults as faults
-use Rattle.tui_json.specs.Faults.{FaultData, Leads, elements_fault, fault_of, given_member_fault, member_fault, members_fault, no_parts, optional_member_fault, pair_fault, two_values, words}
+use Rattle.tui_json.specs.Faults.{FaultData, Leads, elements_fault, fault_of, member_fault, no_parts, optional_member_fault, pair_fault, two_values, words}
 use Rattle.tui_json.specs.Members.{list_of, member, pair_of}
 use Rattle.tui_json.specs.Named.{Names, listed_names, named_of}
 use Rattle.tui_json.specs.Names.{merge_strategies}
 use Rattle.tui_json.specs.Number.{i32_of, u16_of, u64_of, within}
-use Rattle.tui_schema.specs.Faults.{Finds, a_bar, a_bar_set, a_color, a_date, a_group, a_line, a_list_item, a_long, a_modifier, a_padding, a_row, a_shadow, a_share, a_side, a_span, a_sparkline_bar, a_style, a_symbol, a_text, a_title, a_wrap, an_area, an_array, an_effect, an_event, an_object, bar_fault, bar_members, bar_parts, block_fault, block_parts, borders_fault, borders_parts, cell_fault, cell_members, cell_parts, color_fault, date_fault, effect_fault, either_parts, event_fault, event_members, event_parts, flag_fault, fraction_parts, frame_parts, group_fault, group_members, group_parts, if_member, line_fault, line_members, line_parts, list_fault, list_item_fault, list_item_members, list_item_parts, long_fault, modifiers_fault, modifiers_parts, named_fault, padding_fault, pair_of_fault, percent_fault, row_fault, row_members, row_parts, shadow_fault, shadow_members, shadow_parts, shadow_symbol_fault, share_fault, short_fault, signed_fault, span_fault, span_members, span_parts, sparkline_bar_fault, sparkline_bar_members, sparkline_bar_parts, string_fault, style_fault, style_member_fault, style_parts, symbol_fault, table_width_fault, table_width_parts, text_fault, text_members, text_parts, title_fault, title_members, title_parts, titles_parts, wrap_fault, wrap_members, wrap_parts}
+use Rattle.tui_schema.specs.Faults.{Finds, a_bar, a_bar_set, a_color, a_date, a_group, a_line, a_list_item, a_long, a_modifier, a_padding, a_row, a_shadow, a_share, a_border_side, a_span, a_sparkline_bar, a_style, a_symbol, a_text, a_title, a_wrap, an_area, an_array, an_effect, an_event, an_object, bar_fault, bar_members, bar_parts, block_fault, block_parts, borders_fault, borders_parts, cell_fault, cell_members, cell_parts, color_fault, date_fault, effect_fault, either_parts, event_fault, event_members, event_parts, flag_fault, fraction_parts, frame_parts, group_fault, group_members, group_parts, if_member, line_fault, line_members, line_parts, list_fault, list_item_fault, list_item_members, list_item_parts, long_fault, modifiers_fault, modifiers_parts, named_fault, padding_fault, pair_of_fault, percent_fault, row_fault, row_members, row_parts, shadow_fault, shadow_members, shadow_parts, shadow_symbol_fault, share_fault, short_fault, signed_fault, span_fault, span_members, span_parts, sparkline_bar_fault, sparkline_bar_members, sparkline_bar_parts, string_fault, style_fault, style_member_fault, style_parts, symbol_fault, table_width_fault, table_width_parts, text_fault, text_members, text_parts, title_fault, title_members, title_parts, titles_parts, wrap_fault, wrap_members, wrap_parts}
 use Rattle.tui_schema.specs.FieldFaults.{a_widget, area_fault, bar_set_fault, widget_fault}
 use Rattle.tui_schema.specs.Items.Names.{widget_of}
 use Rattle.tui_schema.specs.Kinds.Area.{area_in}
@@ -253,7 +253,7 @@ shadow_leads d = leads_of shadow_of a_shadow shadow_parts d (leads_members shado
 pub borders_leads : (d : Data) → Leads (borders_fault d) d
 unfolding borders_parts
 borders_leads d =
-    leads_of sides_of an_array borders_parts d (leads_elements (fault_of side_named a_side no_parts) d (leads_leaf side_named a_side))
+    leads_of sides_of an_array borders_parts d (leads_elements (fault_of side_named a_border_side no_parts) d (leads_leaf side_named a_border_side))
 
 frame_parts_lead : (d : Data) → Leads (frame_parts d) d
 unfolding frame_parts

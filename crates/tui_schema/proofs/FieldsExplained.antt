@@ -1,5 +1,5 @@
 -- A scene that is rejected has a fault, at the field that the rejection names.
-use Rattle.std.proofs.Common.{Bool, true, false, nat_le, if◌then◌else◌, zero-add, ◌≡◌, ℕ, ◌+◌, List, [], IsSome, Option, Some, None, unwrap_or, Result, Ok, Err, codes, refl, sym, ap, ◌∙◌, subst}
+use Rattle.std.proofs.Common.{Bool, true, false, nat_le, zero-add, ◌≡◌, ℕ, ◌+◌, List, [], IsSome, Option, Some, None, unwrap_or, Result, Ok, codes, refl, ap, ◌∙◌, subst}
 use Rattle.serde_json.specs.Data.{Data, Items}
 use Rattle.serde_json.specs.Find.{as_bool}
 use Rattle.tui_bars.specs.Gauge.{GaugeData}
@@ -9,7 +9,7 @@ use Rattle.tui_json.specs.Constraint.{constraint_of}
 use Rattle.tui_json.specs.Faults as faults
 use Rattle.tui_json.specs.Faults.{WantedData, elements_fault, fault_of, given_member_fault, member_fault, no_parts, optional_member_fault, two_values, value_at, words}
 use Rattle.tui_json.specs.Members.{list_of, member, optional_member, or_null, pair_of}
-use Rattle.tui_json.specs.Named.{Names, named_of}
+use Rattle.tui_json.specs.Named.{named_of}
 use Rattle.tui_json.specs.Names.{directions, flexes, highlight_spacings}
 use Rattle.tui_json.specs.Number.{u16_of, u64_of, within}
 use Rattle.tui_json.specs.Refusals.{◌>>=◌, or_reject}

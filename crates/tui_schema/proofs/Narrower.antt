@@ -1,5 +1,5 @@
 -- Kinds that allow less than others: what is not of the one kind is not of the other.
-use Rattle.std.proofs.Common.{Bool, true, false, nat_le, cond, if◌then◌else◌, ◌≡◌, ℕ, ◌+◌, List, [], ◌∷◌, Option, Some, None, option_map, option_and_then, refl, ◌∙◌}
+use Rattle.std.proofs.Common.{Bool, true, false, nat_le, cond, ◌≡◌, ℕ, ◌+◌, List, [], ◌∷◌, Option, Some, None, option_map, option_and_then, refl, ◌∙◌}
 use Rattle.std.proofs.Math.Dec.{leb-zero}
 use Rattle.std.specs.List.{position_from}
 use Rattle.serde_json.specs.Data.{Data, Items, null, boolean, number, string, array, object, no_items, item}

@@ -1,16 +1,17 @@
 -- What a value of each kind should be, and where in a value of the kind the value is that is not valid.
-use Rattle.std.specs.Prelude.{List, [], ◌∷◌, ◌++◌, ℕ, Option, Some, None, codes, map, option_and_then, option_map, if◌then◌else◌}
+use Rattle.std.specs.Prelude.{List, ◌++◌, ℕ, Option, Some, None, codes, map, option_and_then, if◌then◌else◌}
 use Rattle.std.specs.Str.{bytes_eq}
 use Rattle.serde_json.specs.Data.{Data, array, object}
 use Rattle.serde_json.specs.Find.{as_array, as_bool, as_str, get}
 use Rattle.tui_json.specs.Constraint.{a_constraint, constraint_fault}
 use Rattle.tui_json.specs.Faults as faults
-use Rattle.tui_json.specs.Faults.{FaultData, WantedData, ◌or◌, elements_fault, fault_of, given_member_fault, inside, key, member_fault, members_fault, no_parts, optional_member_fault, pair_fault, two_values, words}
+use Rattle.tui_json.specs.Faults.{FaultData, WantedData, ◌or◌, no_parts, two_values, words}
+use Rattle.tui_json.specs.Faults.{elements_fault, fault_of, given_member_fault, member_fault, members_fault, optional_member_fault, pair_fault}
 use Rattle.tui_json.specs.Members.{list_of, member, pair_of}
 use Rattle.tui_json.specs.Named.{Names, listed_names, named_of}
 use Rattle.tui_json.specs.Names.{merge_strategies}
 use Rattle.tui_json.specs.Number.{i32_of, u16_of, u64_of, within}
-use Rattle.tui_schema.specs.Kinds.Bars.{bar_of, bar_set_of, group_of, sparkline_bar_of}
+use Rattle.tui_schema.specs.Kinds.Bars.{bar_of, group_of, sparkline_bar_of}
 use Rattle.tui_schema.specs.Kinds.Block.{block_of}
 use Rattle.tui_schema.specs.Kinds.Borders.{side_named, sides_of}
 use Rattle.tui_schema.specs.Kinds.Color.{color_of}
@@ -77,8 +78,8 @@ symbol_fault = fault_of symbol_of a_symbol no_parts
 abbrev pub a_modifier : WantedData
 a_modifier = words (codes "`bold`, `dim`, `italic`, `underlined`, `slow_blink`, `rapid_blink`, `reversed`, `hidden` or `crossed_out`")
 
-abbrev pub a_side : WantedData
-a_side = words (codes "`top`, `right`, `bottom` or `left`")
+abbrev pub a_border_side : WantedData
+a_border_side = words (codes "`top`, `right`, `bottom` or `left`")
 
 abbrev pub an_area : WantedData
 an_area = words (codes "`[x, y, width, height]`, whole numbers from 0 to 65535")
@@ -355,7 +356,7 @@ shadow_fault = fault_of shadow_of a_shadow shadow_parts
 -- ---- blocks
 
 unfoldable pub borders_parts : Finds
-borders_parts d = elements_fault (fault_of side_named a_side no_parts) d
+borders_parts d = elements_fault (fault_of side_named a_border_side no_parts) d
 
 abbrev pub borders_fault : Finds
 borders_fault = fault_of sides_of an_array borders_parts

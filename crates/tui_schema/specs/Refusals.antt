@@ -1,5 +1,5 @@
 -- The first field whose test fails.
-use Rattle.std.specs.Prelude.{ℕ, Option, Some, None, Result, Ok, Err}
+use Rattle.std.specs.Prelude.{ℕ, Option, Result, Ok, Err}
 use Rattle.serde_json.specs.Data.{Data}
 use Rattle.tui_json.specs.Refusals as tests
 use Rattle.tui_json.specs.declared.input_error.InputError.{InputError}

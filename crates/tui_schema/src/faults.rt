@@ -42,10 +42,7 @@ use tui_text::{Alignment, Line, Span, Text};
 pub fn explain_scene(alloc: Global, value: &Value, bad: BadField) -> Mem<Option<String>>
     ensures { IfOk result (λ text. option_map string_bytes text ≡ option_map explanation (scene_fault bad (view value.now))) }
 {
-    match scene_fault(alloc, value, bad)? {
-        Some(fault) => Ok(Some(explain(alloc, &fault)?)),
-        None => Ok(None),
-    }
+    explain(alloc, scene_fault(alloc, value, bad)?)
 }
 
 fn scene_fault<'v>(alloc: Global, value: &'v Value, bad: BadField) -> Mem<Option<Fault<'v>>>

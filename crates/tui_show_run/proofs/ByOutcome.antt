@@ -1,5 +1,5 @@
 -- The outcome of a run by the rules of the program, and case by case.
-use Rattle.std.proofs.Common.{◌≡◌, ℕ, List, Result, Ok, Err, true, false, codes, String, Global, refl, ap, subst, inl, inr}
+use Rattle.std.proofs.Common.{ℕ, List, Ok, Err, codes, String, Global, refl, subst, inl, inr}
 use Rattle.tui_io.specs.Causes.{WritesAll, WritesPrefix}
 use Rattle.tui_program.specs.Transcript.{Transcript, Unread}
 use Rattle.tui_program.specs.Outcomes as frame

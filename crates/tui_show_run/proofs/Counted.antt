@@ -1,5 +1,5 @@
 -- The words have few lines, so their number is not cut off.
-use Rattle.std.proofs.Common.{◌≡◌, ℕ, ◌≤◌, List, length, Result, Ok, IfOk, IfSome, true, subst, arith}
+use Rattle.std.proofs.Common.{◌≡◌, ℕ, ◌≤◌, List, length, Result, Ok, IfOk, IfSome, subst, arith}
 use Rattle.tui_frames.specs.InBlock.{beside}
 use Rattle.tui_para.specs.Lines.{GlyphLine}
 use Rattle.tui_para.specs.Paragraph.{ParagraphData, block_rows}

@@ -9,7 +9,7 @@ use crate::frames::show_frames;
 use crate::rows::RowsCommand;
 use std::alloc::Global;
 use tui_io::Sink;
-use tui_program::{Outcome, run_json, tell};
+use tui_program::{Outcome, report_stop, run_json};
 use tui_schema::BadField;
 use tui_system::{Console, NamedFile, System, command_of, depth, open_terminal};
 use tui_terminal_model::Depth;
@@ -45,7 +45,7 @@ pub fn run_view<S: System, T: Console, K: Sink>(
 {
     match command_of::<ViewCommand, BadField, S>(system) {
         Ok(command) => run_command(system, &command, terminal, output),
-        Err(stop) => Err(tell::<RowsCommand, K>(stop, output)),
+        Err(stop) => Err(report_stop::<RowsCommand, K>(stop, output)),
     }
 }
 

@@ -6,7 +6,7 @@ ghost use Rattle.tui_watch_run.specs.Ends.{Ends, EndsOn, Watches};
 use crate::arguments::WatchCommand;
 use crate::machines::Machines;
 use tui_app::{AppEnd, Terminal, run};
-use tui_program::{Outcome, tell};
+use tui_program::{Outcome, report_stop};
 use tui_system::{
     Console, Left, RejectsNothing, System, command_of, open_terminal, session_outcome, setting,
 };
@@ -36,7 +36,7 @@ fn watch_on<S: System, M: Machines, T: Terminal>(
 {
     match watch_named(system, machines, terminal) {
         Ok(end) => session_outcome(end),
-        Err(stop) => Err(tell::<RejectsNothing, T>(stop, terminal)),
+        Err(stop) => Err(report_stop::<RejectsNothing, T>(stop, terminal)),
     }
 }
 

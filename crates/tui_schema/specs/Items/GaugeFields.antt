@@ -1,5 +1,5 @@
 -- The fields of `gauge` and of `line_gauge`.
-use Rattle.std.specs.Prelude.{ℕ, List, false, Bool, ◌&&◌, nat_le, nat_lt, Option, Some, None, Result, Ok, Err, unwrap_or, if◌then◌else◌}
+use Rattle.std.specs.Prelude.{ℕ, List, false, Bool, nat_le, Option, Some, None, Result, Ok, Err, unwrap_or, if◌then◌else◌}
 use Rattle.std.specs.Option.{option_or}
 use Rattle.serde_json.specs.Data.{Data}
 use Rattle.serde_json.specs.Find.{as_bool}

@@ -150,6 +150,7 @@ impl<'v> Kind<'v, Field> for SparklineBar {
 
     ghost kind = { sparkline_bar_of };
 
+    #[inline]
     #[tactic(auto, unfolding(crate::specs::Kinds::Bars::sparkline_bar_of))]
     fn read(alloc: Global, value: &'v Value) -> Result<SparklineBar, KindError> {
         match value {

@@ -92,9 +92,9 @@ impl<'v> Kind<'v, Field> for Side {
 
 impl<'v> Explains<'v, Field> for Side {
     ghost use Rattle.tui_json.specs.Faults.{no_parts};
-    ghost use Rattle.tui_schema.specs.Faults.{a_side};
+    ghost use Rattle.tui_schema.specs.Faults.{a_border_side};
 
-    ghost wanted = { a_side };
+    ghost wanted = { a_border_side };
 
     ghost part_fault = { no_parts };
 

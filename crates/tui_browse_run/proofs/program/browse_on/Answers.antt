@@ -9,4 +9,4 @@ returns-in-Ok g c =
 
 pub returns-in-Err : goal.returns-in-Err
 returns-in-Err g c =
-    (Err c.in-Err.stop, c.in-Err.ensures.shown, ends_stopped _ _ _ c.in-Err.stop c.tell.result c.in-Err.ensures.still c.tell.ensures)
+    (Err c.in-Err.stop, c.in-Err.ensures.shown, ends_stopped _ _ _ c.in-Err.stop c.report_stop.result c.in-Err.ensures.still c.report_stop.ensures)

@@ -1,4 +1,4 @@
-use Rattle.std.proofs.Common.{Err, Ok, refl}
+use Rattle.std.proofs.Common.{Err, Ok}
 use Rattle.std.proofs.lemmas.Result.{err_from_is_err_and}
 use Rattle.tui_files_run.proofs.Ending.{ends_begun, ends_unbegun, untouched}
 use Rattle.tui_files_run.proofs.program.browse_on.Goals as goal
@@ -21,4 +21,4 @@ returns-in_ok-browsing-in-Ok g c = (
 )
 
 pub returns-in-Err : goal.returns-in-Err
-returns-in-Err g c = (Err c.in-Err.stop, c.in-Err.ensures, (c.tell.ensures, untouched _))
+returns-in-Err g c = (Err c.in-Err.stop, c.in-Err.ensures, (c.report_stop.ensures, untouched _))

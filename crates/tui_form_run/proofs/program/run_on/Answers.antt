@@ -11,5 +11,5 @@ pub returns-in-Err : goal.returns-in-Err
 returns-in-Err g c = (
   Err c.in-Err.stop,
   c.in-Err.ensures.asked,
-  ends_stopped _ _ _ _ _ c.in-Err.stop c.tell.result c.in-Err.ensures.terminal (ap g.A.Sink.observed c.in-Err.ensures.answers) c.tell.ensures,
+  ends_stopped _ _ _ _ _ c.in-Err.stop c.report_stop.result c.in-Err.ensures.terminal (ap g.A.Sink.observed c.in-Err.ensures.answers) c.report_stop.ensures,
 )

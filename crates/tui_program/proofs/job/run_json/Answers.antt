@@ -4,7 +4,7 @@ use Rattle.tui_program.proofs.job.run_json.Goals as goal
 
 pub returns-in-Err : goal.returns-in-Err
 returns-in-Err g c =
-    ends_unread (g.J.Job.job_rules c.args.job.now) g.J.Rejects.line _ c.in-Err.stop c.tell.result (c.in-Err.ensures _ _) c.tell.ensures
+    ends_unread (g.J.Job.job_rules c.args.job.now) g.J.Rejects.line _ c.in-Err.stop c.report_stop.result (c.in-Err.ensures _ _) c.report_stop.ensures
 
 pub returns-in-Ok-json_or_explain : goal.returns-in-Ok-json_or_explain
 returns-in-Ok-json_or_explain g c =
@@ -14,5 +14,5 @@ returns-in-Ok-json_or_explain g c =
 
 pub returns-in-Err-json_or_explain : goal.returns-in-Err-json_or_explain
 returns-in-Err-json_or_explain g c =
-    ends_unparsed (g.J.Job.job_rules c.args.job.now) g.J.Rejects.line _ c.in-Ok.bytes.items c.in-Err-json_or_explain.stop c.tell-in-Err-json_or_explain.result (c.in-Ok.ensures _ _)
-    c.in-Err-json_or_explain.ensures c.tell-in-Err-json_or_explain.ensures
+    ends_unparsed (g.J.Job.job_rules c.args.job.now) g.J.Rejects.line _ c.in-Ok.bytes.items c.in-Err-json_or_explain.stop c.report_stop-in-Err-json_or_explain.result (c.in-Ok.ensures _ _)
+    c.in-Err-json_or_explain.ensures c.report_stop-in-Err-json_or_explain.ensures

@@ -4,5 +4,5 @@ use Rattle.tui_program.proofs.job.run_value.Goals as goal
 
 pub returns-in-Err : goal.returns-in-Err
 returns-in-Err g c =
-    ends_answered (g.J.Job.job_rules c.args.job.now) g.J.Rejects.line (view c.args.value.now) c.in-Err.stop c.tell-ended.result _ _ _ c.answer.ensures.line
-    c.in-Err.ensures.answers c.tell-ended.ensures
+    ends_answered (g.J.Job.job_rules c.args.job.now) g.J.Rejects.line (view c.args.value.now) c.in-Err.stop c.report_stop-ended.result _ _ _ c.answer.ensures.line
+    c.in-Err.ensures.answers c.report_stop-ended.ensures

@@ -1,6 +1,6 @@
 use Rattle.std.proofs.Common.{inl, inr, subst}
 use Rattle.tui_io.specs.Causes.{Observed}
-use Rattle.tui_program.specs.Stops.{Tells, line_of}
+use Rattle.tui_program.specs.Stops.{WritesLine, line_of}
 use Rattle.tui_watch_run.proofs.program.watch_on.Goals as goal
 use Rattle.tui_system.specs.RejectsNothing.{no_line}
 
@@ -13,6 +13,6 @@ returns-in-Err g c =
     inr (
       c.in-Err.stop,
       watched.0,
-      subst (λ (old : Observed). Tells (line_of no_line c.in-Err.stop) c.in-Err.stop old (g.T.Sink.observed c.tell.new.sink) c.tell.result)
-          watched.1 c.tell.ensures,
+      subst (λ (old : Observed). WritesLine (line_of no_line c.in-Err.stop) c.in-Err.stop old (g.T.Sink.observed c.report_stop.new.sink) c.report_stop.result)
+          watched.1 c.report_stop.ensures,
     )

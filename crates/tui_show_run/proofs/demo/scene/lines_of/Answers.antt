@@ -1,4 +1,4 @@
-use Rattle.std.proofs.Common.{arith, true}
+use Rattle.std.proofs.Common.{arith}
 use Rattle.tui_show_run.specs.Demo.Scene.{demo_wrap, one_line}
 use Rattle.tui_show_run.specs.Demo.Text.{demo_text}
 use Rattle.tui_para.specs.Paragraph.{paragraph_data}
